@@ -1,0 +1,111 @@
+-- What callers of the functions on floats may use of them, beside the order's laws (`Order`, `Monotone`): they need not look into the definitions. Assumes nothing.
+use mathlib.Core.Path.{_≡_, refl, sym, subst}
+use Prim.Native.Nat.{ℕ, zero, suc, _+_, _*_, _^_}
+use native.Mathlib.Nat.{zero-lt-suc}
+use mathlib.Core.Bool.{Bool, true, false, not, cond}
+use lib.IntN.{ℤ, pos}
+use lib.Dec.{T, ltb, eqb}
+use lib.Ieee.{Float, nan, inf, fin, Format, binary64, neg, lt, le, eq, isNan, round, units, odd, prec, low, emax, div, up, down, unlike}
+use lib.Ieee.Fits.{round-is}
+use Rattle.floats.specs.Basic.{magnitude, clampOf, finiteOf}
+use Rattle.floats.specs.BasicLaws.{zero-is}
+use Rattle.floats.specs.Fractions.{Finite}
+use Rattle.floats.specs.Monotone.{no-zero}
+use Rattle.floats.specs.Order.{Number, le-numbers, le-self, not-lt→le, le-trans, finite-between}
+
+-- ---- the test for finite numbers
+pub finite-test : (x : Float) → T (finiteOf x) → Finite x
+unfolding finiteOf
+finite-test nan t = absurd t
+finite-test (inf s) t = absurd t
+finite-test (fin s m e) t = tt
+
+pub test-finite : (x : Float) → Finite x → T (finiteOf x)
+unfolding finiteOf
+test-finite nan p = absurd p
+test-finite (inf s) p = absurd p
+test-finite (fin s m e) p = tt
+
+pub finite-number : (x : Float) → Finite x → Number x
+unfolding isNan
+finite-number nan p = absurd p
+finite-number (inf s) p = absurd p
+finite-number (fin s m e) p = tt
+
+-- ---- the magnitude
+pub magnitude-number : (x : Float) → isNan (magnitude x) ≡ isNan x
+unfolding magnitude isNan
+magnitude-number nan = refl
+magnitude-number (inf s) = refl
+magnitude-number (fin s m e) = refl
+
+pub magnitude-finite : (x : Float) → finiteOf (magnitude x) ≡ finiteOf x
+unfolding magnitude finiteOf
+magnitude-finite nan = refl
+magnitude-finite (inf s) = refl
+magnitude-finite (fin s m e) = refl
+
+pub magnitude-again : (x : Float) → magnitude (magnitude x) ≡ magnitude x
+unfolding magnitude
+magnitude-again nan = refl
+magnitude-again (inf s) = refl
+magnitude-again (fin s m e) = refl
+
+pub magnitude-neg : (x : Float) → magnitude (neg x) ≡ magnitude x
+unfolding magnitude neg
+magnitude-neg nan = refl
+magnitude-neg (inf s) = refl
+magnitude-neg (fin s m e) = refl
+
+-- ---- what clamp gives lies between its bounds, where they are not crossed and the number is no NaN
+module _ (x lo hi : Float) (number : Number x) (order : T (le lo hi)) where
+  low-number : Number lo
+  low-number = le-numbers lo hi order .0
+
+  high-number : Number hi
+  high-number = le-numbers lo hi order .1
+
+  pub clamp-above : T (le lo (clampOf x lo hi))
+  clamp-above = go (lt x lo) (lt hi x) (not-lt→le x lo number low-number)
+    where
+      go : (a b : Bool) → (T (not a) → T (le lo x)) → T (le lo (cond a lo (cond b hi x)))
+      go true b h = le-self lo low-number
+      go false true h = order
+      go false false h = h tt
+
+  pub clamp-below : T (le (clampOf x lo hi) hi)
+  clamp-below = go (lt x lo) (lt hi x) (not-lt→le hi x high-number number)
+    where
+      go : (a b : Bool) → (T (not b) → T (le x hi)) → T (le (cond a lo (cond b hi x)) hi)
+      go true b h = order
+      go false true h = le-self hi high-number
+      go false false h = h tt
+
+  pub clamp-finite : Finite lo → Finite hi → Finite (clampOf x lo hi)
+  clamp-finite p q = finite-between lo (clampOf x lo hi) hi p q clamp-above clamp-below
+
+-- ---- what is rounded is a number, and so is the reciprocal of a finite number other than zero
+cond-number : (b : Bool) (x y : Float) → Number x → Number y → Number (cond b x y)
+cond-number true x y p q = p
+cond-number false x y p q = q
+
+odd-number : (d : ℕ) (s : Bool) (q k l : ℕ) → Number (odd d s q k l)
+unfolding odd isNan
+odd-number d s zero k l = tt
+odd-number d s (suc q) k l = tt
+
+units-number : (f : Format) (s : Bool) (q k : ℕ) → Number (units f s q k)
+unfolding units isNan
+units-number f s q k = cond-number (ltb (q * 2 ^ k) (2 ^ (low f + suc (emax f)))) (odd (suc (prec f)) s q k (low f)) (inf s) (odd-number (suc (prec f)) s q k (low f)) tt
+
+pub round-number : (f : Format) (s : Bool) (a c : ℕ) → Number (round f s a c)
+round-number f s a c = subst Number (sym (round-is f s a c)) (units-number f s _ _)
+
+pub quotient-number : (f : Format) (x y : Float) → Finite x → Finite y → T (not (eq y (fin false 0 (pos 0)))) → Number (div f x y)
+unfolding div
+quotient-number f nan y p q n = absurd p
+quotient-number f (inf s) y p q n = absurd p
+quotient-number f (fin s m e) nan p q n = absurd q
+quotient-number f (fin s m e) (inf t) p q n = absurd q
+quotient-number f (fin s m e) (fin t zero d) p q n = absurd (subst (λ (b : Bool). T (not b)) (zero-is t d) n)
+quotient-number f (fin s m e) (fin t (suc k) d) p q n = subst Number (sym (no-zero (suc k) _ _ (zero-lt-suc k))) (round-number f (unlike s t) (m * up e * down d) (suc k * up d * down e))

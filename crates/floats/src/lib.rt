@@ -1,0 +1,14 @@
+// Functions on `f64`: the square root, rounded to the nearest `f64`, E, which stands in for the exponential,
+// and what Rust's methods do. Each contract is an equation with a definition in specs/; callers go by
+// the laws in `specs/CallerLaws.antt`, `Order.antt` and `Monotone.antt`.
+mod basic;
+mod exp;
+mod root;
+
+pub use basic::abs;
+pub use basic::clamp;
+pub use basic::is_finite;
+pub use basic::max;
+pub use basic::min;
+pub use exp::exp_stand_in;
+pub use root::sqrt;
