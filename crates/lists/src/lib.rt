@@ -1,0 +1,1 @@
+// Definitions and laws on lists that the layers share: see specs/.
