@@ -1,0 +1,1 @@
+// The known values of document 01 that are proved: one table under one lemma, in specs/.
