@@ -1,0 +1,4 @@
+pub mod Answered
+pub mod Lending
+pub mod Next
+pub mod Proved
