@@ -1,0 +1,71 @@
+-- `replay::output::put_float` meets its contract: only a NaN differs from itself. Assumes nothing.
+use mathlib.Core.Path.{_≡_, refl, sym, ap, _∙_, subst}
+use mathlib.Core.Bool.{true, false, not, true≢false}
+use mathlib.Core.List.{[], _∷_}
+use denote.Ref.{now}
+use lib.Dec.{T}
+use lib.Ieee.{Float, nan, inf, fin, binary64, ne, isNan, toBits}
+use lib.Ieee.Compare.{differs-from-itself}
+use borrow.Author.Needs.{needs}
+use Rattle.replay.specs.Output.{added, hexText, floatText}
+use Rattle.replay.proofs.output.put_float.Statement.{statement}
+use Rattle.replay.proofs.output.put_float.Tie as tie
+
+is-nan : (x : Float) → ne x x ≡ true → 110 ∷ 97 ∷ 110 ∷ [] ≡ floatText x
+unfolding floatText isNan
+is-nan x h = rw (differs-from-itself x (subst T (sym h) tt))
+
+is-number : (x : Float) → ne x x ≡ false → T (not (isNan x))
+unfolding isNan ne
+is-number nan h = absurd (true≢false h)
+is-number (inf s) h = tt
+is-number (fin s m e) h = tt
+
+number-text : (x : Float) → T (not (isNan x)) → hexText (toBits binary64 x) ≡ floatText x
+unfolding floatText isNan
+number-text nan h = absurd h
+number-text (inf s) h = refl
+number-text (fin s m e) h = refl
+
+slice-aggregate-put : tie.Need-slice-aggregate-put
+slice-aggregate-put c = search needs
+
+put-requires : tie.Need-put-requires
+put-requires c κs = search needs
+
+float-to-bits-put-hex : tie.Need-float-to-bits-put-hex
+float-to-bits-put-hex c = is-number (c .before .before .before .args .x) (c .before .if1 .left)
+
+put-hex-requires : tie.Need-put-hex-requires
+put-hex-requires c κs = search needs
+
+same-length : tie.Need-same-length
+same-length c = search needs
+
+returns : tie.Need-returns
+returns c =
+    let a = c .before .before .before .before .before .before .before .args in
+    let p = c .before .before .put in
+    (p .ensures .0, p .ensures .1 ∙ ap (added (a .waiting) (now (a .out))) (is-nan (a .x) (c .before .before .before .before .before .if1 .taken)))
+
+same-length-2 : tie.Need-same-length-2
+same-length-2 c = search needs
+
+returns-2 : tie.Need-returns-2
+returns-2 c =
+    let a = c .before .before .before .before .before .before .args in
+    let p = c .before .before .put-hex in
+    (p .ensures .0, p .ensures .1 ∙ ap (added (a .waiting) (now (a .out))) (number-text (a .x) (is-number (a .x) (c .before .before .before .before .if1 .left))))
+
+pub put-float-spec : {M : Type 1} → statement M
+put-float-spec =
+    tie.close
+    (tie.spec
+    slice-aggregate-put
+    put-requires
+    float-to-bits-put-hex
+    put-hex-requires
+    same-length
+    returns
+    same-length-2
+    returns-2)

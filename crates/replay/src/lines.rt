@@ -1,0 +1,116 @@
+// The lines, answered one after the other.
+ghost use Prim.Native.Nat.{_≤_};
+ghost use lib.ListN.{length};
+use crate::input;
+use crate::input::Input;
+use crate::leaf;
+use crate::leaf::Reply;
+use crate::output;
+use crate::words;
+
+// How far the input is read, and how much of the output waits.
+pub(crate) struct Progress {
+    pub input: Input,
+    pub waiting: usize,
+}
+
+// The answer to a line that is out of form.
+fn put_unknown(out: &mut [u8], waiting: usize, number: u64) -> usize {
+    let waiting = output::put(out, waiting, b"? ");
+    let waiting = output::put_decimal(out, waiting, number);
+    output::put(out, waiting, b"\n")
+}
+
+// Answers one line. Blanks alone have no answer.
+fn answer_line(out: &mut [u8], waiting: usize, line: &[u8], number: u64) -> usize {
+    let w = words::next_word(line, 0);
+    if w.from == w.to {
+        return waiting;
+    }
+    let reply = leaf::answer(line, w);
+    match reply {
+        Reply::Unknown => put_unknown(out, waiting, number),
+        _ => leaf::put_reply(out, waiting, line, reply),
+    }
+}
+
+// Answers the line that the buffer holds up to `to`.
+fn answer_held(buf: &[u8], out: &mut [u8], p: Progress, to: usize) -> usize
+    requires { ⌜ p .input .from ≤ to ⌝ }
+    requires { ⌜ to ≤ length (now buf) ⌝ }
+{
+    let input = p.input;
+    let from = input.from;
+    if input.is_cut {
+        return put_unknown(out, p.waiting, input.number);
+    }
+    answer_line(out, p.waiting, &buf[from..to], input.number)
+}
+
+// Where a line ends that has its line feed at `end`: a carriage return before that is no part of it.
+fn line_end(buf: &[u8], from: usize, end: usize) -> usize
+    requires { ⌜ from ≤ end ⌝ }
+    requires { ⌜ end ≤ length (now buf) ⌝ }
+    ensures { λ r. ⌜ from ≤ r ⌝ }
+    ensures { λ r. ⌜ r ≤ end ⌝ }
+{
+    if from < end {
+        if buf[end - 1] == b'\r' {
+            return end - 1;
+        }
+    }
+    end
+}
+
+// Answers the next line where the buffer holds it whole, and otherwise reads on.
+fn turn(buf: &mut [u8], out: &mut [u8], p: Progress) -> Progress
+    requires { ⌜ p .input .from ≤ p .input .to ⌝ }
+    requires { ⌜ p .input .to ≤ length (now buf) ⌝ }
+    ensures { λ r. ⌜ r .input .from ≤ r .input .to ⌝ }
+    ensures { λ r. ⌜ r .input .to ≤ length (now (buf .exit)) ⌝ }
+{
+    let input = p.input;
+    let from = input.from;
+    let to = input.to;
+    let end = bytes::scan::find(buf, from, to, b'\n');
+    if end < to {
+        let stop = line_end(buf, from, end);
+        let waiting = answer_held(buf, out, p, stop);
+        return Progress {
+            input: input.after_line(end + 1),
+            waiting: waiting,
+        };
+    }
+    Progress {
+        input: input::read_on(buf, input),
+        waiting: p.waiting,
+    }
+}
+
+// Answers what is left at the end of the input: a last line needs no line feed.
+fn answer_last(buf: &[u8], out: &mut [u8], p: Progress) -> usize
+    requires { ⌜ p .input .from ≤ p .input .to ⌝ }
+    requires { ⌜ p .input .to ≤ length (now buf) ⌝ }
+{
+    let input = p.input;
+    if input.from < input.to || input.is_cut {
+        return answer_held(buf, out, p, input.to);
+    }
+    p.waiting
+}
+
+// Answers all lines of the input, through the two buffers. A proved loop has to end, and nothing says
+// that the input does: so the turns are counted down, from a number that no run uses up.
+pub(crate) fn answer_all(buf: &mut [u8], out: &mut [u8]) {
+    let mut p = Progress {
+        input: Input::new(),
+        waiting: 0,
+    };
+    let mut turns = u64::MAX;
+    while turns > 0 && p.input.is_open {
+        p = turn(buf, out, p);
+        turns -= 1;
+    }
+    let waiting = answer_last(buf, out, p);
+    output::flush(out, waiting);
+}
