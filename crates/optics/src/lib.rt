@@ -1,7 +1,23 @@
 // The lens: surfaces, prescriptions, the paraxial trace and what follows from it (out of prescription.rs).
+mod checks;
+mod flat;
+mod properties;
+mod rays;
+mod trace;
 mod types;
 
+pub use checks::above_zero_up_to;
+pub use checks::is_within;
+pub use checks::lens_taken;
+pub use checks::surface_taken;
+pub use checks::surfaces_taken;
+pub use flat::lay_flat;
+pub use properties::paraxial;
+pub use rays::fill_rays;
+pub use trace::curvature_of;
+pub use trace::trace_heights;
 pub use types::OpticalPrescription;
 pub use types::OpticalSurface;
+pub use types::Paraxial;
 pub use types::ParaxialProperties;
 pub use types::ParaxialRay;

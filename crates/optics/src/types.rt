@@ -32,3 +32,22 @@ pub struct ParaxialProperties {
     pub bfl_mm: f64,
     pub f_number: f64,
 }
+
+// Fewer than two surfaces are a failed trace.
+pub enum Paraxial {
+    Failed,
+    Traced(ParaxialProperties),
+}
+
+// A paraxial ray as it arrives at a surface: its height there, and its slope and the index in front.
+pub struct ArrivingRay {
+    pub y: f64,
+    pub u: f64,
+    pub n: f64,
+}
+
+// The paraxial rays of the last surface but one and of the last.
+pub struct LastRays {
+    pub before: ParaxialRay,
+    pub last: ParaxialRay,
+}
