@@ -2,11 +2,11 @@
 use mathlib.Core.Path.{_≡_, refl, sym, ap, _∙_}
 use mathlib.Core.List.{List, [], _∷_, _++_, append-assoc}
 use mathlib.Core.Logic.{_⊎_, inl, inr}
-use Prim.Native.Nat.{ℕ, zero, suc, _+_, _≤_, _<_}
+use Prim.Native.Nat.{ℕ, zero, suc, _+_, _-_, _≤_, _<_}
 use native.Mathlib.Nat.{eq-or-lt-of-le, le-of-suc-le-suc, zero-add}
 use native.Mathlib.Numerals.{add-one}
 use native.Mathlib.Omega.{arith}
-use lib.ListN.{length, getD, set, drop, take, length-append, List·getD-append}
+use lib.ListN.{length, getD, set, drop, replicate, length-append, List·getD-append}
 use lib.Seq.{drop-cons, set-at, getD-at, ext-getD}
 
 module _ {A : Type 0} where
@@ -55,3 +55,18 @@ module _ {A : Type 0} where
   pub tab-step : (f : ℕ → A) (l p : List A) (i : ℕ) (v d : A) → p ≡ tab f i ++ drop i l → v ≡ f i → i < length l → set p i v ≡ tab f (i + 1) ++ drop (i + 1) l
   unfolding tab
   tab-step f l p i v d e ev h = rw (e, ev) (grow (tab f i) l i (f i) d (length-tab f i) h ∙ rw add-one)
+
+  -- what is left of n equal entries
+  pub drop-replicate : (a : A) (n m : ℕ) → drop n (replicate m a) ≡ replicate (m - n) a
+  drop-replicate a zero m = ap (λ (k : ℕ). replicate k a) (all m)
+    where
+      all : (m : ℕ) → m ≡ m - 0
+      all m = omega arith
+  drop-replicate a (suc n) zero = ap (λ (k : ℕ). replicate k a) (none n)
+    where
+      none : (n : ℕ) → 0 ≡ 0 - suc n
+      none n = omega arith
+  drop-replicate a (suc n) (suc m) = drop-replicate a n m ∙ ap (λ (k : ℕ). replicate k a) (less n m)
+    where
+      less : (n m : ℕ) → m - n ≡ suc m - suc n
+      less n m = omega arith
