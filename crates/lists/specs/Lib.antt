@@ -1,4 +1,6 @@
--- Lists made by a rule (`Tab`), tests over a count (`All`), and parts of a list that are written (`Parts`).
+-- Lists made by a rule (`Tab`), tests over a count (`All`), parts of a list that are written (`Parts`), entries in use (`Kept`), and refusals (`Refusals`).
 pub mod Tab
 pub mod All
 pub mod Parts
+pub mod Kept
+pub mod Refusals
