@@ -160,6 +160,34 @@ le-self (inf true) p = not-lt→le (inf true) (inf true) tt tt tt
 le-self (inf false) p = not-lt→le (inf false) (inf false) tt tt tt
 le-self (fin s m e) p = under→le (fin s m e) (fin s m e) tt tt (omega arith)
 
+-- nothing is at most what is below it
+pub lt-not-le : (x y : Float) → T (lt x y) → T (le y x) → ⊥
+unfolding lt le
+lt-not-le nan y h k = h
+lt-not-le (inf s) nan h k = h
+lt-not-le (inf true) (inf true) h k = h
+lt-not-le (inf true) (inf false) h k = k
+lt-not-le (inf false) (inf t) h k = h
+lt-not-le (inf true) (fin t n d) h k = k
+lt-not-le (inf false) (fin t n d) h k = h
+lt-not-le (fin s m e) nan h k = h
+lt-not-le (fin s m e) (inf true) h k = h
+lt-not-le (fin s m e) (inf false) h k = k
+lt-not-le (fin s m e) (fin t n d) h k = go s t h (le→under (fin t n d) (fin s m e) tt tt k)
+  where
+    go : (s t : Bool) → T (lt (fin s m e) (fin t n d)) → Under (fin t n d) (fin s m e) → ⊥
+    go false false h u = omega (arith, ltb→lt (m * up e * down d) (n * up d * down e) h)
+    go false true h u = h
+    go true false h u = omega (arith, ltb→lt 0 (m * up e * down d + n * up d * down e) h)
+    go true true h u = omega (arith, ltb→lt (n * up d * down e) (m * up e * down d) h)
+
+pub lt-le-trans : (x y z : Float) → T (lt x y) → T (le y z) → T (lt x z)
+lt-le-trans x y z h k = go (either-way x z (le-numbers x y (lt→le x y h) .0) (le-numbers y z k .1))
+  where
+    go : T (lt x z) ⊎ T (le z x) → T (lt x z)
+    go (inl l) = l
+    go (inr l) = absurd (lt-not-le x y h (le-trans y z x k l))
+
 -- ---- what lies between two finite values is finite
 pub finite-between : (a x b : Float) → Finite a → Finite b → T (le a x) → T (le x b) → Finite x
 unfolding le

@@ -29,7 +29,7 @@ use Rattle.variables.specs.Active.{numActive, activeAt}
 use Rattle.variables.specs.Values.{storedAt, appliedTo, applied}
 use Rattle.variables.specs.Taken.{lowerBoundTaken, variablesTaken}
 use Rattle.variables.specs.TakenLaws.{VariableTaken, active-taken}
-use Rattle.variables.specs.FloatLaws.{lt-le-trans}
+use Rattle.floats.specs.Order.{lt-le-trans}
 
 -- a value of that kind of which check 3 has nothing to say: of a curvature, any finite one
 abbrev pub allowed : VariableType → Float → Bool

@@ -9,4 +9,3 @@ pub mod TakenLaws
 pub mod Keeps
 -- Steps of the proofs.
 pub mod ActiveLaws
-pub mod FloatLaws
