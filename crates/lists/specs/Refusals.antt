@@ -117,3 +117,9 @@ answers-none rs t = (to rs t, from rs)
     from : (l : List Refusal) → NoneOf l → firstRefusal l ≡ 0
     from [] h = refl
     from (r ∷ l) h = rw (h .0) (from l (h .1))
+
+-- one more of them does not hold
+pub none-more : (rs : List Refusal) (k : ℕ) → k < length rs → NoneOf (take k rs) → refusalAt rs k .cause ≡ false → NoneOf (take (suc k) rs)
+none-more [] k h n e = tt
+none-more (r ∷ rs) zero h n e = (e, tt)
+none-more (r ∷ rs) (suc k) h n e = (n .0, none-more rs k (le-of-suc-le-suc h) (n .1) e)

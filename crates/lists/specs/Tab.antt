@@ -1,13 +1,13 @@
 -- A list made by a rule, and loops that fill one from the front. Assumes nothing.
 use mathlib.Core.Path.{_≡_, refl, sym, ap, _∙_}
-use mathlib.Core.List.{List, [], _∷_, _++_, append-assoc}
+use mathlib.Core.List.{List, [], _∷_, _++_, append-assoc, append-nil}
 use mathlib.Core.Logic.{_⊎_, inl, inr}
 use Prim.Native.Nat.{ℕ, zero, suc, _+_, _-_, _≤_, _<_}
 use native.Mathlib.Nat.{eq-or-lt-of-le, le-of-suc-le-suc, zero-add}
 use native.Mathlib.Numerals.{add-one}
 use native.Mathlib.Omega.{arith}
 use lib.ListN.{length, getD, set, drop, replicate, length-append, List·getD-append}
-use lib.Seq.{drop-cons, set-at, getD-at, ext-getD}
+use lib.Seq.{drop-cons, drop-length, set-at, getD-at, ext-getD}
 
 module _ {A : Type 0} where
   -- f(0) .. f(n-1)
@@ -70,3 +70,9 @@ module _ {A : Type 0} where
     where
       less : (n m : ℕ) → m - n ≡ suc m - suc n
       less n m = omega arith
+
+  -- the end of such a loop
+  pub tab-full : (f : ℕ → A) (l p : List A) (i n : ℕ) → p ≡ tab f i ++ drop i l → length l ≡ n → i ≤ n → n ≤ i → p ≡ tab f n
+  tab-full f l p i n e m a b =
+      let q : i ≡ length l = omega arith in
+      e ∙ rw (q, drop-length, append-nil) (ap (tab f) m)

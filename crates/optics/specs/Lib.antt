@@ -9,3 +9,5 @@ pub mod Flat
 pub mod CheckLaws
 pub mod TraceLaws
 pub mod FlatLaws
+pub mod Kept
+pub mod KeptLaws

@@ -1,6 +1,7 @@
 // The lens: surfaces, prescriptions, the paraxial trace and what follows from it (out of prescription.rs).
 mod checks;
 mod flat;
+mod kept;
 mod properties;
 mod rays;
 mod trace;
@@ -12,6 +13,8 @@ pub use checks::lens_taken;
 pub use checks::surface_taken;
 pub use checks::surfaces_taken;
 pub use flat::lay_flat;
+pub use kept::kept_prescription;
+pub use kept::lens_counts_taken;
 pub use properties::paraxial;
 pub use rays::fill_rays;
 pub use trace::curvature_of;

@@ -1,0 +1,17 @@
+-- `merit::calls::counts_taken` meets its contract. Assumes nothing.
+use mathlib.Core.Path.{_∙_}
+use borrow.Author.Tests.{le-leb, lt-leb}
+use Rattle.merit.proofs.calls.counts_taken.Statement.{statement}
+use Rattle.merit.proofs.calls.counts_taken.Tie as tie
+
+returns : tie.Need-returns
+returns c = simp (lt-leb _ _ (c .if1 .taken))
+
+returns-2 : tie.Need-returns-2
+returns-2 c = simp (le-leb _ _ (c .before .if1 .left), le-leb _ _ (c .if2 .taken))
+
+returns-3 : tie.Need-returns-3
+returns-3 c = simp (le-leb _ _ (c .before .if1 .left), lt-leb _ _ (c .if2 .left))
+
+pub counts-taken-spec : {M : Type 1} → statement M
+counts-taken-spec = tie.close (tie.spec returns returns-2 returns-3)

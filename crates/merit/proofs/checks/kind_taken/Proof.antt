@@ -1,0 +1,81 @@
+-- `merit::checks::kind_taken` meets its contract. Assumes nothing.
+use Rattle.merit.specs.Check.{kindTaken}
+use borrow.Author.Needs.{needs}
+use Rattle.merit.proofs.checks.kind_taken.Statement.{statement}
+use Rattle.merit.proofs.checks.kind_taken.Tie as tie
+
+enum-known-kind : tie.Need-enum-known-kind
+enum-known-kind c = search needs
+
+enum-known-kind-2 : tie.Need-enum-known-kind-2
+enum-known-kind-2 c = search needs
+
+enum-told : tie.Need-enum-told
+enum-told c = search needs
+
+enum-known-kind-3 : tie.Need-enum-known-kind-3
+enum-known-kind-3 c = search needs
+
+enum-known-kind-4 : tie.Need-enum-known-kind-4
+enum-known-kind-4 c = search needs
+
+enum-known-kind-5 : tie.Need-enum-known-kind-5
+enum-known-kind-5 c = search needs
+
+is-within-requires : tie.Need-is-within-requires
+is-within-requires c κs = search needs
+
+enum-known-kind-6 : tie.Need-enum-known-kind-6
+enum-known-kind-6 c = search needs
+
+is-within-requires-2 : tie.Need-is-within-requires-2
+is-within-requires-2 c κs = search needs
+
+returns : tie.Need-returns
+unfolding kindTaken
+returns c = cc
+
+returns-2 : tie.Need-returns-2
+unfolding kindTaken
+returns-2 c = cc
+
+returns-3 : tie.Need-returns-3
+unfolding kindTaken
+returns-3 c = cc
+
+returns-4 : tie.Need-returns-4
+unfolding kindTaken
+returns-4 c = cc
+
+returns-5 : tie.Need-returns-5
+unfolding kindTaken
+returns-5 c = cc
+
+returns-6 : tie.Need-returns-6
+unfolding kindTaken
+returns-6 c = cc
+
+returns-7 : tie.Need-returns-7
+unfolding kindTaken
+returns-7 c = cc
+
+pub kind-taken-spec : {M : Type 1} → statement M
+kind-taken-spec =
+    tie.close
+    (tie.spec
+    enum-known-kind
+    enum-known-kind-2
+    enum-told
+    enum-known-kind-3
+    enum-known-kind-4
+    enum-known-kind-5
+    is-within-requires
+    enum-known-kind-6
+    is-within-requires-2
+    returns
+    returns-2
+    returns-3
+    returns-4
+    returns-5
+    returns-6
+    returns-7)

@@ -1,0 +1,106 @@
+-- What callers may use of the calls' refusals: each number is answered exactly when its cause holds and no cause in front of it does. Assumes nothing.
+use mathlib.Core.Path.{_≡_, refl}
+use mathlib.Core.Bool.{Bool, true, false, not, _&&_, true≢false}
+use mathlib.Core.Logic.{_↔_}
+use Prim.Native.Nat.{ℕ, _≤_, _<_}
+use native.Mathlib.Omega.{arith}
+use lib.Dec.{T, leb, ltb, eqb, leb→le, ltb→lt, eqb→eq}
+use lib.Ieee.Fits.{and-l, and-r}
+use Rattle.lists.specs.Refusals.{answers, answers-none}
+use Rattle.optics.specs.Check.{lensTaken}
+use Rattle.optics.specs.declared.types.OpticalPrescription.{OpticalPrescription}
+use Rattle.merit.specs.Check.{operandsTaken}
+use Rattle.merit.specs.Calls.{countsTaken, evaluateRefusals, evaluateNumber, traceRefusals, traceNumber}
+use Rattle.merit.specs.declared.types.MeritFunction.{MeritFunction}
+
+passed : (b : Bool) → not b ≡ false → T b
+passed true e = tt
+passed false e = absurd (true≢false e)
+
+pub counts-parts : (surfaces slots : ℕ) → T (countsTaken surfaces slots) → (surfaces ≤ 16) × (1 ≤ slots) × (slots ≤ 4)
+counts-parts surfaces slots t =
+    let l = and-l (leb surfaces 16 && leb 1 slots) (leb slots 4) t in
+    (leb→le surfaces 16 (and-l (leb surfaces 16) (leb 1 slots) l), leb→le 1 slots (and-r (leb surfaces 16) (leb 1 slots) l), leb→le slots 4 (and-r (leb surfaces 16 && leb 1 slots) (leb slots 4) t))
+
+-- ---- evaluate
+module _ (p : OpticalPrescription) (f : MeritFunction) where
+  abbrev counted : Bool
+  counted = countsTaken (p .«surface_count») (p .«slot_count») && leb (f .«operand_count») 12
+
+  pub evaluate-1 : (evaluateNumber p f ≡ 1) ↔ ((not counted ≡ true) × Unit {0})
+  unfolding evaluateNumber
+  evaluate-1 = answers (evaluateRefusals p f) 0 (omega arith) tt
+
+  pub evaluate-3 : (evaluateNumber p f ≡ 3) ↔ ((not (lensTaken p) ≡ true) × ((not counted ≡ false) × Unit {0}))
+  unfolding evaluateNumber
+  evaluate-3 = answers (evaluateRefusals p f) 1 (omega arith) tt
+
+  pub evaluate-5 : (evaluateNumber p f ≡ 5) ↔ ((not (operandsTaken (p .«slot_count») f) ≡ true) × ((not counted ≡ false) × ((not (lensTaken p) ≡ false) × Unit {0})))
+  unfolding evaluateNumber
+  evaluate-5 = answers (evaluateRefusals p f) 2 (omega arith) tt
+
+  pub evaluate-0 : (evaluateNumber p f ≡ 0) ↔ ((not counted ≡ false) × ((not (lensTaken p) ≡ false) × ((not (operandsTaken (p .«slot_count») f) ≡ false) × Unit {0})))
+  unfolding evaluateNumber
+  evaluate-0 = answers-none (evaluateRefusals p f) tt
+
+  -- what an evaluation that is not refused has passed
+  pub record Evaluable : Type 0 where
+    pub surfaces : p .«surface_count» ≤ 16
+    pub slots : p .«slot_count» ≤ 4
+    pub operands : f .«operand_count» ≤ 12
+    pub lens : T (lensTaken p)
+    pub taken : T (operandsTaken (p .«slot_count») f)
+
+  pub evaluable : evaluateNumber p f ≡ 0 → Evaluable
+  evaluable e =
+      let h = evaluate-0 .0 e in
+      let c = passed counted (h .0) in
+      let k = counts-parts (p .«surface_count») (p .«slot_count») (and-l (countsTaken (p .«surface_count») (p .«slot_count»)) (leb (f .«operand_count») 12) c) in
+      record {
+        surfaces = k .0;
+        slots = k .2;
+        operands = leb→le (f .«operand_count») 12 (and-r (countsTaken (p .«surface_count») (p .«slot_count»)) (leb (f .«operand_count») 12) c);
+        lens = passed (lensTaken p) (h .1 .0);
+        taken = passed (operandsTaken (p .«slot_count») f) (h .1 .1 .0);
+      }
+
+-- ---- trace
+module _ (p : OpticalPrescription) (slot rows : ℕ) where
+  abbrev fitting : Bool
+  fitting = countsTaken (p .«surface_count») (p .«slot_count») && eqb rows (p .«surface_count»)
+
+  pub trace-1 : (traceNumber p slot rows ≡ 1) ↔ ((not fitting ≡ true) × Unit {0})
+  unfolding traceNumber
+  trace-1 = answers (traceRefusals p slot rows) 0 (omega arith) tt
+
+  pub trace-3 : (traceNumber p slot rows ≡ 3) ↔ ((not (lensTaken p) ≡ true) × ((not fitting ≡ false) × Unit {0}))
+  unfolding traceNumber
+  trace-3 = answers (traceRefusals p slot rows) 1 (omega arith) tt
+
+  pub trace-5 : (traceNumber p slot rows ≡ 5) ↔ ((not (ltb slot (p .«slot_count»)) ≡ true) × ((not fitting ≡ false) × ((not (lensTaken p) ≡ false) × Unit {0})))
+  unfolding traceNumber
+  trace-5 = answers (traceRefusals p slot rows) 2 (omega arith) tt
+
+  pub trace-0 : (traceNumber p slot rows ≡ 0) ↔ ((not fitting ≡ false) × ((not (lensTaken p) ≡ false) × ((not (ltb slot (p .«slot_count»)) ≡ false) × Unit {0})))
+  unfolding traceNumber
+  trace-0 = answers-none (traceRefusals p slot rows) tt
+
+  -- what a trace that is not refused has passed
+  pub record Traceable : Type 0 where
+    pub surfaces : p .«surface_count» ≤ 16
+    pub row : rows ≡ p .«surface_count»
+    pub lens : T (lensTaken p)
+    pub below : slot < 4
+
+  pub traceable : traceNumber p slot rows ≡ 0 → Traceable
+  traceable e =
+      let h = trace-0 .0 e in
+      let c = passed fitting (h .0) in
+      let k = counts-parts (p .«surface_count») (p .«slot_count») (and-l (countsTaken (p .«surface_count») (p .«slot_count»)) (eqb rows (p .«surface_count»)) c) in
+      let l : slot < p .«slot_count» = ltb→lt slot (p .«slot_count») (passed (ltb slot (p .«slot_count»)) (h .1 .1 .0)) in
+      record {
+        surfaces = k .0;
+        row = eqb→eq rows (p .«surface_count») (and-r (countsTaken (p .«surface_count») (p .«slot_count»)) (eqb rows (p .«surface_count»)) c);
+        lens = passed (lensTaken p) (h .1 .0);
+        below = omega (arith, k .2);
+      }

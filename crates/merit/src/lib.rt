@@ -1,0 +1,20 @@
+// Operands, the merit of a lens, and the two calls that stand alone: evaluate and trace (out of operands.rs, merit.rs).
+mod calls;
+mod checks;
+mod evaluation;
+mod operands;
+mod types;
+
+pub use calls::evaluate;
+pub use calls::evaluated;
+pub use calls::trace;
+pub use calls::traced_heights;
+pub use checks::operands_taken;
+pub use evaluation::evaluate_flat;
+pub use types::Evaluated;
+pub use types::MeritEvaluation;
+pub use types::MeritFunction;
+pub use types::MeritOperand;
+pub use types::OperandType;
+pub use types::Traced;
+pub use types::TracedHeights;

@@ -1,0 +1,6 @@
+// Runs and rows: the three kinds of run, and a row that holds a run between two merits (out of dls.rs and global.rs).
+mod types;
+
+pub use types::DampedState;
+pub use types::OptimizationResult;
+pub use types::Row;
