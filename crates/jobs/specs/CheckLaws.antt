@@ -16,7 +16,7 @@ use Rattle.variables.specs.Active.{noVariable, variableAt, ifEnabled, enabledOf
 use Rattle.variables.specs.Taken.{variableTaken, variablesTaken}
 use Rattle.variables.specs.declared.types.VariableSet.{VariableSet}
 use Rattle.merit.specs.Check.{operandTaken, operandsTaken}
-use Rattle.merit.specs.Evaluation.{noOperand as pastOperand, operandAt}
+use Rattle.merit.specs.OperandTable.{noOperand as pastOperand, operandAt}
 use Rattle.merit.specs.declared.types.MeritFunction.{MeritFunction}
 use Rattle.jobs.specs.declared.types.Job.{Job}
 use Rattle.jobs.specs.declared.types.JobRequest.{JobRequest}

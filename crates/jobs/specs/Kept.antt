@@ -13,7 +13,7 @@ use Rattle.variables.specs.Active.{noVariable}
 use Rattle.merit.specs.declared.types.MeritFunction.{MeritFunction}
 use Rattle.merit.specs.declared.types.MeritOperand.{MeritOperand}
 use Rattle.merit.specs.declared.types.OperandType.the-variants.{EffectiveFocalLength}
-use Rattle.merit.specs.Evaluation.{noOperand}
+use Rattle.merit.specs.OperandTable.{noOperand}
 use Rattle.jobs.specs.declared.types.Job.{Job}
 use Rattle.jobs.specs.declared.types.JobRequest.{JobRequest}
 use Rattle.jobs.specs.Filled.{filled}

@@ -19,7 +19,7 @@ use Rattle.variables.specs.Kinds.{surfaceIndex}
 use Rattle.merit.specs.declared.types.MeritOperand.{MeritOperand}
 use Rattle.merit.specs.declared.types.OperandType.{OperandType}
 use Rattle.merit.specs.declared.types.OperandType.the-variants.{EffectiveFocalLength, WorkingFNumber, TotalTrack, BackFocalLength, ParaxialMagnification, MinCenterThickness, MaxCenterThickness}
-use Rattle.merit.specs.Evaluation.{noOperand, operandAt}
+use Rattle.merit.specs.OperandTable.{noOperand, operandAt}
 use Rattle.jobs.specs.declared.types.Job.{Job}
 use Rattle.jobs.specs.declared.types.JobRequest.{JobRequest}
 use Rattle.jobs.specs.declared.types.Method.{Method}

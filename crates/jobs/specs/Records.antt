@@ -12,7 +12,7 @@ use Rattle.variables.specs.declared.types.VariableSet.{VariableSet}
 use Rattle.variables.specs.Active.{variableAt}
 use Rattle.merit.specs.declared.types.MeritFunction.{MeritFunction}
 use Rattle.merit.specs.declared.types.MeritOperand.{MeritOperand}
-use Rattle.merit.specs.Evaluation.{operandAt}
+use Rattle.merit.specs.OperandTable.{operandAt}
 use Rattle.jobs.specs.Entries.{variableRecord, variableOf, operandRecord, operandOf, noVariableRecord, noOperandRecord, variableKnown, operandKnown}
 use Rattle.jobs.specs.declared.types.DlsConfig.{DlsConfig}
 use Rattle.jobs.specs.declared.types.Job.{Job}

@@ -6,7 +6,7 @@ use Rattle.optics.specs.Types.{surfaceAt, slotIndex}
 use Rattle.optics.specs.declared.types.OpticalPrescription.{OpticalPrescription}
 use Rattle.variables.specs.Active.{variableAt}
 use Rattle.variables.specs.declared.types.VariableSet.{VariableSet}
-use Rattle.merit.specs.Evaluation.{operandAt}
+use Rattle.merit.specs.OperandTable.{operandAt}
 use Rattle.merit.specs.declared.types.MeritFunction.{MeritFunction}
 use Rattle.jobs.specs.declared.types.DlsConfig.{DlsConfig}
 use Rattle.jobs.specs.declared.types.DlsRequest.{DlsRequest}

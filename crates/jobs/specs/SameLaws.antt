@@ -14,7 +14,7 @@ use Rattle.optics.specs.KeptLaws.{where-it-stands, index-used}
 use Rattle.optics.specs.Kept.{indexUsed, keptSurfaces, keptIndices, keptPrescription}
 use Rattle.optics.specs.declared.types.OpticalPrescription.{OpticalPrescription}
 use Rattle.variables.specs.Active.{variableAt}
-use Rattle.merit.specs.Evaluation.{operandAt}
+use Rattle.merit.specs.OperandTable.{operandAt}
 use Rattle.jobs.specs.declared.types.DlsConfig.{DlsConfig}
 use Rattle.jobs.specs.declared.types.DlsRequest.{DlsRequest}
 use Rattle.jobs.specs.declared.types.Job.{Job}

@@ -10,7 +10,8 @@ use Rattle.floats.specs.Constants.{zero64}
 use Rattle.floats.specs.Sqrt.{sqrtOf}
 use Rattle.lists.specs.Tab.{tab, tab-step, drop-replicate}
 use Rattle.optics.specs.declared.types.OpticalSurface.{OpticalSurface}
-use Rattle.merit.specs.Evaluation.{difference, residual, valueAt, residualAt, term, total, operandAt, countedTotal, evaluationOf}
+use Rattle.merit.specs.Evaluation.{difference, residual, valueAt, residualAt, term, total, countedTotal, evaluationOf}
+use Rattle.merit.specs.OperandTable.{operandAt}
 use Rattle.merit.specs.declared.types.MeritEvaluation.{MeritEvaluation}
 use Rattle.merit.specs.declared.types.MeritFunction.{MeritFunction}
 use Rattle.merit.specs.declared.types.MeritOperand.{MeritOperand}

@@ -14,7 +14,7 @@ use borrow.Author.Count.{below-more}
 use Rattle.optics.specs.declared.types.Paraxial.{Paraxial}
 use Rattle.optics.specs.declared.types.Paraxial.the-variants.{Failed}
 use Rattle.merit.specs.Operands.{slotNamed}
-use Rattle.merit.specs.Evaluation.{noOperand}
+use Rattle.merit.specs.OperandTable.{noOperand}
 use Rattle.merit.specs.declared.types.MeritOperand.{MeritOperand}
 
 abbrev pub named : List MeritOperand → ℕ → ℕ

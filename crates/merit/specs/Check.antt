@@ -7,7 +7,7 @@ use Rattle.floats.specs.Basic.{finiteOf}
 use Rattle.floats.specs.Constants.{zero64}
 use Rattle.lists.specs.All.{allBelow}
 use Rattle.optics.specs.Check.{within}
-use Rattle.merit.specs.Evaluation.{operandAt}
+use Rattle.merit.specs.OperandTable.{operandAt}
 use Rattle.merit.specs.declared.types.MeritFunction.{MeritFunction}
 use Rattle.merit.specs.declared.types.MeritOperand.{MeritOperand}
 use Rattle.merit.specs.declared.types.OperandType.{OperandType}

@@ -7,7 +7,7 @@ use lib.Ieee.Fits.{and-l}
 use borrow.Author.Tests.{lt-ltb}
 use Rattle.lists.specs.All.{all-at}
 use Rattle.optics.specs.Check.{within}
-use Rattle.merit.specs.Evaluation.{operandAt}
+use Rattle.merit.specs.OperandTable.{operandAt}
 use Rattle.merit.specs.Check.{kindTaken, weightTaken, operandTaken, operandsTaken}
 use Rattle.merit.specs.Steps.{slotKnown, SlotsKnown}
 use Rattle.merit.specs.declared.types.MeritFunction.{MeritFunction}

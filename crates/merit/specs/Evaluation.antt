@@ -2,22 +2,19 @@
 use Prim.Native.Nat.{ℕ, zero, suc, _-_}
 use mathlib.Core.Bool.{cond}
 use mathlib.Core.List.{List, _++_}
-use lib.ListN.{getD, replicate}
-use lib.Ieee.{Float, nan, binary64, add, sub, mul, neg, ofBits}
+use lib.ListN.{replicate}
+use lib.Ieee.{Float, binary64, add, sub, mul, neg, ofBits}
 use Rattle.floats.specs.Basic.{clampOf, finiteOf}
 use Rattle.floats.specs.Constants.{zero64}
 use Rattle.floats.specs.Sqrt.{sqrtOf}
 use Rattle.lists.specs.Tab.{tab}
 use Rattle.optics.specs.declared.types.OpticalSurface.{OpticalSurface}
 use Rattle.optics.specs.Properties.{paraxialOf}
+use Rattle.merit.specs.OperandTable.{operandAt}
 use Rattle.merit.specs.Operands.{valueOf}
 use Rattle.merit.specs.declared.types.MeritEvaluation.{MeritEvaluation}
 use Rattle.merit.specs.declared.types.MeritFunction.{MeritFunction}
 use Rattle.merit.specs.declared.types.MeritOperand.{MeritOperand}
-use Rattle.merit.specs.declared.types.OperandType.the-variants.{EffectiveFocalLength}
-
-abbrev pub noOperand : MeritOperand
-noOperand = record { «operand_type» = EffectiveFocalLength 0; target = nan; weight = nan }
 
 -- 1e6
 abbrev pub million : Float
@@ -45,9 +42,6 @@ countedTotal x = cond (finiteOf x) x overflowMerit
 -- n entries by a rule, zero from there to twelve
 abbrev pub entries : (ℕ → Float) → ℕ → List Float
 entries f n = tab f n ++ replicate (12 - n) zero64
-
-abbrev pub operandAt : MeritFunction → ℕ → MeritOperand
-operandAt f n = getD (f .operands) n noOperand
 
 -- The evaluation of a lens: `surface` gives its surfaces, of which there are count, and `index w` the indices of slot w.
 module _ (surface : ℕ → OpticalSurface) (index : ℕ → ℕ → Float) (pupil : Float) (count : ℕ) (function : MeritFunction) where

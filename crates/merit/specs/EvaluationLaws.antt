@@ -15,7 +15,8 @@ use Rattle.lists.specs.Tab.{tab, length-tab, tab-same}
 use Rattle.optics.specs.Properties.{paraxialOf}
 use Rattle.optics.specs.TraceLaws.{paraxial-same}
 use Rattle.optics.specs.declared.types.OpticalSurface.{OpticalSurface}
-use Rattle.merit.specs.Evaluation.{residual, term, overflowMerit, countedTotal, entries, operandAt, valueAt, residualAt, total, evaluationOf}
+use Rattle.merit.specs.Evaluation.{residual, term, overflowMerit, countedTotal, entries, valueAt, residualAt, total, evaluationOf}
+use Rattle.merit.specs.OperandTable.{operandAt}
 use Rattle.merit.specs.Operands.{valueOf}
 use Rattle.merit.specs.Steps.{slotOf, SlotsKnown}
 use Rattle.merit.specs.ValueLaws.{value-same, value-below}

@@ -1,4 +1,5 @@
 -- The merit of a lens: `Operands` (values), `Evaluation` (residuals and total).
+pub mod OperandTable
 pub mod Operands
 pub mod Evaluation
 pub mod Check

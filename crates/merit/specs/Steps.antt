@@ -8,7 +8,7 @@ use lib.ListN.{getD}
 use Rattle.optics.specs.declared.types.Paraxial.{Paraxial}
 use Rattle.optics.specs.declared.types.Paraxial.the-variants.{Failed}
 use Rattle.merit.specs.Operands.{slotNamed}
-use Rattle.merit.specs.Evaluation.{operandAt}
+use Rattle.merit.specs.OperandTable.{operandAt}
 use Rattle.merit.specs.declared.types.MeritFunction.{MeritFunction}
 use Rattle.merit.specs.declared.types.OperandType.{OperandType}
 use Rattle.merit.specs.declared.types.OperandType.the-variants.{EffectiveFocalLength, WorkingFNumber, TotalTrack, BackFocalLength, ParaxialMagnification, MinCenterThickness, MaxCenterThickness}

@@ -4,7 +4,7 @@ use Prim.Native.Nat.{_≤_, _-_}
 use lib.ListN.{length, set}
 use borrow.Author.Tests.{le-ltb}
 use Rattle.lists.specs.Kept.{Clearing, clear-begin, clear-more, clear-end, below, below-used}
-use Rattle.merit.specs.Evaluation.{noOperand}
+use Rattle.merit.specs.OperandTable.{noOperand}
 use Rattle.jobs.specs.Kept.{zeroOperand}
 use borrow.Author.Needs.{needs}
 use Rattle.jobs.proofs.kept.cleared_operands.Statement.{statement}

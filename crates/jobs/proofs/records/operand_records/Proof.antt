@@ -4,7 +4,7 @@ use mathlib.Core.List.{_++_}
 use Prim.Native.Nat.{ℕ, _≤_, _-_}
 use lib.ListN.{length, drop}
 use Rattle.lists.specs.Tab.{tab, tab-step, tab-full}
-use Rattle.merit.specs.Evaluation.{operandAt}
+use Rattle.merit.specs.OperandTable.{operandAt}
 use Rattle.jobs.specs.Entries.{operandRecord, noOperandRecord as past}
 use borrow.Author.Needs.{needs}
 use native.Mathlib.Omega.{arith}

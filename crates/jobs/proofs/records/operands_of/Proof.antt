@@ -5,7 +5,7 @@ use Prim.Native.Nat.{ℕ, _≤_, _-_}
 use lib.ListN.{length, drop}
 use Rattle.lists.specs.Tab.{tab, tab-step, tab-full}
 use lib.ListN.{getD}
-use Rattle.merit.specs.Evaluation.{noOperand as past}
+use Rattle.merit.specs.OperandTable.{noOperand as past}
 use Rattle.jobs.specs.Entries.{operandOf, noOperandRecord}
 use borrow.Author.Needs.{needs}
 use native.Mathlib.Omega.{arith}

@@ -5,7 +5,7 @@ use mathlib.Core.Bool.{Bool, true}
 use lib.ListN.{getD}
 use borrow.Author.Tests.{not-true, not-false}
 use Rattle.lists.specs.All.{allBelow, all-more, not-all}
-use Rattle.merit.specs.Evaluation.{noOperand}
+use Rattle.merit.specs.OperandTable.{noOperand}
 use Rattle.merit.specs.Check.{operandTaken}
 use Rattle.merit.specs.declared.types.MeritOperand.{MeritOperand}
 use mathlib.Core.List.{List}
