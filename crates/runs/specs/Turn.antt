@@ -7,18 +7,19 @@ use Rattle.runs.specs.declared.types.Row.{Row}
 use Rattle.runs.specs.Run.{Surfaces}
 use Rattle.runs.specs.Rows.{jobOfRow, pendingSurfaces, advance}
 
-abbrev pub withSurfaces : OpticalPrescription → Surfaces → OpticalPrescription
-withSurfaces p s = record {
+-- the job's lens with other surfaces: its indices, pupil and counts stay
+abbrev pub lensWith : Job → Surfaces → OpticalPrescription
+lensWith job s = record {
   surfaces = s;
-  indices = p .indices;
-  «surface_count» = p .«surface_count»;
-  «slot_count» = p .«slot_count»;
-  «entrance_pupil_diameter_mm» = p .«entrance_pupil_diameter_mm»;
+  indices = job .prescription .indices;
+  «surface_count» = job .prescription .«surface_count»;
+  «slot_count» = job .prescription .«slot_count»;
+  «entrance_pupil_diameter_mm» = job .prescription .«entrance_pupil_diameter_mm»;
 }
 
--- "The merit of surfaces is evaluate's total under the job's indices, pupil and operands": what the contract of the call evaluate cites
+-- "The merit of surfaces is evaluate's total under the job's indices, pupil and operands": what the call `evaluate` writes for that lens, by its contract
 unfoldable pub evaluateOf : Job → Surfaces → MeritEvaluation
-evaluateOf job s = lensEvaluation (withSurfaces (job .prescription) s) (job .«merit_function»)
+evaluateOf job s = lensEvaluation (lensWith job s) (job .«merit_function»)
 
 -- "A turn works out one merit and goes on to just before the next, or to the end."
 unfoldable pub turned : Row → Row

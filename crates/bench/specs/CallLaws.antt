@@ -1,0 +1,147 @@
+-- For each number of each call a law: it is answered exactly when its cause holds and none in front of it in the call's list does. And what a refused call
+-- was lent stays. Assumes nothing.
+use mathlib.Core.Path.{_≡_, refl, sym, ap}
+use mathlib.Core.Bool.{true, not}
+use mathlib.Core.List.{List, _++_}
+use mathlib.Core.Logic.{_↔_}
+use Prim.Native.Nat.{ℕ, zero, suc}
+use lib.Dec.{lit<}
+use lib.Ieee.{Float}
+use lib.ListN.{length, take, drop, replicate}
+use lib.Seq.{set-getD}
+use Rattle.floats.specs.Constants.{zero64}
+use Rattle.lists.specs.Refusals.{Refusal, NoneOf, answers, answers-none}
+use Rattle.merit.specs.Calls.{unlessRefused}
+use Rattle.normal.specs.Layout.{scratchLength}
+use Rattle.jobs.specs.declared.types.JobRequest.{JobRequest}
+use Rattle.jobs.specs.Checks.{countsWrong, lensRefused, variablesRefused, operandsRefused, settingsRefused, noActiveVariable, noOperand}
+use Rattle.jobs.specs.Filled.{filled}
+use Rattle.runs.specs.Damage.{damaged}
+use Rattle.runs.specs.JobRun.{Result}
+use Rattle.runs.specs.Rows.{isFinished, resultOf}
+use Rattle.runs.specs.declared.types.Row.{Row}
+use Rattle.bench.specs.declared.types.Bench.{Bench}
+use Rattle.bench.specs.Refusals.{noPlace, scratchShort, admitRefusals}
+use Rattle.bench.specs.Benches.{noRow, withRows, withRow, rowAt}
+use Rattle.bench.specs.Calls.{isVacant, admitNumber, turnRefusals, turnNumber, scratchAfter, fetchRefusals, fetchNumber, fetchedResult, releaseRefusals, releaseNumber}
+
+-- "nothing lent changes"
+pub stays : {A : Type 0} (m n : ℕ) (new old : A) → m ≡ suc n → unlessRefused m new old ≡ old
+stays m n new old e = ap (λ (m : ℕ). unlessRefused m new old) e
+
+-- a row stored only where the call is done, or its old value stored again where it is refused: the same bench
+pub stored : (n : ℕ) (b : Bench) (place : ℕ) (r : Row) → unlessRefused n (withRow b place r) b ≡ withRow b place (unlessRefused n r (rowAt b place))
+stored zero b place r = refl
+stored (suc n) b place r = ap (withRows b) (sym (set-getD (b .rows) place noRow))
+
+module _ (b : Bench) (place : ℕ) where
+  -- ---- admit
+  module _ (request : JobRequest) where
+    abbrev causes : List Refusal
+    causes = admitRefusals place request (not (isVacant (rowAt b place)))
+
+    pub admit-0 : (admitNumber b place request ≡ 0) ↔ NoneOf causes
+    unfolding admitNumber
+    admit-0 = answers-none causes tt
+
+    pub admit-1 : (admitNumber b place request ≡ 1) ↔ ((countsWrong (filled request) ≡ true) × NoneOf (take 0 causes))
+    unfolding admitNumber
+    admit-1 = answers causes 0 (lit< tt) tt
+
+    pub admit-2 : (admitNumber b place request ≡ 2) ↔ ((noPlace place ≡ true) × NoneOf (take 1 causes))
+    unfolding admitNumber
+    admit-2 = answers causes 1 (lit< tt) tt
+
+    pub admit-3 : (admitNumber b place request ≡ 3) ↔ ((lensRefused (filled request) ≡ true) × NoneOf (take 2 causes))
+    unfolding admitNumber
+    admit-3 = answers causes 2 (lit< tt) tt
+
+    pub admit-4 : (admitNumber b place request ≡ 4) ↔ ((variablesRefused (filled request) ≡ true) × NoneOf (take 3 causes))
+    unfolding admitNumber
+    admit-4 = answers causes 3 (lit< tt) tt
+
+    pub admit-5 : (admitNumber b place request ≡ 5) ↔ ((operandsRefused (filled request) ≡ true) × NoneOf (take 4 causes))
+    unfolding admitNumber
+    admit-5 = answers causes 4 (lit< tt) tt
+
+    pub admit-6 : (admitNumber b place request ≡ 6) ↔ ((settingsRefused (filled request) ≡ true) × NoneOf (take 5 causes))
+    unfolding admitNumber
+    admit-6 = answers causes 5 (lit< tt) tt
+
+    pub admit-7 : (admitNumber b place request ≡ 7) ↔ ((noActiveVariable (filled request) ≡ true) × NoneOf (take 6 causes))
+    unfolding admitNumber
+    admit-7 = answers causes 6 (lit< tt) tt
+
+    pub admit-8 : (admitNumber b place request ≡ 8) ↔ ((noOperand (filled request) ≡ true) × NoneOf (take 7 causes))
+    unfolding admitNumber
+    admit-8 = answers causes 7 (lit< tt) tt
+
+    pub admit-10 : (admitNumber b place request ≡ 10) ↔ ((not (isVacant (rowAt b place)) ≡ true) × NoneOf (take 8 causes))
+    unfolding admitNumber
+    admit-10 = answers causes 8 (lit< tt) tt
+
+  -- ---- turn
+  module _ (n : ℕ) where
+    pub turn-0 : (turnNumber b place n ≡ 0) ↔ NoneOf (turnRefusals b place n)
+    unfolding turnNumber
+    turn-0 = answers-none (turnRefusals b place n) tt
+
+    pub turn-2 : (turnNumber b place n ≡ 2) ↔ ((noPlace place ≡ true) × NoneOf (take 0 (turnRefusals b place n)))
+    unfolding turnNumber
+    turn-2 = answers (turnRefusals b place n) 0 (lit< tt) tt
+
+    pub turn-9 : (turnNumber b place n ≡ 9) ↔ ((scratchShort n ≡ true) × NoneOf (take 1 (turnRefusals b place n)))
+    unfolding turnNumber
+    turn-9 = answers (turnRefusals b place n) 1 (lit< tt) tt
+
+    pub turn-11 : (turnNumber b place n ≡ 11) ↔ ((isVacant (rowAt b place) ≡ true) × NoneOf (take 2 (turnRefusals b place n)))
+    unfolding turnNumber
+    turn-11 = answers (turnRefusals b place n) 2 (lit< tt) tt
+
+    pub turn-12 : (turnNumber b place n ≡ 12) ↔ ((damaged (rowAt b place) ≡ true) × NoneOf (take 3 (turnRefusals b place n)))
+    unfolding turnNumber
+    turn-12 = answers (turnRefusals b place n) 3 (lit< tt) tt
+
+    pub turn-13 : (turnNumber b place n ≡ 13) ↔ ((isFinished (rowAt b place) ≡ true) × NoneOf (take 4 (turnRefusals b place n)))
+    unfolding turnNumber
+    turn-13 = answers (turnRefusals b place n) 4 (lit< tt) tt
+
+  pub refused-scratch : (s : List Float) (n : ℕ) → turnNumber b place (length s) ≡ suc n → scratchAfter b place s ≡ s
+  refused-scratch s n e = stays (turnNumber b place (length s)) n (replicate scratchLength zero64 ++ drop scratchLength s) s e
+
+  -- ---- fetch
+  pub fetch-0 : (fetchNumber b place ≡ 0) ↔ NoneOf (fetchRefusals b place)
+  unfolding fetchNumber
+  fetch-0 = answers-none (fetchRefusals b place) tt
+
+  pub fetch-2 : (fetchNumber b place ≡ 2) ↔ ((noPlace place ≡ true) × NoneOf (take 0 (fetchRefusals b place)))
+  unfolding fetchNumber
+  fetch-2 = answers (fetchRefusals b place) 0 (lit< tt) tt
+
+  pub fetch-11 : (fetchNumber b place ≡ 11) ↔ ((isVacant (rowAt b place) ≡ true) × NoneOf (take 1 (fetchRefusals b place)))
+  unfolding fetchNumber
+  fetch-11 = answers (fetchRefusals b place) 1 (lit< tt) tt
+
+  pub fetch-12 : (fetchNumber b place ≡ 12) ↔ ((damaged (rowAt b place) ≡ true) × NoneOf (take 2 (fetchRefusals b place)))
+  unfolding fetchNumber
+  fetch-12 = answers (fetchRefusals b place) 2 (lit< tt) tt
+
+  pub fetch-14 : (fetchNumber b place ≡ 14) ↔ ((not (isFinished (rowAt b place)) ≡ true) × NoneOf (take 3 (fetchRefusals b place)))
+  unfolding fetchNumber
+  fetch-14 = answers (fetchRefusals b place) 3 (lit< tt) tt
+
+  pub refused-result : (old : Result) (n : ℕ) → fetchNumber b place ≡ suc n → fetchedResult b place old ≡ old
+  refused-result old n e = stays (fetchNumber b place) n (resultOf (rowAt b place)) old e
+
+  -- ---- release
+  pub release-0 : (releaseNumber b place ≡ 0) ↔ NoneOf (releaseRefusals b place)
+  unfolding releaseNumber
+  release-0 = answers-none (releaseRefusals b place) tt
+
+  pub release-2 : (releaseNumber b place ≡ 2) ↔ ((noPlace place ≡ true) × NoneOf (take 0 (releaseRefusals b place)))
+  unfolding releaseNumber
+  release-2 = answers (releaseRefusals b place) 0 (lit< tt) tt
+
+  pub release-11 : (releaseNumber b place ≡ 11) ↔ ((isVacant (rowAt b place) ≡ true) × NoneOf (take 1 (releaseRefusals b place)))
+  unfolding releaseNumber
+  release-11 = answers (releaseRefusals b place) 1 (lit< tt) tt

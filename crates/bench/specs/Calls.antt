@@ -1,0 +1,119 @@
+-- What each call answers and what it leaves: the definitions that the calls' contracts cite, over any bench whatever. Definitions only.
+use mathlib.Core.Path.{_≡_}
+use Prim.Native.Nat.{ℕ, _-_, _≤_}
+use mathlib.Core.Bool.{Bool, not, _&&_}
+use mathlib.Core.List.{List, [], _∷_, _++_, List·Permᴰ}
+use lib.Dec.{eqb}
+use lib.Ieee.{Float}
+use lib.ListN.{length, take, drop, replicate}
+use Rattle.floats.specs.Constants.{zero64}
+use Rattle.lists.specs.Refusals.{Refusal, refusal, firstRefusal}
+use Rattle.merit.specs.Calls.{unlessRefused}
+use Rattle.normal.specs.Layout.{scratchLength}
+use Rattle.jobs.specs.declared.types.JobRequest.{JobRequest}
+use Rattle.jobs.specs.Kept.{jobFrom}
+use Rattle.runs.specs.JobRun.{Result}
+use Rattle.runs.specs.Rows.{jobOfRow, admitted, pendingSurfaces, advance, isFinished, resultOf}
+use Rattle.runs.specs.Damage.{damaged}
+use Rattle.runs.specs.declared.types.Row.{Row}
+use Rattle.runs.specs.Turn.{evaluateOf}
+use Rattle.bench.specs.Refusals.{noPlace, scratchShort, admitRefusals}
+use Rattle.bench.specs.Book.{Call, admit, turn, fetch, release, listing, Answer, number, listed, fetchedUnless, placesWhere}
+use Rattle.bench.specs.Benches.{zeroRow, rowAt, withRow}
+use Rattle.bench.specs.declared.types.Bench.{Bench}
+use Rattle.bench.specs.declared.types.Finished.{Finished}
+
+-- "a place is empty exactly when its kind is 0, all else in the row disregarded"
+abbrev pub isVacant : Row → Bool
+isVacant r = eqb (r .kind) 0
+
+-- ---- admit: "1 to 8 and 10"
+unfoldable pub admitNumber : Bench → (place : ℕ) → JobRequest → ℕ
+admitNumber b place request = firstRefusal (admitRefusals place request (not (isVacant (rowAt b place))))
+
+abbrev pub admittedBench : Bench → (place : ℕ) → JobRequest → Bench
+admittedBench b place request = unlessRefused (admitNumber b place request) (withRow b place (admitted (jobFrom request))) b
+
+-- ---- turn: "2, 9 and 11 to 13"
+abbrev pub turnRefusals : Bench → (place length : ℕ) → List Refusal
+turnRefusals b place length =
+    refusal 2 (noPlace place)
+    ∷ refusal 9 (scratchShort length)
+    -- "11. Turn, fetch, release: place empty."
+    ∷ refusal 11 (isVacant (rowAt b place))
+    -- "12. Turn, fetch: the row's job or surfaces would be refused .. its kind or phase is none of those here, or a counter passes its limit"
+    ∷ refusal 12 (damaged (rowAt b place))
+    -- "13. Turn: finished."
+    ∷ refusal 13 (isFinished (rowAt b place))
+    ∷ []
+
+unfoldable pub turnNumber : Bench → (place length : ℕ) → ℕ
+turnNumber b place length = firstRefusal (turnRefusals b place length)
+
+-- "A turn works out one merit": that of the pending surfaces
+unfoldable pub turnedRow : Row → Row
+turnedRow r = advance r (evaluateOf (jobOfRow r) (pendingSurfaces r))
+
+abbrev pub turnedBench : Bench → (place length : ℕ) → Bench
+turnedBench b place length = unlessRefused (turnNumber b place length) (withRow b place (turnedRow (rowAt b place))) b
+
+-- "A turn uses the first 256 f64 of scratch, left all +0.0; the rest is untouched."
+abbrev pub scratchAfter : Bench → (place : ℕ) → List Float → List Float
+scratchAfter b place s = unlessRefused (turnNumber b place (length s)) (replicate scratchLength zero64 ++ drop scratchLength s) s
+
+-- ---- fetch: "2, 11, 12 and 14"
+abbrev pub fetchRefusals : Bench → (place : ℕ) → List Refusal
+fetchRefusals b place =
+    refusal 2 (noPlace place)
+    ∷ refusal 11 (isVacant (rowAt b place))
+    ∷ refusal 12 (damaged (rowAt b place))
+    -- "14. Fetch: unfinished."
+    ∷ refusal 14 (not (isFinished (rowAt b place)))
+    ∷ []
+
+unfoldable pub fetchNumber : Bench → (place : ℕ) → ℕ
+fetchNumber b place = firstRefusal (fetchRefusals b place)
+
+-- what is lent for the result, at exit: every field is written, or none
+abbrev pub fetchedResult : Bench → (place : ℕ) → (old : Result) → Result
+fetchedResult b place old = unlessRefused (fetchNumber b place) (resultOf (rowAt b place)) old
+
+-- ---- release: "2 and 11"
+abbrev pub releaseRefusals : Bench → (place : ℕ) → List Refusal
+releaseRefusals b place = refusal 2 (noPlace place) ∷ refusal 11 (isVacant (rowAt b place)) ∷ []
+
+unfoldable pub releaseNumber : Bench → (place : ℕ) → ℕ
+releaseNumber b place = firstRefusal (releaseRefusals b place)
+
+-- "releasing empties it"
+abbrev pub releasedBench : Bench → (place : ℕ) → Bench
+releasedBench b place = unlessRefused (releaseNumber b place) (withRow b place zeroRow) b
+
+-- ---- listing: "Listing refuses nothing."
+-- a place is listed when it is taken, undamaged and its run is at its end
+abbrev pub isListed : Row → Bool
+isListed r = not (isVacant r) && not (damaged r) && isFinished r
+
+unfoldable pub finishedPlaces : Bench → List ℕ
+finishedPlaces b = placesWhere (λ (place : ℕ). isListed (rowAt b place))
+
+-- "Only the listing's order is undecided: the listing has each finished place once and no other"; 0 past the count
+pub record Listing (b : Bench) (f : Finished) : Type 0 where
+  pub few : f .count ≤ 4
+  pub each : List·Permᴰ (take (f .count) (f .places)) (finishedPlaces b)
+  pub rest : drop (f .count) (f .places) ≡ replicate (4 - f .count) 0
+
+-- ---- A call on a bench, as the book is fed it
+unfoldable pub benchAnswer : Bench → Call → Answer
+benchAnswer b (admit place request) = number (admitNumber b place request)
+benchAnswer b (turn place length) = number (turnNumber b place length)
+benchAnswer b (fetch place) = fetchedUnless (fetchNumber b place) (resultOf (rowAt b place))
+benchAnswer b (release place) = number (releaseNumber b place)
+benchAnswer b listing = listed (finishedPlaces b)
+
+unfoldable pub benchStep : Bench → Call → Bench
+benchStep b (admit place request) = admittedBench b place request
+benchStep b (turn place length) = turnedBench b place length
+benchStep b (fetch place) = b
+benchStep b (release place) = releasedBench b place
+benchStep b listing = b

@@ -1,0 +1,99 @@
+-- A place of the bench beside the book's entry: what both say of it, and what a call makes of both. Assumes nothing.
+use mathlib.Core.Path.{_≡_, refl, sym, ap, _∙_, subst}
+use mathlib.Core.Bool.{Bool, true, false, false≢true}
+use Prim.Native.Nat.{ℕ, suc}
+use lib.Dec.{T, eqb}
+use lib.Ieee.Fits.{and-i}
+use Rattle.merit.specs.declared.types.MeritEvaluation.{MeritEvaluation}
+use Rattle.jobs.specs.declared.types.Job.{Job}
+use Rattle.jobs.specs.declared.types.Method.{Method}
+use Rattle.jobs.specs.declared.types.Method.the-variants.{Damped, MultiStart, Annealing}
+use Rattle.jobs.specs.Checks.{jobTaken}
+use Rattle.jobs.specs.Records.{methodKind, kindOf, recordOf, jobOf, knownKinds}
+use Rattle.runs.specs.declared.types.Row.{Row}
+use Rattle.runs.specs.Run.{Surfaces, value, value-done}
+use Rattle.runs.specs.JobRun.{run}
+use Rattle.runs.specs.Rows as Rows
+use Rattle.runs.specs.Rows.{jobOfRow, admitted, pendingSurfaces, advance}
+use Rattle.runs.specs.Damage.{damaged}
+use Rattle.runs.specs.RowLaws.{resumption-done, kind-admitted, kind-advance, turns-admitted, turns-advance}
+use Rattle.runs.specs.Turned.{turnedUnless, rowAfter, reached, row-stands, finished-done, job-after}
+use Rattle.runs.specs.DamageLaws.{never-damaged}
+use Rattle.runs.specs.Turn.{evaluateOf}
+use Rattle.bench.specs.Admission.{Admissible, kinds-known, usable}
+use Rattle.bench.specs.Book.{Entry, empty, holds, isEmpty, isFinished, resultOf}
+use Rattle.bench.specs.Benches.{zeroRow, noRow}
+use Rattle.bench.specs.Calls.{isVacant, turnedRow}
+
+-- ---- what holds after every list of calls: the row is the job's after as many turns
+pub record Holding (r : Row) (job : Job) (count : ℕ) : Type 0 where
+  pub admissible : Admissible job
+  pub row : r ≡ rowAfter (evaluateOf job) count job
+  pub turns : r .turns ≡ count
+
+abbrev pub Kept : Row → Entry → Type 0
+Kept r empty = r ≡ zeroRow
+Kept r (holds job count) = Holding r job count
+
+-- ---- what the calls ask of a place
+pub record Alike (r : Row) (e : Entry) : Type 0 where
+  pub vacant : isVacant r ≡ isEmpty e
+  pub sound : isEmpty e ≡ false → damaged r ≡ false
+  pub finished : isEmpty e ≡ false → Rows.isFinished r ≡ isFinished e
+  pub result : isEmpty e ≡ false → Rows.isFinished r ≡ true → Rows.resultOf r ≡ resultOf e
+
+-- where the row's kind is 0 the other three are not asked
+alike-empty : (r : Row) → isVacant r ≡ true → Alike r empty
+alike-empty r v = record { vacant = v; sound = λ h. absurd (false≢true (sym h)); finished = λ h. absurd (false≢true (sym h)); result = λ h f. absurd (false≢true (sym h)) }
+
+pub zero-vacant : isVacant zeroRow ≡ true
+unfolding zeroRow
+zero-vacant = refl
+
+pub alike-past : Alike noRow empty
+alike-past = alike-empty noRow refl
+
+module _ (job : Job) (a : Admissible job) where
+  abbrev f : Surfaces → MeritEvaluation
+  f = evaluateOf job
+
+  kind-taken : (m : Method) → eqb (methodKind m) 0 ≡ false
+  kind-taken (Damped config) = refl
+  kind-taken (MultiStart config) = refl
+  kind-taken (Annealing config) = refl
+
+  pub not-vacant : (count : ℕ) → isVacant (rowAfter f count job) ≡ false
+  not-vacant count = reached f (λ (r : Row). isVacant r ≡ false) job (ap (λ (k : ℕ). eqb k 0) (kind-admitted job) ∙ kind-taken (job .method)) (λ r u h. ap (λ (k : ℕ). eqb k 0) (kind-advance r (f (pendingSurfaces r))) ∙ h) count
+
+  result-after : (count : ℕ) → Rows.isFinished (rowAfter f count job) ≡ true → Rows.resultOf (rowAfter f count job) ≡ value f (run job)
+  result-after count h = sym (value-done f count (run job) (Rows.resultOf (rowAfter f count job)) (sym (row-stands f job (a .back) count) ∙ resumption-done (rowAfter f count job) h))
+
+  alike-after : (count : ℕ) → Alike (rowAfter f count job) (holds job count)
+  alike-after count = record {
+    vacant = not-vacant count;
+    sound = λ h. never-damaged f job (a .back) (usable job a) (and-i (jobTaken (jobOf (kindOf job) (recordOf job))) (knownKinds (recordOf job)) (subst T (sym (ap jobTaken (a .back) ∙ a .taken)) tt) (kinds-known job a)) count;
+    finished = λ h. finished-done f job (a .back) count;
+    result = λ h u. result-after count u;
+  }
+
+pub alike : (r : Row) (e : Entry) → Kept r e → Alike r e
+alike r empty k = alike-empty r (ap isVacant k ∙ zero-vacant)
+alike r (holds job count) k = subst (λ (r : Row). Alike r (holds job count)) (sym (k .row)) (alike-after job (k .admissible) count)
+
+-- ---- a place that is admitted to, and one that is turned
+pub kept-admitted : (job : Job) → Admissible job → Kept (admitted job) (holds job 0)
+unfolding rowAfter
+kept-admitted job a = record { admissible = a; row = refl; turns = turns-admitted job }
+
+pub kept-turned : (r : Row) (job : Job) (count : ℕ) → Rows.isFinished r ≡ false → Holding r job count → Holding (turnedRow r) job (suc count)
+unfolding rowAfter turnedUnless turnedRow
+kept-turned r job count u k = record { admissible = k .admissible; row = turned; turns = turns-advance r _ ∙ ap suc (k .turns) }
+  where
+    same-job : jobOfRow r ≡ job
+    same-job = ap jobOfRow (k .row) ∙ job-after (evaluateOf job) job (k .admissible .back) count
+
+    turned : turnedRow r ≡ rowAfter (evaluateOf job) (suc count) job
+    turned =
+        ap (λ (j : Job). advance r (evaluateOf j (pendingSurfaces r))) same-job
+        ∙ ap (λ (x : Row). advance x (evaluateOf job (pendingSurfaces x))) (k .row)
+        ∙ sym (ap (λ (b : Bool). turnedUnless (evaluateOf job) b (rowAfter (evaluateOf job) count job)) (sym (ap Rows.isFinished (k .row)) ∙ u))

@@ -1,0 +1,125 @@
+-- Demand 3: "For every list of admit, turn, fetch, release and listing calls, refused ones included, from the empty bench, each on the bench that the last one
+-- left". What is stated of a call on the bench is the definition that its contract cites (`Calls`); the book is `Book`. Nothing is assumed of the calls.
+-- Definitions only; the proof is `demand3` in `Proved`.
+use mathlib.Core.Path.{_≡_}
+use mathlib.Core.Bool.{true, false}
+use mathlib.Core.List.{List, List·Permᴰ}
+use mathlib.Core.Logic.{_↔_, _≢_}
+use Prim.Native.Nat.{ℕ, suc, _+_, _*_, _≤_, _<_}
+use lib.Dec.{T}
+use lib.ListN.{take}
+use Rattle.lists.specs.Refusals.{firstRefusal}
+use Rattle.optics.specs.Check.{surfacesTaken}
+use Rattle.variables.specs.Active.{numActive}
+use Rattle.merit.specs.Calls.{evaluateNumber}
+use Rattle.jobs.specs.declared.types.DlsConfig.{DlsConfig}
+use Rattle.jobs.specs.declared.types.Job.{Job}
+use Rattle.jobs.specs.declared.types.JobRequest.{JobRequest}
+use Rattle.jobs.specs.declared.types.MultiStartConfig.{MultiStartConfig}
+use Rattle.jobs.specs.declared.types.SimulatedAnnealingConfig.{SimulatedAnnealingConfig}
+use Rattle.jobs.specs.declared.types.Method.the-variants.{Damped, MultiStart, Annealing}
+use Rattle.jobs.specs.Checks.{admissionRefusals}
+use Rattle.jobs.specs.Kept.{jobFrom}
+use Rattle.jobs.specs.Same.{SameJob}
+use Rattle.runs.specs.Run.{done, ask, isDone, value}
+use Rattle.runs.specs.RunEnds.{Evaluated, Descended}
+use Rattle.runs.specs.JobRun.{Result, baseOf, run}
+use Rattle.runs.specs.Rows.{jobOfRow, admitted, pendingSurfaces, advance, bound}
+use Rattle.runs.specs.Rows as Rows
+use Rattle.runs.specs.Resumption.{resumption}
+use Rattle.runs.specs.Turned.{rowAfter}
+use Rattle.runs.specs.declared.types.Row.{Row}
+use Rattle.bench.specs.declared.types.Bench.{Bench}
+use Rattle.bench.specs.declared.types.Finished.{Finished}
+use Rattle.runs.specs.Turn.{lensWith, evaluateOf}
+use Rattle.bench.specs.Book.{Call, turn, fetch, Answer, number, fetched, listed, Entry, empty, holds, entryAt, runAfter, leftBy, answersBy, bookAfter, bookAnswers}
+use Rattle.bench.specs.Book as Book
+use Rattle.bench.specs.Benches.{zeroRow, emptyBench, rowAt, withRow}
+use Rattle.bench.specs.Calls.{isVacant, turnNumber, Listing, benchAnswer, benchStep}
+use Rattle.bench.specs.Pairs.{Pairs}
+
+-- what a list of calls leaves, and what its calls answer
+abbrev pub benchAfter : List Call → Bench
+benchAfter calls = leftBy benchStep emptyBench calls
+
+abbrev pub benchAnswers : List Call → List Answer
+benchAnswers calls = answersBy benchAnswer benchStep emptyBench calls
+
+-- the answers are equal, "the finished places compared without their order"
+pub data SameAnswer : Answer → Answer → Type 0 where
+  equal : {a b : Answer} → a ≡ b → SameAnswer a b
+  reordered : {p q : List ℕ} → List·Permᴰ p q → SameAnswer (listed p) (listed q)
+
+-- A row "holds the book's job, with the book's count as its working turns since that job came, and stands where 01's run of that job stands after that many
+-- merits".
+pub record RowHolds (r : Row) (job : Job) (count : ℕ) : Type 0 where
+  pub taken : isVacant r ≡ false
+  pub sameJob : jobOfRow r ≡ job
+  pub turns : r .turns ≡ count
+  -- what the row has still to do is what the job's run has: it asks for the same surfaces and goes on alike with any answer, or it has the same result
+  pub resumes : resumption r ≡ runAfter job count
+  -- job and count decide every entry: it is the row as admitted, turned as often
+  pub row : r ≡ rowAfter (evaluateOf job) count job
+
+-- "after the list each place is empty where the book's is", and then all zero, "and else holds the book's job"
+abbrev pub SamePlace : Row → Entry → Type 0
+SamePlace r empty = r ≡ zeroRow
+SamePlace r (holds job count) = RowHolds r job count
+
+-- equal benches: the rows are all that a bench has
+abbrev pub SameBench : Bench → Bench → Type 0
+SameBench a b = a .rows ≡ b .rows
+
+-- What a job's result is.
+pub record Returned (job : Job) (r : Result) : Type 0 where
+  -- what its run comes to
+  pub result : r ≡ value (evaluateOf job) (run job)
+  -- "the surfaces handed back have the merit printed beside them", and each operand's value and residual
+  pub evaluated : Evaluated (evaluateOf job) r
+  -- they pass check 3, and `evaluate` takes them
+  pub checked : T (surfacesTaken (r .surfaces) (job .prescription .«surface_count»))
+  pub evaluable : evaluateNumber (lensWith job (r .surfaces)) (job .«merit_function») ≡ 0
+  -- a damped run's "final merit finite, not above its first"; the first is the merit of the job's surfaces
+  pub descended : (config : DlsConfig) → job .method ≡ Damped config → Descended r
+  pub first : (config : DlsConfig) → job .method ≡ Damped config → r .«initial_merit» ≡ evaluateOf job (baseOf job) .«total_merit»
+
+abbrev pub ReturnedBy : Entry → Result → Type 0
+ReturnedBy empty r = ⊥
+ReturnedBy (holds job count) r = Returned job r
+
+pub record Demand3 : Type 0 where
+  -- ---- "the calls refused, their numbers, the results fetched and the places listed are those of 01's plain book"
+  -- call by call: as many answers, each the same
+  pub answers : (calls : List Call) → Pairs SameAnswer (benchAnswers calls) (bookAnswers calls)
+  -- a listing after any list, whatever order it has: each place that the book has finished, once, and no other
+  pub listings : (calls : List Call) (f : Finished) → Listing (benchAfter calls) f → List·Permᴰ (take (f .count) (f .places)) (Book.finishedPlaces (bookAfter calls))
+  -- ---- "after the list each place .."
+  pub places : (calls : List Call) (place : ℕ) → place < 4 → SamePlace (rowAt (benchAfter calls) place) (entryAt (bookAfter calls) place)
+  -- ---- "Two such lists leave equal benches exactly when each place holds the same job, or none, with equally many working turns since that job came."
+  pub equalBenches : (some others : List Call) → SameBench (benchAfter some) (benchAfter others) ↔ ((place : ℕ) → place < 4 → entryAt (bookAfter some) place ≡ entryAt (bookAfter others) place)
+  -- "Jobs are the same when all their used entries are equal bit for bit", settings after defaults: requests that are taken make one job exactly then
+  pub sameJobs : (a b : JobRequest) → firstRefusal (admissionRefusals a) ≡ 0 → (jobFrom a ≡ jobFrom b) ↔ SameJob a b
+  -- ---- "In every such list a working turn works out just one merit"
+  -- that of the surfaces pending, and makes the new row of it, on any bench whatever; no other row changes
+  pub oneMerit : (b : Bench) (place length : ℕ) → turnNumber b place length ≡ 0 →
+      benchStep b (turn place length) ≡ withRow b place (advance (rowAt b place) (evaluateOf (jobOfRow (rowAt b place)) (pendingSurfaces (rowAt b place))))
+  pub others : (b : Bench) (place length other : ℕ) → other ≢ place → rowAt (benchStep b (turn place length)) other ≡ rowAt b other
+  -- "a refused call changes nothing"
+  pub refused : (b : Bench) (c : Call) (n : ℕ) → benchAnswer b c ≡ number (suc n) → benchStep b c ≡ b
+  -- ---- What a row has still to do (`resumption`)
+  -- as admitted, its job's run; unfinished, it asks for the merit of the surfaces pending and goes on as the row that this merit makes; finished, its result
+  pub begins : (r : JobRequest) → resumption (admitted (jobFrom r)) ≡ run (jobFrom r)
+  pub goesOn : (r : Row) → Rows.isFinished r ≡ false → resumption r ≡ ask (pendingSurfaces r) λ e. resumption (advance r e)
+  pub ends : (r : Row) → Rows.isFinished r ≡ true → resumption r ≡ done (Rows.resultOf r)
+  -- ---- "every job comes to its end in a number of turns known beforehand"
+  -- no entry's count passes its job's bound, and there its run is at its end
+  pub bounded : (calls : List Call) (place count : ℕ) (job : Job) → entryAt (bookAfter calls) place ≡ holds job count → count ≤ bound job
+  pub ended : (job : Job) (count : ℕ) → bound job ≤ count → isDone (runAfter job count) ≡ true
+  -- "p counting enabled variables, is B = 1 + iterations limit × (2p + 10); (1 + trials) × B for multi-start; for annealing 1 + cycles × steps + 1 + 25 × (2p + 10)"
+  pub dampedBound : (job : Job) (c : DlsConfig) → job .method ≡ Damped c → bound job ≡ 1 + c .«max_iterations» * (2 * numActive (job .variables) + 10)
+  pub multiStartBound : (job : Job) (c : MultiStartConfig) → job .method ≡ MultiStart c →
+      bound job ≡ (1 + c .«num_trials») * (1 + c .«local_dls_config» .«max_iterations» * (2 * numActive (job .variables) + 10))
+  pub annealingBound : (job : Job) (c : SimulatedAnnealingConfig) → job .method ≡ Annealing c →
+      bound job ≡ 1 + c .«max_cooling_cycles» * c .«steps_per_temperature» + 1 + 25 * (2 * numActive (job .variables) + 10)
+  -- ---- "its final merit finite, not above its first, and the merit of the surfaces returned"
+  pub results : (calls : List Call) (place : ℕ) (r : Result) → benchAnswer (benchAfter calls) (fetch place) ≡ fetched r → ReturnedBy (entryAt (bookAfter calls) place) r

@@ -1,0 +1,15 @@
+// The bench and what its listing answers. Numbers only: any bytes are a bench.
+use runs::Row;
+
+// "Four places, 0 to 3." A place is empty exactly when its row's kind is 0, all else in the row disregarded.
+#[repr(C)]
+pub struct Bench {
+    pub rows: [Row; 4],
+}
+
+// The places whose runs are at their end, in any order, and how many they are; 0 past the count.
+#[repr(C)]
+pub struct Finished {
+    pub places: [usize; 4],
+    pub count: usize,
+}
