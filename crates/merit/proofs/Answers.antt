@@ -1,8 +1,8 @@
 -- What the calls by value make of their parts. Assumes nothing.
-use mathlib.Core.Path.{_≡_, refl, sym, ap, subst, _∙_}
+use mathlib.Core.Path.{_≡_, refl, sym, ap, _∙_}
 use mathlib.Core.Bool.{not}
 use mathlib.Core.List.{List, _++_}
-use Prim.Native.Nat.{ℕ, zero, suc, _-_, _*_, _≤_, _<_}
+use Prim.Native.Nat.{ℕ, zero, suc, _*_, _≤_, _<_}
 use native.Mathlib.Omega.{arith}
 use lib.Dec.{T}
 use lib.Ieee.{Float}
@@ -18,14 +18,13 @@ use Rattle.optics.specs.Types.{surfaceAt, flatSurface, slotIndex}
 use Rattle.optics.specs.declared.types.OpticalPrescription.{OpticalPrescription}
 use Rattle.optics.specs.declared.types.OpticalSurface.{OpticalSurface}
 use Rattle.optics.specs.declared.types.ParaxialRay.{ParaxialRay}
-use Rattle.merit.specs.Calls.{unlessRefused, evaluateNumber, lensEvaluation, zeroEvaluation, evaluatedAs, evaluatedOf, lensRay, sixteen, traceNumber, answerOf, nothingTraced, heightsOf, tracedHeights, traceAnswer, tracedRow, tracedRays}
-use Rattle.merit.specs.CallLaws.{Traceable, traceable}
+use Rattle.merit.specs.Calls.{unlessRefused, evaluateNumber, lensEvaluation, zeroEvaluation, evaluatedAs, evaluatedOf, lensRay, lensTrace, sixteen, traceNumber, answerOf, nothingTraced, heightsOf, tracedHeights, traceAnswer, tracedRow, tracedRays}
+use Rattle.merit.specs.CallLaws.{Traceable, done-traceable}
 use Rattle.merit.specs.declared.types.Evaluated.{Evaluated}
 use Rattle.merit.specs.declared.types.MeritEvaluation.{MeritEvaluation}
 use Rattle.merit.specs.declared.types.MeritFunction.{MeritFunction}
 use Rattle.merit.specs.declared.types.Traced.{Traced}
 use Rattle.merit.specs.declared.types.Traced.the-variants.{Done, Failed, Refused}
-use Rattle.merit.specs.declared.types.TracedHeights.{TracedHeights}
 
 pub none : (n : ℕ) → n ≤ 0 → n ≡ 0
 none n h = omega arith
@@ -52,10 +51,6 @@ module _ (p : OpticalPrescription) (f : MeritFunction) (n : ℕ) (e : n ≡ eval
 
 -- what the lent call keeps or stores
 module _ (p : OpticalPrescription) (f : MeritFunction) (old : MeritEvaluation) where
-  pub evaluated-number : evaluatedOf p f .number ≡ evaluateNumber p f
-  unfolding evaluatedOf
-  evaluated-number = refl
-
   pub evaluated-kept : 0 < evaluatedOf p f .number → (evaluatedOf p f .number ≡ evaluateNumber p f) × (old ≡ evaluatedAs old p f)
   unfolding evaluatedOf
   evaluated-kept h = (refl, sym (stays (evaluateNumber p f) (lensEvaluation p f) old h))
@@ -115,16 +110,6 @@ done-is Done p slot t = refl
 done-is Failed p slot t = absurd t
 done-is (Refused n) p slot t = absurd t
 
-abbrev Refusing : Traced → Type 0
-Refusing Done = ⊥
-Refusing Failed = ⊥
-Refusing (Refused n) = Unit {0}
-
--- a trace that is done was not refused
-not-refused : (n count : ℕ) → answerOf n count ≡ Done → n ≡ 0
-not-refused zero count e = refl
-not-refused (suc n) count e = absurd (subst Refusing e tt)
-
 module _ (p : OpticalPrescription) (slot : ℕ) (old : List ParaxialRay) where
   abbrev answered : Traced
   answered = traceAnswer p slot (length old)
@@ -139,8 +124,7 @@ module _ (p : OpticalPrescription) (slot : ℕ) (old : List ParaxialRay) where
     is-done = done-is answered p slot made
 
     open-trace : Traceable p slot (length old)
-    unfolding traceAnswer
-    open-trace = traceable p slot (length old) (not-refused (traceNumber p slot (length old)) (p .«surface_count») is-done)
+    open-trace = done-traceable p slot (length old) is-done
 
     pub row-short : length (tracedHeights p slot (length old) .heights) ≡ 16 → length (tracedHeights p slot (length old) .slopes) ≡ 16
         → (length old ≤ length (tracedHeights p slot (length old) .heights)) × (length old ≤ length (tracedHeights p slot (length old) .slopes))
@@ -153,7 +137,7 @@ module _ (p : OpticalPrescription) (slot : ℕ) (old : List ParaxialRay) where
       ap (λ (b : Traced). raysOf (heightsOf b p slot .heights) (heightsOf b p slot .slopes) (length old)) is-done
           ∙ ap (λ (k : ℕ). raysOf (heightsOf Done p slot .heights) (heightsOf Done p slot .slopes) k) (open-trace .row)
           ∙ rays-are (surfaceAt (p .surfaces)) (slotIndex (p .indices) slot) (p .«entrance_pupil_diameter_mm») (p .«surface_count») _ _
-          ∙ sym (ap (λ (b : Traced). tracedRow b (tab (lensRay p slot) (p .«surface_count»)) old) is-done),
+          ∙ sym (ap (λ (b : Traced). tracedRow b (lensTrace p slot) old) is-done),
     )
 
 pub row-long : (hs us : List Float) (old : List ParaxialRay) → length (raysOf hs us (length old)) ≡ length old

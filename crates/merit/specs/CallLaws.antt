@@ -1,8 +1,8 @@
 -- What callers may use of the calls' refusals: each number is answered exactly when its cause holds and no cause in front of it does. Assumes nothing.
-use mathlib.Core.Path.{_≡_, refl}
+use mathlib.Core.Path.{_≡_, refl, subst}
 use mathlib.Core.Bool.{Bool, true, false, not, _&&_, true≢false}
 use mathlib.Core.Logic.{_↔_}
-use Prim.Native.Nat.{ℕ, _≤_, _<_}
+use Prim.Native.Nat.{ℕ, zero, suc, _≤_, _<_}
 use native.Mathlib.Omega.{arith}
 use lib.Dec.{T, leb, ltb, eqb, leb→le, ltb→lt, eqb→eq}
 use lib.Ieee.Fits.{and-l, and-r}
@@ -10,8 +10,10 @@ use Rattle.lists.specs.Refusals.{answers, answers-none}
 use Rattle.optics.specs.Check.{lensTaken}
 use Rattle.optics.specs.declared.types.OpticalPrescription.{OpticalPrescription}
 use Rattle.merit.specs.Check.{operandsTaken}
-use Rattle.merit.specs.Calls.{countsTaken, evaluateRefusals, evaluateNumber, traceRefusals, traceNumber}
+use Rattle.merit.specs.Calls.{countsTaken, evaluateRefusals, evaluateNumber, traceRefusals, traceNumber, answerOf, traceAnswer}
 use Rattle.merit.specs.declared.types.MeritFunction.{MeritFunction}
+use Rattle.merit.specs.declared.types.Traced.{Traced}
+use Rattle.merit.specs.declared.types.Traced.the-variants.{Done, Failed, Refused}
 
 passed : (b : Bool) → not b ≡ false → T b
 passed true e = tt
@@ -65,6 +67,11 @@ module _ (p : OpticalPrescription) (f : MeritFunction) where
       }
 
 -- ---- trace
+abbrev Refusing : Traced → Type 0
+Refusing Done = ⊥
+Refusing Failed = ⊥
+Refusing (Refused n) = Unit {0}
+
 module _ (p : OpticalPrescription) (slot rows : ℕ) where
   abbrev fitting : Bool
   fitting = countsTaken (p .«surface_count») (p .«slot_count») && eqb rows (p .«surface_count»)
@@ -90,6 +97,7 @@ module _ (p : OpticalPrescription) (slot rows : ℕ) where
     pub surfaces : p .«surface_count» ≤ 16
     pub row : rows ≡ p .«surface_count»
     pub lens : T (lensTaken p)
+    pub there : slot < p .«slot_count»
     pub below : slot < 4
 
   pub traceable : traceNumber p slot rows ≡ 0 → Traceable
@@ -102,5 +110,15 @@ module _ (p : OpticalPrescription) (slot rows : ℕ) where
         surfaces = k .0;
         row = eqb→eq rows (p .«surface_count») (and-r (countsTaken (p .«surface_count») (p .«slot_count»)) (eqb rows (p .«surface_count»)) c);
         lens = passed (lensTaken p) (h .1 .0);
+        there = l;
         below = omega (arith, k .2);
       }
+
+  -- a trace that is done was not refused
+  pub done-traceable : traceAnswer p slot rows ≡ Done → Traceable
+  unfolding traceAnswer
+  done-traceable e = traceable (go (traceNumber p slot rows) e)
+    where
+      go : (n : ℕ) → answerOf n (p .«surface_count») ≡ Done → n ≡ 0
+      go zero e = refl
+      go (suc n) e = absurd (subst Refusing e tt)

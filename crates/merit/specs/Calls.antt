@@ -76,6 +76,9 @@ module _ (p : OpticalPrescription) (slot : ℕ) where
   abbrev pub lensRay : ℕ → ParaxialRay
   lensRay = rayAt (surfaceAt (p .surfaces)) (slotIndex (p .indices) slot) (p .«entrance_pupil_diameter_mm»)
 
+  abbrev pub lensTrace : List ParaxialRay
+  lensTrace = traceOf (surfaceAt (p .surfaces)) (slotIndex (p .indices) slot) (p .«entrance_pupil_diameter_mm») (p .«surface_count»)
+
 -- the answer, out of the number; "Fewer than two surfaces is a failed trace."
 abbrev pub answerOf : (number count : ℕ) → Traced
 answerOf zero count = cond (ltb count 2) Failed Done
@@ -98,7 +101,7 @@ traceAnswer p slot rows = answerOf (traceNumber p slot rows) (p .«surface_count
 
 -- what is lent, at exit
 abbrev pub tracedRays : OpticalPrescription → (slot : ℕ) → (old : List ParaxialRay) → List ParaxialRay
-tracedRays p slot old = tracedRow (traceAnswer p slot (length old)) (tab (lensRay p slot) (p .«surface_count»)) old
+tracedRays p slot old = tracedRow (traceAnswer p slot (length old)) (lensTrace p slot) old
 
 -- by value: heights and slopes apart, zero past the surfaces and where nothing is traced
 abbrev pub sixteen : (ℕ → Float) → ℕ → List Float

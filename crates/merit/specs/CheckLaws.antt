@@ -9,11 +9,31 @@ use Rattle.lists.specs.All.{all-at}
 use Rattle.optics.specs.Check.{within}
 use Rattle.merit.specs.OperandTable.{operandAt}
 use Rattle.merit.specs.Check.{kindTaken, weightTaken, operandTaken, operandsTaken}
+use Rattle.merit.specs.Operands.{slotNamed}
 use Rattle.merit.specs.Steps.{slotKnown, SlotsKnown}
 use Rattle.merit.specs.declared.types.MeritFunction.{MeritFunction}
-use Rattle.merit.specs.declared.types.MeritOperand.{MeritOperand}
 use Rattle.merit.specs.declared.types.OperandType.{OperandType}
 use Rattle.merit.specs.declared.types.OperandType.the-variants.{EffectiveFocalLength, WorkingFNumber, TotalTrack, BackFocalLength, ParaxialMagnification, MinCenterThickness, MaxCenterThickness}
+
+module _ (slots : ℕ) (f : MeritFunction) (taken : T (operandsTaken slots f)) (n : ℕ) (h : n < f .«operand_count») where
+  -- an operand in use that is taken has a kind that is
+  pub kind-taken : T (kindTaken slots (operandAt f n .«operand_type»))
+  unfolding operandTaken
+  kind-taken =
+      let o = operandAt f n in
+      let t = all-at (λ (n : ℕ). operandTaken slots (operandAt f n)) (f .«operand_count») n taken h in
+      and-l (kindTaken slots (o .«operand_type»)) (within (o .target)) (and-l (kindTaken slots (o .«operand_type») && within (o .target)) (weightTaken (o .weight)) t)
+
+-- a kind that is taken names a slot that there is, or none
+pub slot-below : (slots : ℕ) (kind : OperandType) → T (kindTaken slots kind) → slotNamed kind < 4 → slotNamed kind < slots
+unfolding kindTaken
+slot-below slots (EffectiveFocalLength w) t h = ltb→lt w slots t
+slot-below slots (WorkingFNumber w) t h = ltb→lt w slots t
+slot-below slots TotalTrack t h = absurd (omega arith)
+slot-below slots (BackFocalLength w) t h = ltb→lt w slots t
+slot-below slots (ParaxialMagnification w) t h = ltb→lt w slots t
+slot-below slots (MinCenterThickness i limit) t h = absurd (omega arith)
+slot-below slots (MaxCenterThickness i limit) t h = absurd (omega arith)
 
 -- operands that are taken name slots that there are
 module _ (slots : ℕ) (few : slots ≤ 4) where
@@ -30,9 +50,5 @@ module _ (slots : ℕ) (few : slots ≤ 4) where
   kind-known (MinCenterThickness i limit) t = tt
   kind-known (MaxCenterThickness i limit) t = tt
 
-  operand-known : (o : MeritOperand) → T (operandTaken slots o) → T (slotKnown (o .«operand_type»))
-  unfolding operandTaken
-  operand-known o t = kind-known (o .«operand_type») (and-l (kindTaken slots (o .«operand_type»)) (within (o .target)) (and-l (kindTaken slots (o .«operand_type») && within (o .target)) (weightTaken (o .weight)) t))
-
   pub slots-known : (f : MeritFunction) → T (operandsTaken slots f) → SlotsKnown f
-  slots-known f t n h = operand-known (operandAt f n) (all-at (λ (n : ℕ). operandTaken slots (operandAt f n)) (f .«operand_count») n t h)
+  slots-known f t n h = kind-known (operandAt f n .«operand_type») (kind-taken slots f t n h)

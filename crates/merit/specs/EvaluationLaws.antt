@@ -1,7 +1,7 @@
 -- What callers may use of an evaluation: it looks only at what is below the counts, and its total is finite. Assumes nothing.
-use mathlib.Core.Path.{_≡_, refl, sym, ap, _∙_}
+use mathlib.Core.Path.{_≡_, refl, ap, _∙_}
 use mathlib.Core.Bool.{Bool, true, false, cond}
-use mathlib.Core.List.{List, _++_}
+use mathlib.Core.List.{_++_}
 use Prim.Native.Nat.{ℕ, zero, suc, _+_, _-_, _≤_, _<_}
 use native.Mathlib.Omega.{arith}
 use lib.Dec.{T}
@@ -20,7 +20,6 @@ use Rattle.merit.specs.OperandTable.{operandAt}
 use Rattle.merit.specs.Operands.{valueOf}
 use Rattle.merit.specs.Steps.{slotOf, SlotsKnown}
 use Rattle.merit.specs.ValueLaws.{value-same, value-below}
-use Rattle.merit.specs.declared.types.MeritEvaluation.{MeritEvaluation}
 use Rattle.merit.specs.declared.types.MeritFunction.{MeritFunction}
 use Rattle.merit.specs.declared.types.MeritOperand.{MeritOperand}
 
@@ -47,6 +46,12 @@ entries-long f n h = length-append (tab f n) (replicate (12 - n) zero64) ∙ rw 
 module _ (surface : ℕ → OpticalSurface) (index : ℕ → ℕ → Float) (pupil : Float) (count : ℕ) (f : MeritFunction) where
   pub total-finite : Finite (evaluationOf surface index pupil count f .«total_merit»)
   total-finite = counted-finite (total surface index pupil count f (f .«operand_count»))
+
+  pub values-long : f .«operand_count» ≤ 12 → length (evaluationOf surface index pupil count f .values) ≡ 12
+  values-long h = entries-long (valueAt surface index pupil count f) (f .«operand_count») h
+
+  pub residuals-long : f .«operand_count» ≤ 12 → length (evaluationOf surface index pupil count f .residuals) ≡ 12
+  residuals-long h = entries-long (residualAt surface index pupil count f) (f .«operand_count») h
 
   -- "no operands gives merit +0.0"
   pub no-operands : f .«operand_count» ≡ 0 → evaluationOf surface index pupil count f .«total_merit» ≡ zero64

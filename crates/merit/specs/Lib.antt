@@ -1,12 +1,14 @@
--- The merit of a lens: `Operands` (values), `Evaluation` (residuals and total).
+-- The merit of a lens: `Operands` (values), `Evaluation` (residuals and total), `Check` (refusal 5), `Calls` (evaluate and trace).
 pub mod OperandTable
 pub mod Operands
 pub mod Evaluation
 pub mod Check
 pub mod Calls
-pub mod CheckLaws
-pub mod CallLaws
--- Steps of the proofs.
-pub mod Steps
+-- Laws for callers.
 pub mod ValueLaws
 pub mod EvaluationLaws
+pub mod CheckLaws
+pub mod CallLaws
+pub mod UsedLaws
+-- Steps of the proofs.
+pub mod Steps

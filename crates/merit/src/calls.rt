@@ -19,6 +19,7 @@ use optics::OpticalPrescription;
 use optics::OpticalSurface;
 use optics::ParaxialRay;
 
+// Refusal 1, as far as the lens goes.
 fn counts_taken(surfaces: usize, slots: usize) -> bool
     ensures { λ r. ⌜ r ≡ countsTaken surfaces slots ⌝ }
 {
@@ -28,6 +29,7 @@ fn counts_taken(surfaces: usize, slots: usize) -> bool
     1 <= slots && slots <= 4
 }
 
+// What an evaluation is refused with, 0 where it is not.
 fn evaluate_number(prescription: OpticalPrescription, function: MeritFunction) -> u32
     ensures { λ r. ⌜ r ≡ evaluateNumber prescription function ⌝ }
 {
@@ -56,6 +58,7 @@ fn laid(surfaces: [OpticalSurface; 16], count: usize) -> [f64; 64]
     flat
 }
 
+// The evaluation of a lens that is not refused.
 fn lens_evaluation(prescription: OpticalPrescription, function: MeritFunction) -> MeritEvaluation
     requires { ⌜ Evaluable prescription function ⌝ }
     ensures { λ r. ⌜ r ≡ lensEvaluation prescription function ⌝ }
@@ -114,6 +117,7 @@ pub fn evaluate(
     e.number
 }
 
+// What a trace is refused with, 0 where it is not.
 fn trace_number(prescription: OpticalPrescription, slot: usize, length: usize) -> u32
     ensures { λ r. ⌜ r ≡ traceNumber prescription slot length ⌝ }
 {
@@ -132,7 +136,7 @@ fn trace_number(prescription: OpticalPrescription, slot: usize, length: usize) -
     5
 }
 
-// The heights and slopes of a lens that is traced.
+// The heights and slopes of a lens whose trace is neither refused nor failed.
 fn lens_heights(prescription: OpticalPrescription, slot: usize) -> TracedHeights
     requires { ⌜ (prescription .«surface_count» ≤ 16) × (slot < 4) ⌝ }
     ensures { λ r. ⌜ r ≡ heightsOf Done prescription slot ⌝ }

@@ -36,7 +36,7 @@ pub struct MeritEvaluation {
     pub total_merit: f64,
 }
 
-// An evaluation by value: refusal's number, 0 where there is none, and then the evaluation; zero where it is refused.
+// An evaluation by value, all zero where it is refused, and the refusal's number, 0 where there is none.
 pub struct Evaluated {
     pub evaluation: MeritEvaluation,
     pub number: u32,
@@ -49,7 +49,7 @@ pub enum Traced {
     Refused(u32),
 }
 
-// A trace by value: heights and slopes, zero past the surfaces and where nothing was traced, and the answer.
+// A trace by value: heights and slopes, zero past the surfaces and where nothing was traced, whether they were, and the answer.
 pub struct TracedHeights {
     pub heights: [f64; 16],
     pub slopes: [f64; 16],

@@ -44,7 +44,7 @@ walkOf s = record {
 
 -- ---- Each phase's state: what the phase does not use is zero
 -- the damped part in the walk
-abbrev walking : (phase : ℕ) (surfaces : Surfaces) (params trial : List Float) → DampedState
+abbrev pub walking : (phase : ℕ) (surfaces : Surfaces) (params trial : List Float) → DampedState
 walking n surfaces params trial = record {
   surfaces = surfaces;
   jacobian = zeroJacobian;
@@ -62,7 +62,7 @@ walking n surfaces params trial = record {
 }
 
 -- the best part in the walk, and in the polish, which needs the first merit alone
-abbrev kept : (surfaces : Surfaces) (initialMerit bestMerit : Float) → OptimizationResult
+abbrev pub kept : (surfaces : Surfaces) (initialMerit bestMerit : Float) → OptimizationResult
 kept surfaces initialMerit bestMerit = record {
   surfaces = surfaces;
   values = zeroOperands;

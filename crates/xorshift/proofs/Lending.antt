@@ -27,7 +27,7 @@ use denote.Struct.Laws as LL
 use denote.Triple.Statement.{Contract, Triple}
 use Rattle.xorshift.specs.Draws.{advanced}
 use Rattle.xorshift.specs.declared.Rng64.{Rng64}
-use Rattle.xorshift.proofs.Answered.{answered}
+use Rattle.lists.proofs.Answered.{answered}
 use Rattle.xorshift.proofs.Next.{lent}
 use Rattle.xorshift.proofs.Rng64 as T
 use Rattle.xorshift.proofs.Rng64.Laws as T′

@@ -1,4 +1,2 @@
-pub mod Answered
 pub mod Lending
 pub mod Next
-pub mod Proved

@@ -26,7 +26,7 @@ use denote.Triple.Statement.{Contract, Triple}
 use Rattle.xorshift.specs.Xorshift.{stepOf}
 use Rattle.xorshift.specs.Draws.{advanced}
 use Rattle.xorshift.specs.declared.Rng64.{Rng64}
-use Rattle.xorshift.proofs.Answered.{Callee, answered, shown, last-is}
+use Rattle.lists.proofs.Answered.{Callee, answered, shown, last-is}
 use Rattle.xorshift.proofs.Rng64 as T
 use Rattle.xorshift.proofs.Rng64.next_u64 as next
 use Rattle.xorshift.proofs.Rng64.next_u64.Symbol.{name as #next-u64}

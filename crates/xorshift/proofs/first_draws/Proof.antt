@@ -40,10 +40,10 @@ use Rattle.xorshift.specs.Xorshift.{stepOf, seeded, stepTimes}
 use Rattle.xorshift.specs.Draws.{advanced, unitOf, uniformOf, firstDraws}
 use Rattle.xorshift.specs.Laws.{seeded-below, step-below}
 use Rattle.xorshift.specs.declared.Rng64.{Rng64}
-use Rattle.xorshift.proofs.Answered.{Callee, answered, shown, last-is}
+use Rattle.lists.proofs.Answered.{Callee, answered, shown, last-is}
 use Rattle.xorshift.proofs.Lending.{lends}
 use Rattle.xorshift.proofs.Next.{Next, lent, to-next, goes-next, next-is}
-use Rattle.xorshift.proofs.Proved.{proved}
+use Rattle.lists.proofs.Proved.{proved}
 use Rattle.xorshift.proofs.Rng64 as T
 use Rattle.xorshift.proofs.Rng64.Laws as T′
 use Rattle.xorshift.proofs.Draws as D

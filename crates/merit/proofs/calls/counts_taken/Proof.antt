@@ -1,5 +1,4 @@
 -- `merit::calls::counts_taken` meets its contract. Assumes nothing.
-use mathlib.Core.Path.{_∙_}
 use borrow.Author.Tests.{le-leb, lt-leb}
 use Rattle.merit.proofs.calls.counts_taken.Statement.{statement}
 use Rattle.merit.proofs.calls.counts_taken.Tie as tie

@@ -1,5 +1,5 @@
 -- `merit::calls::lens_evaluation` meets its contract. Assumes nothing.
-use mathlib.Core.Path.{_≡_, refl, sym, _∙_, ap}
+use mathlib.Core.Path.{_≡_, refl, _∙_, ap}
 use native.Mathlib.Omega.{arith}
 use mathlib.Core.List.{List}
 use lib.Ieee.{Float}

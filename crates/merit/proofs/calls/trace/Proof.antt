@@ -2,7 +2,7 @@
 -- All that the proof knows of the two callees is that they meet their contracts.
 -- Assumes nothing.
 use mathlib.Core.Path.{_≡_, refl, sym, subst}
-use mathlib.Core.Bool.{Bool, not}
+use mathlib.Core.Bool.{not}
 use Prim.Native.Nat.{ℕ, _<_, _≤_, _^_}
 use mathlib.Core.List.{[], _∷_, List, map-id}
 use lib.Dec.{T, lit<}
@@ -26,7 +26,7 @@ use types.Part.{whole, sub, look-in, agg}
 use types.Tokens.{lft-new, lft-end}
 use sound.WpLaws.{FmC}
 use denote.RattleType.{RattleType, owns}
-use denote.Laws.{Is, shows}
+use denote.Laws.{Is}
 use denote.Memory.{pointee}
 use denote.Array.{array-lawful}
 use denote.Floats.{float-lawful}
@@ -39,7 +39,7 @@ use denote.Steps.{only, owned, heard, nothing}
 use denote.Struct.Laws as LL
 use denote.Enum.Laws as EL
 use denote.Triple.Statement.{Contract, Triple}
-use denote.Triple.Clauses.{Lasts, lasts}
+use denote.Triple.Clauses.{lasts}
 use denote.Triple.Entry.{onEntry}
 use denote.Triple.Table.{cited}
 use denote.Triple.Walked.{says, Stays, stay-none, gave-slice, walkOf, goes-none, goes-gave-slice, ends-at}
@@ -57,10 +57,10 @@ use Rattle.optics.proofs.fill_rays.Met as fill-thm
 use Rattle.merit.specs.Calls.{traceAnswer, tracedRays, tracedHeights}
 use Rattle.merit.specs.declared.types.Traced.{Traced}
 use Rattle.merit.specs.declared.types.TracedHeights.{TracedHeights}
-use Rattle.merit.proofs.Answered.{Callee, answered, shown, named}
+use Rattle.lists.proofs.Answered.{Callee, answered, shown, named}
 use Rattle.merit.proofs.Answers.{row-kept, row-short, row-filled, row-long}
 use Rattle.merit.proofs.LentArray.{Floats16, vals16, ty16, long16, lent16, Kept, lends-array, takes-array}
-use Rattle.merit.proofs.Proved.{proved}
+use Rattle.lists.proofs.Proved.{proved}
 use Rattle.merit.proofs.types.Traced as Tr
 use Rattle.merit.proofs.types.Traced.Laws as Tr′
 use Rattle.merit.proofs.types.TracedHeights as Th
@@ -73,7 +73,7 @@ use Rattle.merit.proofs.calls.trace.Key.{name as #trace}
 use Rattle.merit.proofs.calls.trace as f
 use Rattle.merit.proofs.calls.trace.Statement as stated
 use Rattle.merit.proofs.calls.trace.Code as code
-use Rattle.merit.proofs.calls.trace.Code.Mir.{t-1, t-3, t-5, t-13}
+use Rattle.merit.proofs.calls.trace.Code.Mir.{t-3, t-5, t-13}
 
 abbrev R : RattleType
 R = Ray.the-row

@@ -1,8 +1,7 @@
 -- `merit::calls::trace_number` meets its contract: each arm answers what the tests that led there make of the list. Assumes nothing.
-use mathlib.Core.Path.{_≡_, sym, _∙_}
-use mathlib.Core.Bool.{true}
+use mathlib.Core.Path.{sym, _∙_}
 use borrow.Author.Tests.{not-true, not-false, eq-eqb, ne-eqb, lt-ltb, le-ltb}
-use Rattle.merit.specs.Calls.{countsTaken, traceNumber}
+use Rattle.merit.specs.Calls.{traceNumber}
 use Rattle.merit.specs.CallLaws.{counts-parts}
 use borrow.Author.Needs.{needs}
 use Rattle.merit.proofs.calls.trace_number.Statement.{statement}

@@ -1,7 +1,7 @@
 -- `merit::evaluation::evaluate_flat` meets its contract. Assumes nothing.
 use mathlib.Core.Path.{_≡_, refl, _∙_}
 use native.Mathlib.Omega.{arith}
-use Prim.Native.Nat.{ℕ, _<_, _-_}
+use Prim.Native.Nat.{_<_, _-_}
 use Rattle.optics.specs.Types.{flatSurface, slotIndex}
 use Rattle.merit.specs.Evaluation.{valueAt}
 use Rattle.merit.specs.ValueLaws.{value-same}

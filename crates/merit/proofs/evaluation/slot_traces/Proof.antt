@@ -4,7 +4,7 @@ use mathlib.Core.Logic.{⊎-elim}
 use mathlib.Core.Bool.{true, false}
 use lib.ListN.{getD}
 use borrow.Author.Tests.{not-false}
-use Prim.Native.Nat.{ℕ, _≤_, _-_}
+use Prim.Native.Nat.{ℕ, _-_}
 use native.Mathlib.Omega.{arith}
 use Rattle.optics.specs.Properties.{paraxialOf}
 use Rattle.optics.specs.Types.{flatSurface, slotIndex}

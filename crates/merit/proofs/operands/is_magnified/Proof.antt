@@ -1,5 +1,4 @@
 -- `merit::operands::is_magnified` meets its contract. Assumes nothing.
-use mathlib.Core.Path.{ap, sym, _∙_}
 use borrow.Author.Needs.{needs}
 use Rattle.merit.specs.Operands.{isMagnified}
 use Rattle.merit.proofs.operands.is_magnified.Statement.{statement}

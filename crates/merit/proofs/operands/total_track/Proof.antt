@@ -1,5 +1,5 @@
 -- `merit::operands::total_track` meets its contract. Assumes nothing.
-use mathlib.Core.Path.{_≡_, refl, ap, _∙_}
+use mathlib.Core.Path.{_≡_, refl}
 use Prim.Native.Nat.{_≤_, _-_}
 use native.Mathlib.Numerals.{add-one}
 use Rattle.optics.specs.Types.{flatSurface}

@@ -35,9 +35,9 @@ use denote.Triple.Walked.{says, Stays, gave-ref, walkOf, goes-gave-ref, ends-at}
 use Rattle.xorshift.specs.Xorshift.{stepOf}
 use Rattle.xorshift.specs.Draws.{advanced, unitOf}
 use Rattle.xorshift.specs.declared.Rng64.{Rng64}
-use Rattle.xorshift.proofs.Answered.{Callee, named}
+use Rattle.lists.proofs.Answered.{Callee, named}
 use Rattle.xorshift.proofs.Next.{Next, lent, drawn}
-use Rattle.xorshift.proofs.Proved.{proved}
+use Rattle.lists.proofs.Proved.{proved}
 use Rattle.xorshift.proofs.Rng64 as T
 use Rattle.xorshift.proofs.Rng64.next_u64.Symbol as next-def
 use Rattle.xorshift.proofs.Rng64.next_u64.Symbol.{name as #next-u64}

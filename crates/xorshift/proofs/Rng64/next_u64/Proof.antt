@@ -38,8 +38,8 @@ use denote.Triple.Walked.{says, Stays, stay-ref, walkOf, goes-ref, ends-at}
 use Rattle.xorshift.specs.Xorshift.{stepOf}
 use Rattle.xorshift.specs.Draws.{advanced}
 use Rattle.xorshift.specs.declared.Rng64.{Rng64}
-use Rattle.xorshift.proofs.Answered.{Callee, named}
-use Rattle.xorshift.proofs.Proved.{proved}
+use Rattle.lists.proofs.Answered.{Callee, named}
+use Rattle.lists.proofs.Proved.{proved}
 use Rattle.xorshift.proofs.Rng64 as T
 use Rattle.xorshift.proofs.Rng64.Laws as T′
 use Rattle.xorshift.proofs.step as step

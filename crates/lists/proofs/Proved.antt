@@ -18,7 +18,7 @@ use denote.Triple.Entry.{Args, onEntry}
 use denote.Triple.Statement.{Triple}
 use denote.Triple.Table.{entered}
 use denote.Triple.Walked.{Stays, AllGo, walkOf, walked, walk-meets}
-use Rattle.merit.proofs.Answered.{Callee}
+use Rattle.lists.proofs.Answered.{Callee}
 
 module _ {M : Type 1} (𝓤 : URA M) (H : Heap 𝓤) (𝓜 : Model 𝓤 H) (𝓖 : GhostRules 𝓤 H) (𝓡 : Running 𝓤 H 𝓜) (T : Ended) (c : Clauses 𝓤 T) (hs : Stays (T .signature .params) (T .kept)) (env : Env) (k : Name) (e : Fn) where
   pub proved : Closed 𝓤 H (tables 𝓤 H 𝓜 𝓡 env .C) (tables 𝓤 H 𝓜 𝓡 env .Λ) k e → AllGo 𝓤 H (𝓖 .A) (givenOf 𝓤 H 𝓜 𝓖) (T .signature .lifetimes) (T .signature .params) (T .kept) hs

@@ -1,0 +1,28 @@
+-- `dls::damped::resume_iterations` meets its contract: by whether there is another iteration. Assumes nothing.
+use native.Mathlib.Numerals.{add-one}
+use borrow.Author.Tests.{lt-ltb, le-ltb}
+use borrow.Author.Needs.{needs}
+use Rattle.dls.specs.DampedSteps.{iterationEntered}
+use Rattle.dls.proofs.damped.resume_iterations.Statement.{statement}
+use Rattle.dls.proofs.damped.resume_iterations.Tie as tie
+
+add-next : tie.Need-add-next
+add-next c = search needs
+
+at-plus-requires : tie.Need-at-plus-requires
+at-plus-requires c κs = search needs
+
+returns : tie.Need-returns
+unfolding iterationEntered
+returns c = rw (lt-ltb _ _ (c .before .before .before .if1 .taken)) (rw add-one at (c .at-plus .ensures))
+
+ended-requires : tie.Need-ended-requires
+ended-requires c κs = search needs
+
+returns-2 : tie.Need-returns-2
+unfolding iterationEntered
+returns-2 c = rw (le-ltb _ _ (c .before .if1 .left)) (c .ended .ensures)
+
+pub resume-iterations-spec : {M : Type 1} → statement M
+resume-iterations-spec =
+    tie.close (tie.spec add-next at-plus-requires returns ended-requires returns-2)

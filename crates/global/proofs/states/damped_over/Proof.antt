@@ -1,0 +1,10 @@
+-- `global::states::damped_over` meets its contract. Assumes nothing.
+use Rattle.global.proofs.Phases.{damped-over}
+use Rattle.global.proofs.states.damped_over.Statement.{statement}
+use Rattle.global.proofs.states.damped_over.Tie as tie
+
+returns : tie.Need-returns
+returns c = damped-over (c .args .phase)
+
+pub damped-over-spec : {M : Type 1} → statement M
+damped-over-spec = tie.close (tie.spec returns)
