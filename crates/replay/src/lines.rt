@@ -1,24 +1,15 @@
 // The lines, answered one after the other.
 ghost use Prim.Native.Nat.{_≤_};
 ghost use lib.ListN.{length};
-use crate::input;
-use crate::input::Input;
-use crate::leaf;
-use crate::leaf::Reply;
-use crate::output;
-use crate::words;
+use text::input;
+use text::input::Input;
+use text::output;
+use text::words;
 
 // How far the input is read, and how much of the output waits.
 pub(crate) struct Progress {
     pub input: Input,
     pub waiting: usize,
-}
-
-// The answer to a line that is out of form.
-fn put_unknown(out: &mut [u8], waiting: usize, number: u64) -> usize {
-    let waiting = output::put(out, waiting, b"? ");
-    let waiting = output::put_decimal(out, waiting, number);
-    output::put(out, waiting, b"\n")
 }
 
 // Answers one line. Blanks alone have no answer.
@@ -27,11 +18,19 @@ fn answer_line(out: &mut [u8], waiting: usize, line: &[u8], number: u64) -> usiz
     if w.from == w.to {
         return waiting;
     }
-    let reply = leaf::answer(line, w);
-    match reply {
-        Reply::Unknown => put_unknown(out, waiting, number),
-        _ => leaf::put_reply(out, waiting, line, reply),
+    let from = w.from;
+    let to = w.to;
+    let name = &line[from..to];
+    if check::same(name, b"J") {
+        return answers::answer_job(out, waiting, line, to, number);
     }
+    if check::same(name, b"SOLVE") {
+        return answers::answer_solve(out, waiting, line, to, number);
+    }
+    if check::same(name, b"NORMAL") {
+        return answers::answer_normal(out, waiting, line, to, number);
+    }
+    answers::answer_leaf(out, waiting, line, w, number)
 }
 
 // Answers the line that the buffer holds up to `to`.
@@ -42,7 +41,7 @@ fn answer_held(buf: &[u8], out: &mut [u8], p: Progress, to: usize) -> usize
     let input = p.input;
     let from = input.from;
     if input.is_cut {
-        return put_unknown(out, p.waiting, input.number);
+        return answers::put_unknown(out, p.waiting, input.number);
     }
     answer_line(out, p.waiting, &buf[from..to], input.number)
 }

@@ -1,0 +1,10 @@
+// Job lines, read into the types of the library; oracle/README.md has their form. Counts are kept as they stand, also past the
+// limits; of the entries, those that there is room for. What stands past the counts is what no call takes: an answer that looked
+// there would show it.
+mod lens;
+mod line;
+mod operands;
+mod sets;
+
+pub use line::JobLine;
+pub use line::read_job;

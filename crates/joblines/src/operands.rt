@@ -1,0 +1,79 @@
+// Operands.
+use merit::MeritOperand;
+use merit::OperandType;
+use text::cursor;
+use text::cursor::Cursor;
+
+// By its number: 0 focal length, 1 f-number, 2 track, 3 back focus, 4 magnification, 5 least and 6 greatest centre thickness.
+fn operand_type(number: u64, at: usize, limit: f64) -> OperandType {
+    match number {
+        0 => OperandType::EffectiveFocalLength(at),
+        1 => OperandType::WorkingFNumber(at),
+        2 => OperandType::TotalTrack,
+        3 => OperandType::BackFocalLength(at),
+        4 => OperandType::ParaxialMagnification(at),
+        5 => OperandType::MinCenterThickness {
+            surface_index: at,
+            min_thickness_mm: limit,
+        },
+        _ => OperandType::MaxCenterThickness {
+            surface_index: at,
+            max_thickness_mm: limit,
+        },
+    }
+}
+
+pub struct OperandRead {
+    pub operand: MeritOperand,
+    pub next: Cursor,
+}
+
+// kind at limit target weight
+fn read_operand(line: &[u8], c: Cursor) -> OperandRead {
+    let number = cursor::decimal(line, c);
+    let at = cursor::decimal(line, number.next);
+    let limit = cursor::float(line, at.next);
+    let target = cursor::float(line, limit.next);
+    let weight = cursor::float(line, target.next);
+    let kind = operand_type(number.value, at.value as usize, limit.value);
+    let operand = MeritOperand {
+        operand_type: kind,
+        target: target.value,
+        weight: weight.value,
+    };
+    let next = cursor::required(weight.next, number.value < 7);
+    OperandRead {
+        operand: operand,
+        next: next,
+    }
+}
+
+pub struct OperandsRead {
+    pub operands: [MeritOperand; 12],
+    pub next: Cursor,
+}
+
+// So many operands, of which the first twelve are kept.
+pub fn read_operands(line: &[u8], c: Cursor, count: usize) -> OperandsRead {
+    let none = MeritOperand {
+        operand_type: OperandType::EffectiveFocalLength(usize::MAX),
+        target: 0.0 / 0.0,
+        weight: 0.0 / 0.0,
+    };
+    let mut operands = [none; 12];
+    let mut next = c;
+    let mut i = 0;
+    while i < count && next.is_good {
+        let r = read_operand(line, next);
+        if i < 12 {
+            let o = r.operand;
+            operands[i] = o;
+        }
+        next = r.next;
+        i += 1;
+    }
+    OperandsRead {
+        operands: operands,
+        next: next,
+    }
+}

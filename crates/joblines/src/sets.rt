@@ -1,0 +1,75 @@
+// Variables.
+use text::cursor;
+use text::cursor::Cursor;
+use variables::VariableDef;
+use variables::VariableType;
+
+// By its number: 0 curvature, 1 thickness, 2 conic, 3 semi-diameter.
+fn variable_type(number: u64, surface: usize) -> VariableType {
+    match number {
+        0 => VariableType::Curvature(surface),
+        1 => VariableType::Thickness(surface),
+        2 => VariableType::Conic(surface),
+        _ => VariableType::SemiDiameter(surface),
+    }
+}
+
+pub struct VariableRead {
+    pub variable: VariableDef,
+    pub next: Cursor,
+}
+
+// type surface enabled lo hi step
+fn read_variable(line: &[u8], c: Cursor) -> VariableRead {
+    let number = cursor::decimal(line, c);
+    let surface = cursor::decimal(line, number.next);
+    let enabled = cursor::decimal(line, surface.next);
+    let lo = cursor::float(line, enabled.next);
+    let hi = cursor::float(line, lo.next);
+    let step = cursor::float(line, hi.next);
+    let kind = variable_type(number.value, surface.value as usize);
+    let variable = VariableDef {
+        var_type: kind,
+        min_value: lo.value,
+        max_value: hi.value,
+        step_size: step.value,
+        enabled: enabled.value == 1,
+    };
+    let next = cursor::required(step.next, number.value < 4 && enabled.value < 2);
+    VariableRead {
+        variable: variable,
+        next: next,
+    }
+}
+
+pub struct VariablesRead {
+    pub variables: [VariableDef; 8],
+    pub next: Cursor,
+}
+
+// So many variables, of which the first eight are kept.
+pub fn read_variables(line: &[u8], c: Cursor, count: usize) -> VariablesRead {
+    let none = VariableDef {
+        var_type: VariableType::Curvature(usize::MAX),
+        min_value: 0.0 / 0.0,
+        max_value: 0.0 / 0.0,
+        step_size: 0.0 / 0.0,
+        enabled: true,
+    };
+    let mut variables = [none; 8];
+    let mut next = c;
+    let mut i = 0;
+    while i < count && next.is_good {
+        let r = read_variable(line, next);
+        if i < 8 {
+            let v = r.variable;
+            variables[i] = v;
+        }
+        next = r.next;
+        i += 1;
+    }
+    VariablesRead {
+        variables: variables,
+        next: next,
+    }
+}

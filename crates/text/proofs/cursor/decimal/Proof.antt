@@ -1,0 +1,18 @@
+-- `text::cursor::decimal` meets its contract. Assumes nothing.
+use mathlib.Core.Path.{ap, _∙_}
+use borrow.Author.Needs.{needs}
+use Rattle.text.specs.Cursor.{numberRead}
+use Rattle.text.proofs.cursor.decimal.Statement.{statement}
+use Rattle.text.proofs.cursor.decimal.Tie as tie
+
+decimal-field-requires : tie.Need-decimal-field-requires
+decimal-field-requires c κs = search needs
+
+number-read-requires : tie.Need-number-read-requires
+number-read-requires c κs = search needs
+
+returns : tie.Need-returns
+returns c = c .number-read .ensures ∙ ap (numberRead (c .before .before .before .args .c)) (c .before .decimal-field .ensures)
+
+pub decimal-spec : {M : Type 1} → statement M
+decimal-spec = tie.close (tie.spec decimal-field-requires number-read-requires returns)

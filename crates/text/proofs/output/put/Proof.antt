@@ -1,0 +1,122 @@
+-- `text::output::put` meets its contract. Assumes nothing.
+use Prim.Native.Nat.{ℕ, _+_, _≤_, _<_}
+use mathlib.Core.Path.{_≡_, sym, _∙_}
+use mathlib.Core.List.{List, [], _++_, append-assoc}
+use native.Mathlib.Omega.{arith}
+use denote.Ref.{now}
+use lib.ListN.{length, take, length-append}
+use lib.Seq.{length-take-le, take-length, take-at}
+use borrow.Author.Needs.{needs}
+use borrow.Author.Tests.{le-leb, lt-leb}
+use Rattle.text.specs.Output.{added}
+use Rattle.text.proofs.output.put.Statement.{statement}
+use Rattle.text.proofs.output.put.Tie as tie
+
+module _ (waiting : ℕ) (out text : List ℕ) where
+  too-long : length out < length text → added waiting out text ≡ []
+  unfolding added
+  too-long h = simp (lt-leb (waiting + length text) (length out) (omega arith), lt-leb (length text) (length out) h)
+
+  alone : length text ≤ length out → length out < waiting + length text → added waiting out text ≡ text
+  unfolding added
+  alone h k = simp (lt-leb (waiting + length text) (length out) k, le-leb (length text) (length out) h)
+
+  beside : waiting + length text ≤ length out → added waiting out text ≡ take waiting out ++ text
+  unfolding added
+  beside h = simp (le-leb (waiting + length text) (length out) h)
+
+-- a part that a copy of the text went to the start of, whatever follows
+module _ (text rest part : List ℕ) (n : ℕ) (copied : part ≡ take (length text) text ++ rest) (all : n ≡ length text) where
+  put-front : take n part ≡ text
+  put-front = rw (copied, take-length text) (take-at text rest n (sym all))
+
+  -- and with what stands before the part
+  put-after : (head tail : List ℕ) (w : ℕ) → length head ≡ w → take (w + n) (head ++ (part ++ tail)) ≡ head ++ text
+  put-after head tail w h =
+      let joined : head ++ ((text ++ rest) ++ tail) ≡ (head ++ text) ++ (rest ++ tail) = simp append-assoc in
+      rw (copied, take-length text, joined) (take-at (head ++ text) (rest ++ tail) (w + n) (simp length-append (omega arith)))
+
+flush-requires : tie.Need-flush-requires
+flush-requires c κs = search needs
+
+write-all-requires : tie.Need-write-all-requires
+write-all-requires c κs = search needs
+
+same-length : tie.Need-same-length
+same-length c = search needs
+
+returns : tie.Need-returns
+returns c =
+    let a = c .before .before .before .before .before .before .args in
+    (search needs, sym (too-long (a .waiting) (now (a .out)) (now (a .text)) (omega arith)))
+
+sub-if2 : tie.Need-sub-if2
+sub-if2 c = search needs
+
+flush-requires-2 : tie.Need-flush-requires-2
+flush-requires-2 c κs = search needs
+
+copy-requires : tie.Need-copy-requires
+copy-requires c κs = search needs
+
+same-length-2 : tie.Need-same-length-2
+same-length-2 c = search needs
+
+returns-2 : tie.Need-returns-2
+returns-2 c =
+    let a = c .before .before .before .before .before .before .before .before .before .before .args in
+    let k = c .before .before .copy in (
+      search needs,
+      put-front (now (a .text)) _ _ (k .result) (k .ensures .1) (k .ensures .0)
+          ∙ sym (alone (a .waiting) (now (a .out)) (now (a .text)) (omega arith) (omega arith)),
+    )
+
+sub-copy : tie.Need-sub-copy
+sub-copy c = search needs
+
+part-copy-start : tie.Need-part-copy-start
+part-copy-start c = search needs
+
+part-copy-end : tie.Need-part-copy-end
+part-copy-end c = search needs
+
+copy-requires-2 : tie.Need-copy-requires-2
+copy-requires-2 c κs = search needs
+
+add-result : tie.Need-add-result
+add-result c = search needs
+
+same-length-3 : tie.Need-same-length-3
+same-length-3 c = search needs
+
+returns-3 : tie.Need-returns-3
+returns-3 c =
+    let a = c .before .before .before .before .before .before .before .before .args in
+    let k = c .before .before .copy2 in
+    let w = a .waiting in (
+      search needs,
+      put-after (now (a .text)) _ _ (k .result) (k .ensures .1) (k .ensures .0)
+          (take w (now (a .out))) _ w (length-take-le w (now (a .out)) (omega arith))
+          ∙ sym (beside w (now (a .out)) (now (a .text)) (omega arith)),
+    )
+
+pub put-spec : {M : Type 1} → statement M
+put-spec =
+    tie.close
+    (tie.spec
+    flush-requires
+    write-all-requires
+    same-length
+    returns
+    sub-if2
+    flush-requires-2
+    copy-requires
+    same-length-2
+    returns-2
+    sub-copy
+    part-copy-start
+    part-copy-end
+    copy-requires-2
+    add-result
+    same-length-3
+    returns-3)

@@ -1,0 +1,31 @@
+-- A line read field by field. Definitions only.
+use mathlib.Core.Bool.{Bool, false, cond}
+use mathlib.Core.List.{List}
+use Prim.Native.Nat.{ℕ}
+use lib.Ieee.{ofBits, binary64}
+use Rattle.text.specs.declared.cursor.Cursor.{Cursor}
+use Rattle.text.specs.declared.cursor.NumberRead.{NumberRead}
+use Rattle.text.specs.declared.cursor.FloatRead.{FloatRead}
+use Rattle.text.specs.declared.fields.NumberField as number-field
+use Rattle.text.specs.declared.fields.FloatField as float-field
+use Rattle.text.specs.Words.{noneLeft}
+
+-- moved on, and with the mark that a field out of form leaves for good
+abbrev pub movedTo : ℕ → Cursor → Cursor
+movedTo to c = record { at = to; «is_good» = c .«is_good» }
+
+abbrev pub spoiltFrom : Cursor → Cursor
+spoiltFrom c = record { at = c .at; «is_good» = false }
+
+-- what a field gives to a cursor that stands before it
+abbrev pub numberRead : Cursor → number-field.NumberField → NumberRead
+numberRead c (number-field.the-variants.Is x to) = record { value = x; next = movedTo to c }
+numberRead c number-field.the-variants.Bad = record { value = 0; next = spoiltFrom c }
+
+abbrev pub floatRead : Cursor → float-field.FloatField → FloatRead
+floatRead c (float-field.the-variants.Is x to) = record { value = x; next = movedTo to c }
+floatRead c float-field.the-variants.Bad = record { value = ofBits binary64 0; next = spoiltFrom c }
+
+-- all fields were in form, and no word is left
+abbrev pub doneWith : List ℕ → Cursor → Bool
+doneWith line c = cond (c .«is_good») (noneLeft line (c .at)) false
