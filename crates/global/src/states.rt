@@ -4,7 +4,7 @@ ghost use Prim.Native.Nat.{_≤_};
 ghost use Rattle.jobs.specs.Records.{kindOf};
 ghost use Rattle.runs.specs.DampedRow as Damped;
 ghost use Rattle.runs.specs.AnnealingRow as Annealing;
-ghost use Rattle.runs.specs.State.{rowOf, stateOf, alone};
+ghost use Rattle.runs.specs.State.{rowOf, stateOf, alone, withDamped};
 ghost use Rattle.runs.specs.Rows as Rows;
 ghost use Rattle.runs.specs.AnnealingRun.{Annealer, withPrior};
 ghost use Rattle.global.specs.Parts.{InPhase, StateInPhase, inState};
@@ -32,16 +32,38 @@ pub fn with_state(
 ) -> Row
     ensures { λ r. ⌜ r ≡ inState row (record { damped = damped; best = best; generator = generator; trial = trial; cycle = cycle; step = step; temperature = temperature; currentMerit = «current_merit» }) ⌝ }
 {
-    let mut r = row;
-    r.damped = damped;
-    r.best = best;
-    r.generator = generator;
-    r.trial = trial;
-    r.cycle = cycle;
-    r.step = step;
-    r.temperature = temperature;
-    r.current_merit = current_merit;
-    r
+    let job = row.job;
+    Row {
+        job: job,
+        damped: damped,
+        best: best,
+        kind: row.kind,
+        turns: row.turns,
+        generator: generator,
+        trial: trial,
+        cycle: cycle,
+        step: step,
+        temperature: temperature,
+        current_merit: current_merit,
+    }
+}
+
+// The row with another damped part.
+pub fn with_damped(row: Row, damped: DampedState) -> Row
+    ensures { λ r. ⌜ r ≡ inState row (withDamped (stateOf row) damped) ⌝ }
+{
+    let best = row.best;
+    with_state(
+        row,
+        damped,
+        best,
+        row.generator,
+        row.trial,
+        row.cycle,
+        row.step,
+        row.temperature,
+        row.current_merit,
+    )
 }
 
 // A row with no turn taken, whose state has the damped part alone.

@@ -115,7 +115,5 @@ pub fn resume_damped(
         let best = merged(row.trial, before, result);
         return resume_trials(variables, base, num_trials, row, best);
     }
-    let mut next = row;
-    next.damped = damped;
-    next
+    states::with_damped(row, damped)
 }

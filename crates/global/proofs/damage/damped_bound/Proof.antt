@@ -1,13 +1,10 @@
 -- `global::damage::damped_bound` meets its contract. Assumes nothing.
-use Prim.Native.Nat.{ℕ, _+_, _*_, _≤_}
 use native.Mathlib.Nat.{mul-le-mul}
 use native.Mathlib.Omega.{arith}
 use borrow.Author.Needs.{needs}
+use Rattle.global.proofs.Bounds.{iteration-le}
 use Rattle.global.proofs.damage.damped_bound.Statement.{statement}
 use Rattle.global.proofs.damage.damped_bound.Tie as tie
-
-two : (p : ℕ) → p ≤ 8 → 2 * p + 10 ≤ 26
-two p h = omega arith
 
 mul-result : tie.Need-mul-result
 mul-result c = search needs
@@ -16,10 +13,10 @@ add-result : tie.Need-add-result
 add-result c = search needs
 
 mul-result-2 : tie.Need-mul-result-2
-mul-result-2 c = omega (arith, mul-le-mul (c .pre .0) (two (c .args .p) (c .pre .1)))
+mul-result-2 c = omega (arith, mul-le-mul (c .pre .0) (iteration-le (c .args .p) (c .pre .1)))
 
 add-result-2 : tie.Need-add-result-2
-add-result-2 c = omega (arith, mul-le-mul (c .pre .0) (two (c .args .p) (c .pre .1)))
+add-result-2 c = omega (arith, mul-le-mul (c .pre .0) (iteration-le (c .args .p) (c .pre .1)))
 
 returns : tie.Need-returns
 returns c = search needs

@@ -4,11 +4,9 @@ use mathlib.Core.Path.{ap}
 use native.Mathlib.Nat.{mul-le-mul}
 use native.Mathlib.Omega.{arith}
 use borrow.Author.Needs.{needs}
+use Rattle.global.proofs.Bounds.{iteration-le}
 use Rattle.global.proofs.damage.multi_start_bound.Statement.{statement}
 use Rattle.global.proofs.damage.multi_start_bound.Tie as tie
-
-two : (p : ℕ) → p ≤ 8 → 2 * p + 10 ≤ 26
-two p h = omega arith
 
 add-result : tie.Need-add-result
 add-result c = search needs
@@ -18,7 +16,7 @@ damped-bound-requires c κs = search needs
 
 mul-result : tie.Need-mul-result
 mul-result c =
-    let inner = mul-le-mul (c .before .pre .1) (two (c .before .args .p) (c .before .pre .2)) in
+    let inner = mul-le-mul (c .before .pre .1) (iteration-le (c .before .args .p) (c .before .pre .2)) in
     let trials : 1 + c .before .args .trials ≤ 1001 = omega arith in
     let each : c .damped-bound .result ≤ 26001 = omega (arith, c .damped-bound .ensures, inner) in
     omega (arith, mul-le-mul trials each)

@@ -24,9 +24,12 @@ unfolding resumeDamped
 returns c =
     λ o ev. c .resume-trials .ensures o ev ∙ simp (sym (c .before .before .before .before .before .damped-over .ensures (c .before .before .before .before .before .before .args .damped) refl) ∙ c .before .before .before .before .if1 .taken, c .before .merged .ensures, c .before .before .before .damped-result .ensures)
 
+with-damped-requires : tie.Need-with-damped-requires
+with-damped-requires c κs = search needs
+
 returns-2 : tie.Need-returns-2
 unfolding resumeDamped
-returns-2 c = λ o ev. simp (sym (c .before .damped-over .ensures (c .before .before .args .damped) refl) ∙ c .if1 .left)
+returns-2 c = λ o ev. c .with-damped .ensures ∙ simp (sym (c .before .before .damped-over .ensures (c .before .before .before .args .damped) refl) ∙ c .before .if1 .left)
 
 pub resume-damped-spec : {M : Type 1} → statement M
 resume-damped-spec =
@@ -37,4 +40,5 @@ resume-damped-spec =
     merged-requires
     resume-trials-requires
     returns
+    with-damped-requires
     returns-2)
