@@ -19,7 +19,8 @@ use Rattle.bench.specs.Admission.{passed-request, admissible}
 use Rattle.bench.specs.Book.{Call, admit, turn, fetch, release, listing, number, fetched, listed, fetchedUnless, placesWhere, Entry, empty, holds, Book, entryAt, withEntry, isEmpty, isFinished, resultOf, counted, bookAnswer, bookStep}
 use Rattle.bench.specs.Book as Book
 use Rattle.bench.specs.Benches.{zeroRow, noRow, rowAt, withRow}
-use Rattle.bench.specs.Calls.{isVacant, turnedRow, benchAnswer, benchStep}
+use Rattle.runs.specs.Turn.{turned}
+use Rattle.bench.specs.Calls.{isVacant, benchAnswer, benchStep}
 use Rattle.bench.specs.Calls as Calls
 use Rattle.bench.specs.Pairs.{Pairs, pair-getD, pair-at, pair-set, pair-map}
 use Rattle.bench.specs.Places.{Kept, Alike, alike, alike-past, kept-admitted, kept-turned}
@@ -106,11 +107,11 @@ module _ (b : Bench) (k : Book) (a : Agree b k) where
   unless m zero b′ k′ e h = subst (λ (m : ℕ). Agree (unlessRefused m b′ b) k′) (sym e) (h refl)
   unless m (suc n) b′ k′ e h = subst (λ (m : ℕ). Agree (unlessRefused m b′ b) k) (sym e) a
 
-  turned-kept : (r : Row) (e : Entry) → Kept r e → isEmpty e ≡ false → Rows.isFinished r ≡ false → Kept (turnedRow r) (counted e)
+  turned-kept : (r : Row) (e : Entry) → Kept r e → isEmpty e ≡ false → Rows.isFinished r ≡ false → Kept (turned r) (counted e)
   turned-kept r empty h t u = absurd (false≢true (sym t))
   turned-kept r (holds job count) h t u = kept-turned r job count u h
 
-  turn-done : (place n : ℕ) → Book.turnNumber k place n ≡ 0 → Kept (turnedRow (rowAt b place)) (counted (entryAt k place))
+  turn-done : (place n : ℕ) → Book.turnNumber k place n ≡ 0 → Kept (turned (rowAt b place)) (counted (entryAt k place))
   turn-done place n e =
       let m = answers-none (Book.turnRefusals k place n) tt .0 e in
       turned-kept (rowAt b place) (entryAt k place) (kept-at place (ltb-true place 4 (not-false (ltb place 4) (m .0)))) (m .1 .1 .0) (alike-at place .finished (m .1 .1 .0) ∙ m .1 .1 .1 .0)

@@ -13,10 +13,10 @@ use Rattle.normal.specs.Layout.{scratchLength}
 use Rattle.jobs.specs.declared.types.JobRequest.{JobRequest}
 use Rattle.jobs.specs.Kept.{jobFrom}
 use Rattle.runs.specs.JobRun.{Result}
-use Rattle.runs.specs.Rows.{jobOfRow, admitted, pendingSurfaces, advance, isFinished, resultOf}
+use Rattle.runs.specs.Rows.{admitted, isFinished, resultOf}
 use Rattle.runs.specs.Damage.{damaged}
 use Rattle.runs.specs.declared.types.Row.{Row}
-use Rattle.runs.specs.Turn.{evaluateOf}
+use Rattle.runs.specs.Turn.{turned}
 use Rattle.bench.specs.Refusals.{noPlace, scratchShort, admitRefusals}
 use Rattle.bench.specs.Book.{Call, admit, turn, fetch, release, listing, Answer, number, listed, fetchedUnless, placesWhere}
 use Rattle.bench.specs.Benches.{zeroRow, rowAt, withRow}
@@ -50,12 +50,9 @@ turnRefusals b place length =
 unfoldable pub turnNumber : Bench → (place length : ℕ) → ℕ
 turnNumber b place length = firstRefusal (turnRefusals b place length)
 
--- "A turn works out one merit": that of the pending surfaces
-unfoldable pub turnedRow : Row → Row
-turnedRow r = advance r (evaluateOf (jobOfRow r) (pendingSurfaces r))
-
+-- "A turn works out one merit": `turned`
 abbrev pub turnedBench : Bench → (place length : ℕ) → Bench
-turnedBench b place length = unlessRefused (turnNumber b place length) (withRow b place (turnedRow (rowAt b place))) b
+turnedBench b place length = unlessRefused (turnNumber b place length) (withRow b place (turned (rowAt b place))) b
 
 -- "A turn uses the first 256 f64 of scratch, left all +0.0; the rest is untouched."
 abbrev pub scratchAfter : Bench → (place : ℕ) → List Float → List Float

@@ -19,11 +19,11 @@ use Rattle.runs.specs.Damage.{damaged}
 use Rattle.runs.specs.RowLaws.{resumption-done, kind-admitted, kind-advance, turns-admitted, turns-advance}
 use Rattle.runs.specs.Turned.{turnedUnless, rowAfter, reached, row-stands, finished-done, job-after}
 use Rattle.runs.specs.DamageLaws.{never-damaged}
-use Rattle.runs.specs.Turn.{evaluateOf}
+use Rattle.runs.specs.Turn.{evaluateOf, turned}
 use Rattle.bench.specs.Admission.{Admissible, kinds-known, usable}
 use Rattle.bench.specs.Book.{Entry, empty, holds, isEmpty, isFinished, resultOf}
 use Rattle.bench.specs.Benches.{zeroRow, noRow}
-use Rattle.bench.specs.Calls.{isVacant, turnedRow}
+use Rattle.bench.specs.Calls.{isVacant}
 
 -- ---- what holds after every list of calls: the row is the job's after as many turns
 pub record Holding (r : Row) (job : Job) (count : ℕ) : Type 0 where
@@ -85,15 +85,15 @@ pub kept-admitted : (job : Job) → Admissible job → Kept (admitted job) (hold
 unfolding rowAfter
 kept-admitted job a = record { admissible = a; row = refl; turns = turns-admitted job }
 
-pub kept-turned : (r : Row) (job : Job) (count : ℕ) → Rows.isFinished r ≡ false → Holding r job count → Holding (turnedRow r) job (suc count)
-unfolding rowAfter turnedUnless turnedRow
-kept-turned r job count u k = record { admissible = k .admissible; row = turned; turns = turns-advance r _ ∙ ap suc (k .turns) }
+pub kept-turned : (r : Row) (job : Job) (count : ℕ) → Rows.isFinished r ≡ false → Holding r job count → Holding (turned r) job (suc count)
+unfolding rowAfter turnedUnless turned
+kept-turned r job count u k = record { admissible = k .admissible; row = same-row; turns = turns-advance r _ ∙ ap suc (k .turns) }
   where
     same-job : jobOfRow r ≡ job
     same-job = ap jobOfRow (k .row) ∙ job-after (evaluateOf job) job (k .admissible .back) count
 
-    turned : turnedRow r ≡ rowAfter (evaluateOf job) (suc count) job
-    turned =
+    same-row : turned r ≡ rowAfter (evaluateOf job) (suc count) job
+    same-row =
         ap (λ (j : Job). advance r (evaluateOf j (pendingSurfaces r))) same-job
         ∙ ap (λ (x : Row). advance x (evaluateOf job (pendingSurfaces x))) (k .row)
         ∙ sym (ap (λ (b : Bool). turnedUnless (evaluateOf job) b (rowAfter (evaluateOf job) count job)) (sym (ap Rows.isFinished (k .row)) ∙ u))

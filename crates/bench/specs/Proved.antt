@@ -33,11 +33,11 @@ use Rattle.runs.specs.Turned.{turnedUnless, rowAfter, row-stands, job-after, un
 use Rattle.runs.specs.Zeros.{zeroResult}
 use Rattle.runs.specs.declared.types.Row.{Row}
 use Rattle.bench.specs.declared.types.Bench.{Bench}
-use Rattle.runs.specs.Turn.{evaluateOf}
+use Rattle.runs.specs.Turn.{evaluateOf, turned}
 use Rattle.bench.specs.Book.{Call, admit, turn, fetch, release, listing, Answer, number, fetched, listed, fetchedUnless, Entry, empty, holds, Book, emptyBook, entryAt, isEmpty, isFinished, resultOf, runAfter, leftBy, answersBy, bookAnswer, bookStep, bookAfter}
 use Rattle.bench.specs.Book as Book
 use Rattle.bench.specs.Benches.{zeroRow, noRow, emptyBench, rowAt, withRow}
-use Rattle.bench.specs.Calls.{isVacant, turnedRow, turnNumber, benchAnswer, benchStep}
+use Rattle.bench.specs.Calls.{isVacant, turnNumber, benchAnswer, benchStep}
 use Rattle.bench.specs.Calls as Calls
 use Rattle.bench.specs.CallLaws.{stays}
 use Rattle.bench.specs.Pairs.{Pairs, none, both, pair-getD, pair-map}
@@ -114,15 +114,15 @@ same-jobs a b e =
 
 -- ---- one call on any bench
 one-merit : (b : Bench) (place n : ℕ) → turnNumber b place n ≡ 0 → benchStep b (turn place n) ≡ withRow b place (Rows.advance (rowAt b place) (evaluateOf (jobOfRow (rowAt b place)) (pendingSurfaces (rowAt b place))))
-unfolding benchStep turnedRow
-one-merit b place n e = ap (λ (m : ℕ). unlessRefused m (withRow b place (turnedRow (rowAt b place))) b) e
+unfolding benchStep turned
+one-merit b place n e = ap (λ (m : ℕ). unlessRefused m (withRow b place (turned (rowAt b place))) b) e
 
 other-rows : (b : Bench) (place n other : ℕ) → other ≢ place → rowAt (benchStep b (turn place n)) other ≡ rowAt b other
 unfolding benchStep
 other-rows b place n other h = go (turnNumber b place n)
   where
-    go : (m : ℕ) → rowAt (unlessRefused m (withRow b place (turnedRow (rowAt b place))) b) other ≡ rowAt b other
-    go zero = getD-set-other (b .rows) place other (turnedRow (rowAt b place)) noRow h
+    go : (m : ℕ) → rowAt (unlessRefused m (withRow b place (turned (rowAt b place))) b) other ≡ rowAt b other
+    go zero = getD-set-other (b .rows) place other (turned (rowAt b place)) noRow h
     go (suc m) = refl
 
 numberIn : Answer → ℕ
@@ -133,7 +133,7 @@ numberIn (listed l) = 0
 refused-changes-nothing : (b : Bench) (c : Call) (n : ℕ) → benchAnswer b c ≡ number (suc n) → benchStep b c ≡ b
 unfolding benchAnswer benchStep numberIn
 refused-changes-nothing b (admit place r) n e = stays (Calls.admitNumber b place r) n (withRow b place (Rows.admitted (jobFrom r))) b (ap numberIn e)
-refused-changes-nothing b (turn place l) n e = stays (turnNumber b place l) n (withRow b place (turnedRow (rowAt b place))) b (ap numberIn e)
+refused-changes-nothing b (turn place l) n e = stays (turnNumber b place l) n (withRow b place (turned (rowAt b place))) b (ap numberIn e)
 refused-changes-nothing b (fetch place) n e = refl
 refused-changes-nothing b (release place) n e = stays (Calls.releaseNumber b place) n (withRow b place zeroRow) b (ap numberIn e)
 refused-changes-nothing b listing n e = refl
