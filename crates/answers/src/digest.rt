@@ -42,7 +42,7 @@ fn with_word(hash: u64, x: u64) -> u64
 }
 
 // A float more.
-pub fn with_float(hash: u64, x: f64) -> u64
+pub(crate) fn with_float(hash: u64, x: f64) -> u64
     ensures { λ r. ⌜ r ≡ withFloat hash x ⌝ }
 {
     with_word(hash, numbers::bits_of(x))
@@ -58,7 +58,7 @@ fn with_surface(hash: u64, s: OpticalSurface) -> u64
 }
 
 // The first `count` surfaces more.
-pub fn with_surfaces(hash: u64, surfaces: [OpticalSurface; 16], count: usize) -> u64
+pub(crate) fn with_surfaces(hash: u64, surfaces: [OpticalSurface; 16], count: usize) -> u64
     ensures { λ r. ⌜ r ≡ withSurfaces hash surfaces (min count 16) ⌝ }
 {
     let n = least(count, 16);

@@ -13,7 +13,7 @@ use text::output;
 use text::words::Word;
 
 // Kind 4 has no settings.
-pub fn evaluate(
+pub(crate) fn evaluate(
     out: &mut [u8],
     waiting: usize,
     line: &[u8],

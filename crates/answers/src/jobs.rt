@@ -24,7 +24,7 @@ pub fn answer_job(out: &mut [u8], waiting: usize, line: &[u8], at: usize, number
 }
 
 // R id
-pub fn put_head(out: &mut [u8], waiting: usize, line: &[u8], id: Word) -> usize
+pub(crate) fn put_head(out: &mut [u8], waiting: usize, line: &[u8], id: Word) -> usize
     requires { ⌜ id .from ≤ id .to ⌝ }
     requires { ⌜ id .to ≤ length (now line) ⌝ }
 {
@@ -34,7 +34,7 @@ pub fn put_head(out: &mut [u8], waiting: usize, line: &[u8], id: Word) -> usize
     output::put(out, waiting, &line[from..to])
 }
 
-pub fn put_refused(out: &mut [u8], waiting: usize, number: u32) -> usize {
+pub(crate) fn put_refused(out: &mut [u8], waiting: usize, number: u32) -> usize {
     let waiting = output::put(out, waiting, b" refused ");
     let waiting = output::put_decimal(out, waiting, number as u64);
     output::put(out, waiting, b"\n")

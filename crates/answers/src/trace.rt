@@ -14,7 +14,7 @@ use text::output;
 use text::words::Word;
 
 // Kind 5 has a slot as its setting.
-pub fn trace(
+pub(crate) fn trace(
     out: &mut [u8],
     waiting: usize,
     line: &[u8],

@@ -33,7 +33,7 @@ pub struct SurfacesRead {
 }
 
 // So many surfaces, of which the first 16 are kept. Where the line is out of form nothing more is read.
-pub fn read_surfaces(line: &[u8], c: Cursor, count: usize) -> SurfacesRead {
+pub(crate) fn read_surfaces(line: &[u8], c: Cursor, count: usize) -> SurfacesRead {
     let none = OpticalSurface {
         radius_mm: 0.0 / 0.0,
         conic_constant: 0.0 / 0.0,
@@ -81,7 +81,7 @@ fn read_row(line: &[u8], c: Cursor, indices: &mut [f64; 64], i: usize, slots: us
 }
 
 // The indices of so many surfaces.
-pub fn read_indices(
+pub(crate) fn read_indices(
     line: &[u8],
     c: Cursor,
     indices: &mut [f64; 64],

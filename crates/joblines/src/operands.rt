@@ -54,7 +54,7 @@ pub struct OperandsRead {
 }
 
 // So many operands, of which the first twelve are kept.
-pub fn read_operands(line: &[u8], c: Cursor, count: usize) -> OperandsRead {
+pub(crate) fn read_operands(line: &[u8], c: Cursor, count: usize) -> OperandsRead {
     let none = MeritOperand {
         operand_type: OperandType::EffectiveFocalLength(usize::MAX),
         target: 0.0 / 0.0,

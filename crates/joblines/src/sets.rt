@@ -48,7 +48,7 @@ pub struct VariablesRead {
 }
 
 // So many variables, of which the first eight are kept.
-pub fn read_variables(line: &[u8], c: Cursor, count: usize) -> VariablesRead {
+pub(crate) fn read_variables(line: &[u8], c: Cursor, count: usize) -> VariablesRead {
     let none = VariableDef {
         var_type: VariableType::Curvature(usize::MAX),
         min_value: 0.0 / 0.0,

@@ -1,14 +1,16 @@
 -- A line read field by field. Definitions only.
 use mathlib.Core.Bool.{Bool, false, cond}
 use mathlib.Core.List.{List}
-use Prim.Native.Nat.{ℕ}
-use lib.Ieee.{ofBits, binary64}
+use mathlib.Core.Path.{_≡_}
+use Prim.Native.Nat.{ℕ, zero, suc}
+use lib.Ieee.{Float, ofBits, binary64}
 use Rattle.text.specs.declared.cursor.Cursor.{Cursor}
 use Rattle.text.specs.declared.cursor.NumberRead.{NumberRead}
 use Rattle.text.specs.declared.cursor.FloatRead.{FloatRead}
 use Rattle.text.specs.declared.fields.NumberField as number-field
 use Rattle.text.specs.declared.fields.FloatField as float-field
-use Rattle.text.specs.Words.{noneLeft}
+use Rattle.text.specs.Fields.{textOf, numberField, floatOf}
+use Rattle.text.specs.Words.{wordFrom, noneLeft}
 
 -- moved on, and with the mark that a field out of form leaves for good
 abbrev pub movedTo : ℕ → Cursor → Cursor
@@ -25,6 +27,24 @@ numberRead c number-field.the-variants.Bad = record { value = 0; next = spoiltFr
 abbrev pub floatRead : Cursor → float-field.FloatField → FloatRead
 floatRead c (float-field.the-variants.Is x to) = record { value = x; next = movedTo to c }
 floatRead c float-field.the-variants.Bad = record { value = ofBits binary64 0; next = spoiltFrom c }
+
+-- a float, by its bits in hexadecimal, from where a cursor stands
+abbrev pub floatFrom : List ℕ → Cursor → FloatRead
+floatFrom line c = floatRead c (floatOf (numberField 16 line (c .at)))
+
+-- n floats further on
+unfoldable pub pastFloats : List ℕ → Cursor → ℕ → Cursor
+pastFloats line c zero = c
+pastFloats line c (suc n) = floatFrom line (pastFloats line c n) .next
+
+-- float i of those from the cursor on
+abbrev pub floatAt : List ℕ → Cursor → ℕ → Float
+floatAt line c i = floatFrom line (pastFloats line c i) .value
+
+-- past the next word where it is this one, and spoilt where it is another
+pub record PastTag (line : List ℕ) (c : Cursor) (name : List ℕ) (after : Cursor) : Type 0 where
+  pub same : textOf line (wordFrom line (c .at)) ≡ name → after ≡ movedTo (wordFrom line (c .at) .to) c
+  pub other : (textOf line (wordFrom line (c .at)) ≡ name → ⊥) → after ≡ spoiltFrom c
 
 -- all fields were in form, and no word is left
 abbrev pub doneWith : List ℕ → Cursor → Bool

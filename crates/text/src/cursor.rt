@@ -3,9 +3,11 @@
 ghost use mathlib.Core.Path.{_≡_};
 ghost use mathlib.Core.Bool.{true, cond};
 ghost use Prim.Native.Nat.{_≤_};
-ghost use lib.ListN.{length};
-ghost use Rattle.text.specs.Fields.{numberField, floatOf};
-ghost use Rattle.text.specs.Cursor.{movedTo, spoiltFrom, numberRead, floatRead, doneWith};
+ghost use mathlib.Core.List.{_++_};
+ghost use lib.ListN.{length, drop};
+ghost use Rattle.lists.specs.Tab.{tab};
+ghost use Rattle.text.specs.Fields.{numberField};
+ghost use Rattle.text.specs.Cursor.{movedTo, spoiltFrom, numberRead, floatRead, floatFrom, pastFloats, floatAt, PastTag, doneWith};
 use crate::fields;
 use crate::fields::FloatField;
 use crate::fields::NumberField;
@@ -109,7 +111,7 @@ pub fn decimal(line: &[u8], c: Cursor) -> NumberRead
 }
 
 pub fn float(line: &[u8], c: Cursor) -> FloatRead
-    ensures { λ r. ⌜ r ≡ floatRead c (floatOf (numberField 16 (now (line .entry)) (c .at))) ⌝ }
+    ensures { λ r. ⌜ r ≡ floatFrom (now (line .entry)) c ⌝ }
 {
     let f = fields::float_field(line, c.at);
     float_read(f, c)
@@ -118,6 +120,8 @@ pub fn float(line: &[u8], c: Cursor) -> FloatRead
 // The next n floats, to the front of `row`.
 pub fn floats(line: &[u8], c: Cursor, row: &mut [f64], n: usize) -> Cursor
     requires { ⌜ n ≤ length (now row) ⌝ }
+    ensures { λ r. ⌜ r ≡ pastFloats (now (line .entry)) c n ⌝ }
+    ensures { λ r. ⌜ now (row .exit) ≡ tab (floatAt (now (line .entry)) c) n ++ drop n (now (row .entry)) ⌝ }
 {
     let mut next = c;
     let mut i = 0;
@@ -141,7 +145,9 @@ pub fn required(c: Cursor, holds: bool) -> Cursor
 }
 
 // Past a word that has to be there.
-pub fn tag(line: &[u8], c: Cursor, name: &[u8]) -> Cursor {
+pub fn tag(line: &[u8], c: Cursor, name: &[u8]) -> Cursor
+    ensures { λ r. ⌜ PastTag (now (line .entry)) c (now (name .entry)) r ⌝ }
+{
     let w = words::next_word(line, c.at);
     let from = w.from;
     let to = w.to;

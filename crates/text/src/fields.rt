@@ -1,7 +1,7 @@
 // The fields of a line: each read answers the field's value, and where the line goes on.
 ghost use mathlib.Core.Path.{_≡_};
 ghost use Prim.Native.Nat.{_≤_, _<_};
-ghost use Rattle.text.specs.Fields.{numberField, floatOf};
+ghost use Rattle.text.specs.Fields.{numberField, floatOf, lastOf};
 use crate::numbers;
 use crate::numbers::Number;
 use crate::words;
@@ -53,7 +53,9 @@ pub fn float_field(line: &[u8], at: usize) -> FloatField
 }
 
 // A float that is the line's last field.
-pub fn last_float(line: &[u8], at: usize) -> FloatField {
+pub fn last_float(line: &[u8], at: usize) -> FloatField
+    ensures { λ r. ⌜ r ≡ lastOf (now (line .entry)) (floatOf (numberField 16 (now (line .entry)) at)) ⌝ }
+{
     let FloatField::Is(x, to) = float_field(line, at) else {
         return FloatField::Bad;
     };
