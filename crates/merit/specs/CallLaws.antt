@@ -7,10 +7,11 @@ use native.Mathlib.Omega.{arith}
 use lib.Dec.{T, leb, ltb, eqb, leb→le, ltb→lt, eqb→eq}
 use lib.Ieee.Fits.{and-l, and-r}
 use Rattle.lists.specs.Refusals.{answers, answers-none}
+use Rattle.optics.specs.Kept.{lensCountsTaken}
 use Rattle.optics.specs.Check.{lensTaken}
 use Rattle.optics.specs.declared.types.OpticalPrescription.{OpticalPrescription}
 use Rattle.merit.specs.Check.{operandsTaken}
-use Rattle.merit.specs.Calls.{countsTaken, evaluateRefusals, evaluateNumber, traceRefusals, traceNumber, answerOf, traceAnswer}
+use Rattle.merit.specs.Calls.{evaluateRefusals, evaluateNumber, traceRefusals, traceNumber, answerOf, traceAnswer}
 use Rattle.merit.specs.declared.types.MeritFunction.{MeritFunction}
 use Rattle.merit.specs.declared.types.Traced.{Traced}
 use Rattle.merit.specs.declared.types.Traced.the-variants.{Done, Failed, Refused}
@@ -19,7 +20,7 @@ passed : (b : Bool) → not b ≡ false → T b
 passed true e = tt
 passed false e = absurd (true≢false e)
 
-pub counts-parts : (surfaces slots : ℕ) → T (countsTaken surfaces slots) → (surfaces ≤ 16) × (1 ≤ slots) × (slots ≤ 4)
+pub counts-parts : (surfaces slots : ℕ) → T (lensCountsTaken surfaces slots) → (surfaces ≤ 16) × (1 ≤ slots) × (slots ≤ 4)
 counts-parts surfaces slots t =
     let l = and-l (leb surfaces 16 && leb 1 slots) (leb slots 4) t in
     (leb→le surfaces 16 (and-l (leb surfaces 16) (leb 1 slots) l), leb→le 1 slots (and-r (leb surfaces 16) (leb 1 slots) l), leb→le slots 4 (and-r (leb surfaces 16 && leb 1 slots) (leb slots 4) t))
@@ -27,7 +28,7 @@ counts-parts surfaces slots t =
 -- ---- evaluate
 module _ (p : OpticalPrescription) (f : MeritFunction) where
   abbrev counted : Bool
-  counted = countsTaken (p .«surface_count») (p .«slot_count») && leb (f .«operand_count») 12
+  counted = lensCountsTaken (p .«surface_count») (p .«slot_count») && leb (f .«operand_count») 12
 
   pub evaluate-1 : (evaluateNumber p f ≡ 1) ↔ ((not counted ≡ true) × Unit {0})
   unfolding evaluateNumber
@@ -57,11 +58,11 @@ module _ (p : OpticalPrescription) (f : MeritFunction) where
   evaluable e =
       let h = evaluate-0 .0 e in
       let c = passed counted (h .0) in
-      let k = counts-parts (p .«surface_count») (p .«slot_count») (and-l (countsTaken (p .«surface_count») (p .«slot_count»)) (leb (f .«operand_count») 12) c) in
+      let k = counts-parts (p .«surface_count») (p .«slot_count») (and-l (lensCountsTaken (p .«surface_count») (p .«slot_count»)) (leb (f .«operand_count») 12) c) in
       record {
         surfaces = k .0;
         slots = k .2;
-        operands = leb→le (f .«operand_count») 12 (and-r (countsTaken (p .«surface_count») (p .«slot_count»)) (leb (f .«operand_count») 12) c);
+        operands = leb→le (f .«operand_count») 12 (and-r (lensCountsTaken (p .«surface_count») (p .«slot_count»)) (leb (f .«operand_count») 12) c);
         lens = passed (lensTaken p) (h .1 .0);
         taken = passed (operandsTaken (p .«slot_count») f) (h .1 .1 .0);
       }
@@ -74,7 +75,7 @@ Refusing (Refused n) = Unit {0}
 
 module _ (p : OpticalPrescription) (slot rows : ℕ) where
   abbrev fitting : Bool
-  fitting = countsTaken (p .«surface_count») (p .«slot_count») && eqb rows (p .«surface_count»)
+  fitting = lensCountsTaken (p .«surface_count») (p .«slot_count») && eqb rows (p .«surface_count»)
 
   pub trace-1 : (traceNumber p slot rows ≡ 1) ↔ ((not fitting ≡ true) × Unit {0})
   unfolding traceNumber
@@ -104,11 +105,11 @@ module _ (p : OpticalPrescription) (slot rows : ℕ) where
   traceable e =
       let h = trace-0 .0 e in
       let c = passed fitting (h .0) in
-      let k = counts-parts (p .«surface_count») (p .«slot_count») (and-l (countsTaken (p .«surface_count») (p .«slot_count»)) (eqb rows (p .«surface_count»)) c) in
+      let k = counts-parts (p .«surface_count») (p .«slot_count») (and-l (lensCountsTaken (p .«surface_count») (p .«slot_count»)) (eqb rows (p .«surface_count»)) c) in
       let l : slot < p .«slot_count» = ltb→lt slot (p .«slot_count») (passed (ltb slot (p .«slot_count»)) (h .1 .1 .0)) in
       record {
         surfaces = k .0;
-        row = eqb→eq rows (p .«surface_count») (and-r (countsTaken (p .«surface_count») (p .«slot_count»)) (eqb rows (p .«surface_count»)) c);
+        row = eqb→eq rows (p .«surface_count») (and-r (lensCountsTaken (p .«surface_count») (p .«slot_count»)) (eqb rows (p .«surface_count»)) c);
         lens = passed (lensTaken p) (h .1 .0);
         there = l;
         below = omega (arith, k .2);

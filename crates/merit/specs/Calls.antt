@@ -8,6 +8,7 @@ use lib.ListN.{length, replicate}
 use Rattle.floats.specs.Constants.{zero64}
 use Rattle.lists.specs.Refusals.{Refusal, refusal, firstRefusal}
 use Rattle.lists.specs.Tab.{tab}
+use Rattle.optics.specs.Kept.{lensCountsTaken}
 use Rattle.optics.specs.Check.{lensTaken}
 use Rattle.optics.specs.Trace.{rayAt, traceOf}
 use Rattle.optics.specs.Types.{surfaceAt, slotIndex}
@@ -22,10 +23,6 @@ use Rattle.merit.specs.declared.types.Traced.{Traced}
 use Rattle.merit.specs.declared.types.Traced.the-variants.{Done, Failed, Refused}
 use Rattle.merit.specs.declared.types.TracedHeights.{TracedHeights}
 
--- "A job has at most 16 surfaces, 1 to 4 wavelength slots"
-abbrev pub countsTaken : (surfaces slots : ℕ) → Bool
-countsTaken surfaces slots = leb surfaces 16 && leb 1 slots && leb slots 4
-
 -- what a number refuses stays as it was: "nothing lent changes"
 abbrev pub unlessRefused : {A : Type 0} → ℕ → (new old : A) → A
 unlessRefused zero new old = new
@@ -36,7 +33,7 @@ module _ (p : OpticalPrescription) (f : MeritFunction) where
   abbrev pub evaluateRefusals : List Refusal
   evaluateRefusals =
       -- "Counts outside those above": the lens's, and at most 12 operands
-      refusal 1 (not (countsTaken (p .«surface_count») (p .«slot_count») && leb (f .«operand_count») 12))
+      refusal 1 (not (lensCountsTaken (p .«surface_count») (p .«slot_count») && leb (f .«operand_count») 12))
       ∷ refusal 3 (not (lensTaken p))
       ∷ refusal 5 (not (operandsTaken (p .«slot_count») f))
       ∷ []
@@ -64,7 +61,7 @@ module _ (p : OpticalPrescription) (slot : ℕ) where
   abbrev pub traceRefusals : (rows : ℕ) → List Refusal
   traceRefusals rows =
       -- "Counts outside those above, or slices not of the lengths they imply."
-      refusal 1 (not (countsTaken (p .«surface_count») (p .«slot_count») && eqb rows (p .«surface_count»)))
+      refusal 1 (not (lensCountsTaken (p .«surface_count») (p .«slot_count») && eqb rows (p .«surface_count»)))
       ∷ refusal 3 (not (lensTaken p))
       ∷ refusal 5 (not (ltb slot (p .«slot_count»)))
       ∷ []

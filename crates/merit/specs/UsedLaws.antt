@@ -7,6 +7,7 @@ use lib.Dec.{leb, ltb, eqb}
 use lib.ListN.{length}
 use Rattle.lists.specs.All.{allBelow, all-same}
 use Rattle.lists.specs.Refusals.{refusal, firstRefusal}
+use Rattle.optics.specs.Kept.{lensCountsTaken}
 use Rattle.optics.specs.Check.{pupilTaken, indexTaken, surfaceTaken, rowTaken, lensTaken}
 use Rattle.optics.specs.Trace.{traceOf}
 use Rattle.optics.specs.TraceLaws.{trace-same}
@@ -18,7 +19,7 @@ use Rattle.merit.specs.CheckLaws.{kind-taken, slot-below, slots-known}
 use Rattle.merit.specs.Evaluation.{evaluationOf}
 use Rattle.merit.specs.OperandTable.{operandAt}
 use Rattle.merit.specs.EvaluationLaws.{evaluation-same}
-use Rattle.merit.specs.Calls.{countsTaken, unlessRefused, evaluateNumber, lensEvaluation, evaluatedAs, lensTrace, traceNumber, answerOf, traceAnswer, tracedRow, tracedRays}
+use Rattle.merit.specs.Calls.{unlessRefused, evaluateNumber, lensEvaluation, evaluatedAs, lensTrace, traceNumber, answerOf, traceAnswer, tracedRow, tracedRays}
 use Rattle.merit.specs.CallLaws.{evaluable, done-traceable}
 use Rattle.merit.specs.declared.types.MeritEvaluation.{MeritEvaluation}
 use Rattle.merit.specs.declared.types.MeritFunction.{MeritFunction}
@@ -57,7 +58,7 @@ module _ (p q : OpticalPrescription) (s : SameLens p q) where
     unfolding evaluateNumber
     evaluate-same =
         let operands = all-agree (λ (n : ℕ). operandTaken (p .«slot_count») (operandAt f n)) (λ (n : ℕ). operandTaken (q .«slot_count») (operandAt g n)) _ _ (o .count) (λ n h. λ i. operandTaken (s .slots i) (o .operands n h i)) in
-        λ i. firstRefusal (refusal 1 (not (countsTaken (s .count i) (s .slots i) && leb (o .count i) 12)) ∷ refusal 3 (not (lens-agrees i)) ∷ refusal 5 (not (operands i)) ∷ [])
+        λ i. firstRefusal (refusal 1 (not (lensCountsTaken (s .count i) (s .slots i) && leb (o .count i) 12)) ∷ refusal 3 (not (lens-agrees i)) ∷ refusal 5 (not (operands i)) ∷ [])
 
     pub evaluated-same : (old : MeritEvaluation) → evaluatedAs old p f ≡ evaluatedAs old q g
     evaluated-same old = go (evaluateNumber p f) refl ∙ ap (λ (n : ℕ). unlessRefused n (lensEvaluation q g) old) evaluate-same
@@ -74,7 +75,7 @@ module _ (p q : OpticalPrescription) (s : SameLens p q) where
   module _ (slot : ℕ) where
     number-agrees : (rows : ℕ) → traceNumber p slot rows ≡ traceNumber q slot rows
     unfolding traceNumber
-    number-agrees rows = λ i. firstRefusal (refusal 1 (not (countsTaken (s .count i) (s .slots i) && eqb rows (s .count i))) ∷ refusal 3 (not (lens-agrees i)) ∷ refusal 5 (not (ltb slot (s .slots i))) ∷ [])
+    number-agrees rows = λ i. firstRefusal (refusal 1 (not (lensCountsTaken (s .count i) (s .slots i) && eqb rows (s .count i))) ∷ refusal 3 (not (lens-agrees i)) ∷ refusal 5 (not (ltb slot (s .slots i))) ∷ [])
 
     pub trace-answers-same : (rows : ℕ) → traceAnswer p slot rows ≡ traceAnswer q slot rows
     unfolding traceAnswer

@@ -6,7 +6,7 @@ ghost use lib.ListN.{length, replicate};
 ghost use Rattle.floats.specs.Constants.{zero64};
 ghost use Rattle.optics.specs.Flat.{laidFlat};
 ghost use Rattle.merit.specs.CallLaws.{Evaluable};
-ghost use Rattle.merit.specs.Calls.{countsTaken, evaluateNumber, lensEvaluation, evaluatedAs, evaluatedOf, traceNumber, traceAnswer, tracedRays, nothingTraced, heightsOf, tracedHeights};
+ghost use Rattle.merit.specs.Calls.{evaluateNumber, lensEvaluation, evaluatedAs, evaluatedOf, traceNumber, traceAnswer, tracedRays, nothingTraced, heightsOf, tracedHeights};
 ghost use Rattle.merit.specs.declared.types.Traced.the-variants.{Done};
 use crate::checks::operands_taken;
 use crate::evaluation::evaluate_flat;
@@ -19,21 +19,11 @@ use optics::OpticalPrescription;
 use optics::OpticalSurface;
 use optics::ParaxialRay;
 
-// Refusal 1, as far as the lens goes.
-fn counts_taken(surfaces: usize, slots: usize) -> bool
-    ensures { λ r. ⌜ r ≡ countsTaken surfaces slots ⌝ }
-{
-    if surfaces > 16 {
-        return false;
-    }
-    1 <= slots && slots <= 4
-}
-
 // What an evaluation is refused with, 0 where it is not.
 fn evaluate_number(prescription: OpticalPrescription, function: MeritFunction) -> u32
     ensures { λ r. ⌜ r ≡ evaluateNumber prescription function ⌝ }
 {
-    if !counts_taken(prescription.surface_count, prescription.slot_count) {
+    if !optics::lens_counts_taken(prescription.surface_count, prescription.slot_count) {
         return 1;
     }
     if function.operand_count > 12 {
@@ -121,7 +111,7 @@ pub fn evaluate(
 fn trace_number(prescription: OpticalPrescription, slot: usize, length: usize) -> u32
     ensures { λ r. ⌜ r ≡ traceNumber prescription slot length ⌝ }
 {
-    if !counts_taken(prescription.surface_count, prescription.slot_count) {
+    if !optics::lens_counts_taken(prescription.surface_count, prescription.slot_count) {
         return 1;
     }
     if length != prescription.surface_count {

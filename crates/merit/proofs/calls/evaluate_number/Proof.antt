@@ -7,27 +7,27 @@ use borrow.Author.Needs.{needs}
 use Rattle.merit.proofs.calls.evaluate_number.Statement.{statement}
 use Rattle.merit.proofs.calls.evaluate_number.Tie as tie
 
-counts-taken-requires : tie.Need-counts-taken-requires
-counts-taken-requires c κs = search needs
+lens-counts-taken-requires : tie.Need-lens-counts-taken-requires
+lens-counts-taken-requires c κs = search needs
 
 returns : tie.Need-returns
 unfolding evaluateNumber
-returns c = simp (sym (c .before .counts-taken .ensures) ∙ not-true _ (c .if1 .taken))
+returns c = simp (sym (c .before .lens-counts-taken .ensures) ∙ not-true _ (c .if1 .taken))
 
 returns-2 : tie.Need-returns-2
 unfolding evaluateNumber
-returns-2 c = simp (sym (c .before .before .before .counts-taken .ensures) ∙ not-false _ (c .before .before .if1 .left), lt-leb _ _ (c .if2 .taken))
+returns-2 c = simp (sym (c .before .before .before .lens-counts-taken .ensures) ∙ not-false _ (c .before .before .if1 .left), lt-leb _ _ (c .if2 .taken))
 
 lens-taken-requires : tie.Need-lens-taken-requires
 lens-taken-requires c κs =
     let a = c .before .before .before .before .args .prescription in
-    let k = counts-parts (a .«surface_count») (a .«slot_count») (rw (sym (c .before .before .before .counts-taken .ensures) ∙ not-false _ (c .before .before .if1 .left)) tt) in
+    let k = counts-parts (a .«surface_count») (a .«slot_count») (rw (sym (c .before .before .before .lens-counts-taken .ensures) ∙ not-false _ (c .before .before .if1 .left)) tt) in
     (k .0, k .2)
 
 returns-3 : tie.Need-returns-3
 unfolding evaluateNumber
 returns-3 c =
-    let counted = sym (c .before .before .before .before .before .counts-taken .ensures) ∙ not-false _ (c .before .before .before .before .if1 .left) in
+    let counted = sym (c .before .before .before .before .before .lens-counts-taken .ensures) ∙ not-false _ (c .before .before .before .before .if1 .left) in
     let few = le-leb _ _ (c .before .before .if2 .left) in
     simp (counted, few, sym (c .before .lens-taken .ensures) ∙ not-true _ (c .if3 .taken))
 
@@ -37,7 +37,7 @@ operands-taken-requires c κs = search needs
 returns-4 : tie.Need-returns-4
 unfolding evaluateNumber
 returns-4 c =
-    let counted = sym (c .before .before .before .before .before .before .before .counts-taken .ensures) ∙ not-false _ (c .before .before .before .before .before .before .if1 .left) in
+    let counted = sym (c .before .before .before .before .before .before .before .lens-counts-taken .ensures) ∙ not-false _ (c .before .before .before .before .before .before .if1 .left) in
     let few = le-leb _ _ (c .before .before .before .before .if2 .left) in
     let lens = sym (c .before .before .before .lens-taken .ensures) ∙ not-false _ (c .before .before .if3 .left) in
     simp (counted, few, lens, sym (c .before .operands-taken .ensures) ∙ not-true _ (c .if4 .taken))
@@ -45,7 +45,7 @@ returns-4 c =
 returns-5 : tie.Need-returns-5
 unfolding evaluateNumber
 returns-5 c =
-    let counted = sym (c .before .before .before .before .before .before .before .counts-taken .ensures) ∙ not-false _ (c .before .before .before .before .before .before .if1 .left) in
+    let counted = sym (c .before .before .before .before .before .before .before .lens-counts-taken .ensures) ∙ not-false _ (c .before .before .before .before .before .before .if1 .left) in
     let few = le-leb _ _ (c .before .before .before .before .if2 .left) in
     let lens = sym (c .before .before .before .lens-taken .ensures) ∙ not-false _ (c .before .before .if3 .left) in
     simp (counted, few, lens, sym (c .before .operands-taken .ensures) ∙ not-false _ (c .if4 .left))
@@ -54,7 +54,7 @@ pub evaluate-number-spec : {M : Type 1} → statement M
 evaluate-number-spec =
     tie.close
     (tie.spec
-    counts-taken-requires
+    lens-counts-taken-requires
     returns
     returns-2
     lens-taken-requires

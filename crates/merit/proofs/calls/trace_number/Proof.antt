@@ -7,34 +7,34 @@ use borrow.Author.Needs.{needs}
 use Rattle.merit.proofs.calls.trace_number.Statement.{statement}
 use Rattle.merit.proofs.calls.trace_number.Tie as tie
 
-counts-taken-requires : tie.Need-counts-taken-requires
-counts-taken-requires c κs = search needs
+lens-counts-taken-requires : tie.Need-lens-counts-taken-requires
+lens-counts-taken-requires c κs = search needs
 
 returns : tie.Need-returns
 unfolding traceNumber
-returns c = simp (sym (c .before .counts-taken .ensures) ∙ not-true _ (c .if1 .taken))
+returns c = simp (sym (c .before .lens-counts-taken .ensures) ∙ not-true _ (c .if1 .taken))
 
 returns-2 : tie.Need-returns-2
 unfolding traceNumber
-returns-2 c = simp (sym (c .before .before .before .counts-taken .ensures) ∙ not-false _ (c .before .before .if1 .left), ne-eqb _ _ (c .if2 .taken))
+returns-2 c = simp (sym (c .before .before .before .lens-counts-taken .ensures) ∙ not-false _ (c .before .before .if1 .left), ne-eqb _ _ (c .if2 .taken))
 
 lens-taken-requires : tie.Need-lens-taken-requires
 lens-taken-requires c κs =
     let a = c .before .before .before .before .args .prescription in
-    let k = counts-parts (a .«surface_count») (a .«slot_count») (rw (sym (c .before .before .before .counts-taken .ensures) ∙ not-false _ (c .before .before .if1 .left)) tt) in
+    let k = counts-parts (a .«surface_count») (a .«slot_count») (rw (sym (c .before .before .before .lens-counts-taken .ensures) ∙ not-false _ (c .before .before .if1 .left)) tt) in
     (k .0, k .2)
 
 returns-3 : tie.Need-returns-3
 unfolding traceNumber
 returns-3 c =
-    let counted = sym (c .before .before .before .before .before .counts-taken .ensures) ∙ not-false _ (c .before .before .before .before .if1 .left) in
+    let counted = sym (c .before .before .before .before .before .lens-counts-taken .ensures) ∙ not-false _ (c .before .before .before .before .if1 .left) in
     let long = eq-eqb _ _ (c .before .before .if2 .left) in
     simp (counted, long, sym (c .before .lens-taken .ensures) ∙ not-true _ (c .if3 .taken))
 
 returns-4 : tie.Need-returns-4
 unfolding traceNumber
 returns-4 c =
-    let counted = sym (c .before .before .before .before .before .before .before .counts-taken .ensures) ∙ not-false _ (c .before .before .before .before .before .before .if1 .left) in
+    let counted = sym (c .before .before .before .before .before .before .before .lens-counts-taken .ensures) ∙ not-false _ (c .before .before .before .before .before .before .if1 .left) in
     let long = eq-eqb _ _ (c .before .before .before .before .if2 .left) in
     let lens = sym (c .before .before .before .lens-taken .ensures) ∙ not-false _ (c .before .before .if3 .left) in
     simp (counted, long, lens, lt-ltb _ _ (c .if4 .taken))
@@ -42,7 +42,7 @@ returns-4 c =
 returns-5 : tie.Need-returns-5
 unfolding traceNumber
 returns-5 c =
-    let counted = sym (c .before .before .before .before .before .before .before .counts-taken .ensures) ∙ not-false _ (c .before .before .before .before .before .before .if1 .left) in
+    let counted = sym (c .before .before .before .before .before .before .before .lens-counts-taken .ensures) ∙ not-false _ (c .before .before .before .before .before .before .if1 .left) in
     let long = eq-eqb _ _ (c .before .before .before .before .if2 .left) in
     let lens = sym (c .before .before .before .lens-taken .ensures) ∙ not-false _ (c .before .before .if3 .left) in
     simp (counted, long, lens, le-ltb _ _ (c .if4 .left))
@@ -51,7 +51,7 @@ pub trace-number-spec : {M : Type 1} → statement M
 trace-number-spec =
     tie.close
     (tie.spec
-    counts-taken-requires
+    lens-counts-taken-requires
     returns
     returns-2
     lens-taken-requires
