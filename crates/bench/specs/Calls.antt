@@ -35,17 +35,20 @@ abbrev pub admittedBench : Bench → (place : ℕ) → JobRequest → Bench
 admittedBench b place request = unlessRefused (admitNumber b place request) (withRow b place (admitted (jobFrom request))) b
 
 -- ---- turn: "2, 9 and 11 to 13"
-abbrev pub turnRefusals : Bench → (place length : ℕ) → List Refusal
-turnRefusals b place length =
-    refusal 2 (noPlace place)
-    ∷ refusal 9 (scratchShort length)
+-- those of the row at the place
+abbrev pub rowTurnRefusals : (length : ℕ) → Row → List Refusal
+rowTurnRefusals length r =
+    refusal 9 (scratchShort length)
     -- "11. Turn, fetch, release: place empty."
-    ∷ refusal 11 (isVacant (rowAt b place))
+    ∷ refusal 11 (isVacant r)
     -- "12. Turn, fetch: the row's job or surfaces would be refused .. its kind or phase is none of those here, or a counter passes its limit"
-    ∷ refusal 12 (damaged (rowAt b place))
+    ∷ refusal 12 (damaged r)
     -- "13. Turn: finished."
-    ∷ refusal 13 (isFinished (rowAt b place))
+    ∷ refusal 13 (isFinished r)
     ∷ []
+
+abbrev pub turnRefusals : Bench → (place length : ℕ) → List Refusal
+turnRefusals b place length = refusal 2 (noPlace place) ∷ rowTurnRefusals length (rowAt b place)
 
 unfoldable pub turnNumber : Bench → (place length : ℕ) → ℕ
 turnNumber b place length = firstRefusal (turnRefusals b place length)
@@ -59,14 +62,16 @@ abbrev pub scratchAfter : Bench → (place : ℕ) → List Float → List Float
 scratchAfter b place s = unlessRefused (turnNumber b place (length s)) (replicate scratchLength zero64 ++ drop scratchLength s) s
 
 -- ---- fetch: "2, 11, 12 and 14"
-abbrev pub fetchRefusals : Bench → (place : ℕ) → List Refusal
-fetchRefusals b place =
-    refusal 2 (noPlace place)
-    ∷ refusal 11 (isVacant (rowAt b place))
-    ∷ refusal 12 (damaged (rowAt b place))
+abbrev pub rowFetchRefusals : Row → List Refusal
+rowFetchRefusals r =
+    refusal 11 (isVacant r)
+    ∷ refusal 12 (damaged r)
     -- "14. Fetch: unfinished."
-    ∷ refusal 14 (not (isFinished (rowAt b place)))
+    ∷ refusal 14 (not (isFinished r))
     ∷ []
+
+abbrev pub fetchRefusals : Bench → (place : ℕ) → List Refusal
+fetchRefusals b place = refusal 2 (noPlace place) ∷ rowFetchRefusals (rowAt b place)
 
 unfoldable pub fetchNumber : Bench → (place : ℕ) → ℕ
 fetchNumber b place = firstRefusal (fetchRefusals b place)
@@ -76,8 +81,11 @@ abbrev pub fetchedResult : Bench → (place : ℕ) → (old : Result) → Result
 fetchedResult b place old = unlessRefused (fetchNumber b place) (resultOf (rowAt b place)) old
 
 -- ---- release: "2 and 11"
+abbrev pub rowReleaseRefusals : Row → List Refusal
+rowReleaseRefusals r = refusal 11 (isVacant r) ∷ []
+
 abbrev pub releaseRefusals : Bench → (place : ℕ) → List Refusal
-releaseRefusals b place = refusal 2 (noPlace place) ∷ refusal 11 (isVacant (rowAt b place)) ∷ []
+releaseRefusals b place = refusal 2 (noPlace place) ∷ rowReleaseRefusals (rowAt b place)
 
 unfoldable pub releaseNumber : Bench → (place : ℕ) → ℕ
 releaseNumber b place = firstRefusal (releaseRefusals b place)

@@ -242,10 +242,18 @@ fn damage_of(row: Row, job: Job, job_taken: bool) -> bool
     row.turns >= bound(job)
 }
 
+// The same, of a row whose job is read already.
+pub fn is_damaged_as(row: Row, job: Job) -> bool
+    requires { ⌜ job ≡ jobOfRow row ⌝ }
+    ensures { λ r. ⌜ r ≡ damaged row ⌝ }
+{
+    let held = row.job;
+    damage_of(row, job, jobs::read_taken(job, held))
+}
+
 pub fn is_damaged(row: Row) -> bool
     ensures { λ r. ⌜ r ≡ damaged row ⌝ }
 {
     let held = row.job;
-    let job = jobs::job_of(row.kind, held);
-    damage_of(row, job, jobs::record_taken(row.kind, held))
+    is_damaged_as(row, jobs::job_of(row.kind, held))
 }

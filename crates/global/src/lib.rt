@@ -9,12 +9,16 @@ mod zeros;
 
 pub use damage::bound;
 pub use damage::is_damaged;
+pub use damage::is_damaged_as;
 pub use scratch::zero_first;
 pub use states::began;
 pub use states::finished_of;
+pub use states::fresh;
 pub use states::result_of;
+pub use states::with_damped;
 pub use states::with_state;
 pub use trials::resume_damped;
 pub use walk::advance_walk;
 pub use walk::advance_walk_first;
 pub use walk::pending_walk;
+pub use zeros::zero_surfaces;

@@ -67,7 +67,7 @@ pub fn with_damped(row: Row, damped: DampedState) -> Row
 }
 
 // A row with no turn taken, whose state has the damped part alone.
-fn fresh(record: JobRecord, kind: u64, damped: DampedState) -> Row
+pub fn fresh(record: JobRecord, kind: u64, damped: DampedState) -> Row
     ensures { λ r. ⌜ r ≡ rowOf «record» kind 0 (alone damped) ⌝ }
 {
     let best = zeros::zero_result();

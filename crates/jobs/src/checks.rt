@@ -1,7 +1,9 @@
 // What is checked of a job on admission, but for the place.
+ghost use Prim.Native.Nat.{ℕ};
 ghost use mathlib.Core.Path.{_≡_};
 ghost use Rattle.lists.specs.Refusals.{firstRefusal};
 ghost use Rattle.jobs.specs.Checks.{fromZeroTo, dlsTaken, multiStartTaken, annealingTaken, settingsTaken, countsTaken, jobRefusals, admissionRefusals, jobTaken, recordTaken};
+ghost use Rattle.jobs.specs.Records.{jobOf};
 use crate::filled;
 use crate::records;
 use crate::types::DlsConfig;
@@ -132,10 +134,12 @@ pub fn job_taken(job: Job) -> bool
 }
 
 // A row's job is taken: it would be admitted to an empty place, and holds no number that is no kind.
-pub fn record_taken(kind: u64, held: JobRecord) -> bool
-    ensures { λ r. ⌜ r ≡ recordTaken kind held ⌝ }
+// Whether a row's job is taken; `job` is what `held` reads as, under any kind.
+pub fn read_taken(job: Job, held: JobRecord) -> bool
+    requires { ⌜ (job .variables .«variable_count» ≡ held .«variable_count») × (job .«merit_function» .«operand_count» ≡ held .«operand_count») ⌝ }
+    ensures { λ r. ⌜ ((kind : ℕ) → job ≡ jobOf kind held → r ≡ recordTaken kind held) ⌝ }
 {
-    if !job_taken(records::job_of(kind, held)) {
+    if !job_taken(job) {
         return false;
     }
     records::known_kinds(held)

@@ -8,8 +8,10 @@ mod types;
 
 pub use checks::job_refusal;
 pub use checks::job_taken;
-pub use checks::record_taken;
+pub use checks::read_taken;
 pub use checks::refusal_of;
+pub use entries::zero_operand_record;
+pub use entries::zero_variable_record;
 pub use filled::annealing_defaults;
 pub use filled::damped_defaults;
 pub use filled::filled_job;

@@ -20,6 +20,9 @@ use Rattle.optics.specs.declared.types.OpticalSurface.{OpticalSurface}
 use Rattle.optics.specs.declared.types.ParaxialRay.{ParaxialRay}
 use Rattle.merit.specs.Calls.{unlessRefused, evaluateNumber, lensEvaluation, zeroEvaluation, evaluatedAs, evaluatedOf, lensRay, lensTrace, sixteen, traceNumber, answerOf, nothingTraced, heightsOf, tracedHeights, traceAnswer, tracedRow, tracedRays}
 use Rattle.merit.specs.CallLaws.{Traceable, done-traceable}
+use Rattle.merit.specs.Evaluation.{evaluationOf}
+use Rattle.merit.specs.EvaluationLaws.{evaluation-same}
+use Rattle.merit.specs.Steps.{SlotsKnown}
 use Rattle.merit.specs.declared.types.Evaluated.{Evaluated}
 use Rattle.merit.specs.declared.types.MeritEvaluation.{MeritEvaluation}
 use Rattle.merit.specs.declared.types.MeritFunction.{MeritFunction}
@@ -31,6 +34,15 @@ none n h = omega arith
 
 pub laid-room : (surfaces : List OpticalSurface) (n : ℕ) (rest flat : List Float) → flat ≡ laidFlat surfaces n ++ rest → 4 * n ≤ length flat
 laid-room surfaces n rest flat e = rw (e, length-append, length-laid surfaces n) (omega arith)
+
+-- surfaces laid flat evaluate as the lens does
+pub laid-evaluation : (p : OpticalPrescription) (f : MeritFunction) (rest flat : List Float) → flat ≡ laidFlat (p .surfaces) (p .«surface_count») ++ rest → SlotsKnown f → evaluationOf (flatSurface flat) (slotIndex (p .indices)) (p .«entrance_pupil_diameter_mm») (p .«surface_count») f ≡ lensEvaluation p f
+laid-evaluation p f rest flat e known =
+    let index = slotIndex (p .indices) in
+    let pupil = p .«entrance_pupil_diameter_mm» in
+    let count = p .«surface_count» in
+    ap (λ (l : List Float). evaluationOf (flatSurface l) index pupil count f) e
+    ∙ evaluation-same _ (surfaceAt (p .surfaces)) index index pupil count f f (flat-laid (p .surfaces) count rest) (λ n i h l m. refl) known refl (λ n h. refl)
 
 -- ---- evaluate
 pub stays : {A : Type 0} (n : ℕ) (new old : A) → 0 < n → unlessRefused n new old ≡ old

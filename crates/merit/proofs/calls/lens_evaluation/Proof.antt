@@ -1,15 +1,9 @@
 -- `merit::calls::lens_evaluation` meets its contract. Assumes nothing.
-use mathlib.Core.Path.{_≡_, refl, _∙_, ap}
+use mathlib.Core.Path.{_≡_, _∙_}
 use native.Mathlib.Omega.{arith}
-use mathlib.Core.List.{List}
-use lib.Ieee.{Float}
 use lib.ListN.{length}
-use Rattle.optics.specs.Types.{surfaceAt, flatSurface, slotIndex}
-use Rattle.optics.specs.FlatLaws.{flat-laid}
-use Rattle.merit.specs.Evaluation.{evaluationOf}
-use Rattle.merit.specs.EvaluationLaws.{evaluation-same}
 use Rattle.merit.specs.CheckLaws.{slots-known}
-use Rattle.merit.proofs.Answers.{laid-room}
+use Rattle.merit.proofs.Answers.{laid-room, laid-evaluation}
 use borrow.Author.Needs.{needs}
 use Rattle.merit.proofs.calls.lens_evaluation.Statement.{statement}
 use Rattle.merit.proofs.calls.lens_evaluation.Tie as tie
@@ -34,12 +28,7 @@ returns : tie.Need-returns
 returns c =
     let a = c .before .before .before .before .before .before .args in
     let ok = c .before .before .before .before .before .before .pre in
-    let index = slotIndex (a .prescription .indices) in
-    let pupil = a .prescription .«entrance_pupil_diameter_mm» in
-    let count = a .prescription .«surface_count» in
-    c .evaluate-flat .ensures ∙ ap (λ (l : List Float). evaluationOf (flatSurface l) index pupil count (a .function)) (c .before .before .before .laid .ensures)
-    ∙ evaluation-same _ (surfaceAt (a .prescription .surfaces)) index index pupil count (a .function) (a .function) (flat-laid (a .prescription .surfaces) count _) (λ n i h l m. refl)
-    (slots-known (a .prescription .«slot_count») (ok .slots) (a .function) (ok .taken)) refl (λ n h. refl)
+    c .evaluate-flat .ensures ∙ laid-evaluation (a .prescription) (a .function) _ _ (c .before .before .before .laid .ensures) (slots-known (a .prescription .«slot_count») (ok .slots) (a .function) (ok .taken))
 
 pub lens-evaluation-spec : {M : Type 1} → statement M
 lens-evaluation-spec =

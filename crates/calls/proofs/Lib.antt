@@ -1,0 +1,3 @@
+pub mod Big
+pub mod Opened
+pub mod Again

@@ -1,0 +1,4 @@
+pub mod Gathered
+pub mod Placed
+pub mod Play
+pub mod Values

@@ -1,0 +1,70 @@
+// The five calls, on a bench that is lent. No call asks anything of what it is handed: any bench whatever may be.
+ghost use mathlib.Core.Path.{_≡_};
+ghost use lib.ListN.{length};
+ghost use Rattle.bench.specs.Calls.{admitNumber, admittedBench, turnNumber, turnedBench, scratchAfter, fetchNumber, fetchedResult, releaseNumber, releasedBench, Listing};
+use crate::values;
+use bench::Bench;
+use bench::Finished;
+use jobs::JobRequest;
+use runs::OptimizationResult;
+
+// A job comes to an empty place. 1 to 8 and 10.
+pub fn admit(bench: &mut Bench, place: usize, request: JobRequest) -> u32
+    ensures { λ r. ⌜ (r ≡ admitNumber (now (bench .entry)) place request) × (now (bench .exit) ≡ admittedBench (now (bench .entry)) place request) ⌝ }
+{
+    if place > 3 {
+        return rows::admit_number(place, false, request);
+    }
+    let row = bench.rows[place];
+    let answer = rows::admit_row(row, place, request);
+    bench.rows[place] = answer.row;
+    answer.number
+}
+
+// One merit of the job at the place. 2, 9 and 11 to 13.
+pub fn turn(bench: &mut Bench, place: usize, scratch: &mut [f64]) -> u32
+    ensures { λ r. ⌜ (r ≡ turnNumber (now (bench .entry)) place (length (now (scratch .entry)))) × (now (bench .exit) ≡ turnedBench (now (bench .entry)) place (length (now (scratch .entry)))) × (now (scratch .exit) ≡ scratchAfter (now (bench .entry)) place (now (scratch .entry))) ⌝ }
+{
+    if place > 3 {
+        return 2;
+    }
+    let row = bench.rows[place];
+    let answer = rows::turn_row(row, scratch);
+    bench.rows[place] = answer.row;
+    answer.number
+}
+
+// The result of a finished job; its row stays. 2, 11, 12 and 14.
+pub fn fetch(bench: &Bench, place: usize, result: &mut OptimizationResult) -> u32
+    ensures { λ r. ⌜ (r ≡ fetchNumber (now (bench .entry)) place) × (now (result .exit) ≡ fetchedResult (now (bench .entry)) place (now (result .entry))) ⌝ }
+{
+    if place > 3 {
+        return 2;
+    }
+    let row = bench.rows[place];
+    let old = *result;
+    let fetched = rows::fetch_row(row, old);
+    *result = fetched.result;
+    fetched.number
+}
+
+// The place becomes empty, all zero. 2 and 11.
+pub fn release(bench: &mut Bench, place: usize) -> u32
+    ensures { λ r. ⌜ (r ≡ releaseNumber (now (bench .entry)) place) × (now (bench .exit) ≡ releasedBench (now (bench .entry)) place) ⌝ }
+{
+    if place > 3 {
+        return 2;
+    }
+    let row = bench.rows[place];
+    let answer = rows::release_row(row);
+    bench.rows[place] = answer.row;
+    answer.number
+}
+
+// The places whose jobs are finished, each once, in no promised order. Refuses nothing.
+pub fn finished_places(bench: &Bench) -> Finished
+    ensures { λ r. ⌜ Listing (now (bench .entry)) r ⌝ }
+{
+    let all = *bench;
+    values::listed(all)
+}

@@ -1,0 +1,20 @@
+// The calls on a bench (01): admit, turn, fetch, release and listing. Lent, and by value for programs.
+mod lent;
+mod play;
+mod types;
+mod values;
+
+pub use lent::admit;
+pub use lent::fetch;
+pub use lent::finished_places;
+pub use lent::release;
+pub use lent::turn;
+pub use play::play_turns;
+pub use types::BenchAnswer;
+pub use types::Played;
+pub use values::admitted;
+pub use values::empty_bench;
+pub use values::fetched;
+pub use values::listed;
+pub use values::released;
+pub use values::turned;

@@ -1,0 +1,4 @@
+-- Laws that several functions' proofs cite.
+pub mod Laid
+pub mod Numbers
+pub mod Undamaged

@@ -1,0 +1,65 @@
+-- What a call on the row of one place leaves and answers: the bench's definitions, of that row. Definitions only.
+use Prim.Native.Nat.{ℕ}
+use mathlib.Core.Bool.{Bool, not}
+use mathlib.Core.List.{List, [], _∷_}
+use lib.Ieee.{Float}
+use lib.ListN.{length}
+use Rattle.floats.specs.Constants.{zero64}
+use Rattle.lists.specs.Refusals.{refusal, firstRefusal}
+use Rattle.merit.specs.Calls.{unlessRefused}
+use Rattle.normal.specs.Layout.{scratchLength}
+use Rattle.jobs.specs.declared.types.JobRequest.{JobRequest}
+use Rattle.jobs.specs.Kept.{jobFrom}
+use Rattle.runs.specs.declared.types.Row.{Row}
+use Rattle.runs.specs.JobRun.{Result}
+use Rattle.runs.specs.Damage.{damaged}
+use Rattle.runs.specs.Rows.{jobOfRow, admitted, pendingSurfaces, resultOf}
+use Rattle.runs.specs.Turn.{evaluateOf, turned}
+use Rattle.runs.specs.Zeros.{zeroSurfaces}
+use Rattle.global.specs.Cleared.{cleared}
+use Rattle.bench.specs.Benches.{zeroRow}
+use Rattle.bench.specs.Refusals.{admitRefusals}
+use Rattle.bench.specs.Calls.{isVacant, rowTurnRefusals, rowFetchRefusals, rowReleaseRefusals}
+use Rattle.rows.specs.declared.types.Fetched.{Fetched}
+use Rattle.rows.specs.declared.types.Pending.{Pending}
+use Rattle.rows.specs.declared.types.RowAnswer.{RowAnswer}
+
+-- a row changed unless a number refuses it
+abbrev pub answered : (number : ℕ) (new old : Row) → RowAnswer
+answered n new old = record { row = unlessRefused n new old; number = n }
+
+-- 11 and 12, which turn and fetch have in common
+abbrev pub usableNumber : Row → ℕ
+usableNumber r = firstRefusal (refusal 11 (isVacant r) ∷ refusal 12 (damaged r) ∷ [])
+
+unfoldable pub turnRowNumber : (length : ℕ) → Row → ℕ
+turnRowNumber n r = firstRefusal (rowTurnRefusals n r)
+
+unfoldable pub turnRowOf : Row → (length : ℕ) → RowAnswer
+turnRowOf r n = answered (turnRowNumber n r) (turned r) r
+
+unfoldable pub scratchOf : Row → List Float → List Float
+scratchOf r s = unlessRefused (turnRowNumber (length s) r) (cleared s) s
+
+unfoldable pub admitRowNumber : Row → (place : ℕ) → JobRequest → ℕ
+admitRowNumber r place request = firstRefusal (admitRefusals place request (not (isVacant r)))
+
+unfoldable pub admitRowOf : Row → (place : ℕ) → JobRequest → RowAnswer
+admitRowOf r place request = answered (admitRowNumber r place request) (admitted (jobFrom request)) r
+
+unfoldable pub fetchRowNumber : Row → ℕ
+fetchRowNumber r = firstRefusal (rowFetchRefusals r)
+
+unfoldable pub fetchRowOf : Row → (old : Result) → Fetched
+fetchRowOf r old = record { result = unlessRefused (fetchRowNumber r) (resultOf r) old; number = fetchRowNumber r }
+
+unfoldable pub releaseRowOf : Row → RowAnswer
+releaseRowOf r = answered (firstRefusal (rowReleaseRefusals r)) zeroRow r
+
+-- the surfaces whose merit a turn works out, and that merit
+unfoldable pub pendingOf : Row → Pending
+pendingOf r = record {
+  surfaces = unlessRefused (turnRowNumber scratchLength r) (pendingSurfaces r) zeroSurfaces;
+  merit = unlessRefused (turnRowNumber scratchLength r) (evaluateOf (jobOfRow r) (pendingSurfaces r) .«total_merit») zero64;
+  number = turnRowNumber scratchLength r;
+}
