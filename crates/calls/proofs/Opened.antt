@@ -24,6 +24,8 @@ use types.Part.{whole, sub}
 use types.SemTy.{Body}
 use denote.RattleType.{RattleType}
 use denote.Laws.{Is, shows}
+use denote.Plain.{uint-tells}
+use denote.Builtin.{u32}
 use denote.Memory.{cellAt, partAt, mem, shares, partOf}
 use denote.Array.{Array, array-vals, array-tells}
 use denote.ArrayMemory.{array-apart, array-whole}
@@ -157,6 +159,10 @@ module _ {M : Type 1} (𝓤 : URA M) (H : Heap 𝓤) (A : Atoms 𝓤) (W : Given
 -- ---- a row's answer: its machine value is the struct of its row's, whatever that is, and its number's
 pub in-parts : {G : Type 1} (r : RowAnswer) (v : Val) → Is An.the-row r (v ∷ []) → ((w : Val) → v ≡ vstruct (vcons w (vcons (vint w32 (r .number)) vnil)) → Is R (r .row) (w ∷ []) → G) → G
 in-parts r v is go = go (only (valsR (r .row))) (ap only (LL.tells An.the-type An′.the-laws r _ is)) (LL.owed An.the-type An′.the-laws r _ is .0)
+
+-- the machine value of a number
+pub number-is : {G : Type 1} (r : ℕ) (v : Val) → Is u32 r (v ∷ []) → (v ≡ vint w32 r → r < 2 ^ 32 → G) → G
+number-is r v is go = go (ap only (uint-tells w32 r _ is)) (is .1)
 
 -- one of the four
 within : (i n : ℕ) → i ≤ 3 → n ≡ 4 → i < n

@@ -1,4 +1,6 @@
 pub mod Gathered
 pub mod Placed
 pub mod Play
+pub mod RecordLaws
+pub mod Records
 pub mod Values

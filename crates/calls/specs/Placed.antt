@@ -26,17 +26,20 @@ use Rattle.rows.specs.declared.types.Fetched.{Fetched}
 use Rattle.rows.specs.declared.types.RowAnswer.{RowAnswer}
 use Rattle.rows.specs.Calls.{answered, turnRowNumber, turnRowOf, scratchOf, admitRowNumber, admitRowOf, fetchRowNumber, fetchRowOf, releaseRowOf}
 
--- a row that is put back where it stands
-same-row : (rs : List Row) (i : ℕ) → set rs i (getD rs i noRow) ≡ rs
-same-row [] i = refl
-same-row (r ∷ rs) zero = refl
-same-row (r ∷ rs) (suc i) = ap (λ (l : List Row). r ∷ l) (same-row rs i)
+-- an entry that is put back where it stands
+put-back : (rs : List Row) (i : ℕ) → set rs i (getD rs i noRow) ≡ rs
+put-back [] i = refl
+put-back (r ∷ rs) zero = refl
+put-back (r ∷ rs) (suc i) = ap (λ (l : List Row). r ∷ l) (put-back rs i)
 
 module _ (b : Bench) (place : ℕ) where
+  pub same-row : withRow b place (rowAt b place) ≡ b
+  same-row = ap {B = Bench} (λ (rs : List Row). record { rows = rs }) (put-back (b .rows) place)
+
   -- the row as a refused call leaves it, stored, is the bench as it was
   stored : (n : ℕ) (new : Row) → withRow b place (unlessRefused n new (rowAt b place)) ≡ unlessRefused n (withRow b place new) b
   stored zero new = refl
-  stored (suc n) new = ap (λ (rs : List Row). record { rows = rs }) (same-row (b .rows) place)
+  stored (suc n) new = same-row
 
   module _ (h : 3 < place) where
     none : noPlace place ≡ true

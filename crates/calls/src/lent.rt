@@ -2,6 +2,9 @@
 ghost use mathlib.Core.Path.{_≡_};
 ghost use lib.ListN.{length};
 ghost use Rattle.bench.specs.Calls.{admitNumber, admittedBench, turnNumber, turnedBench, scratchAfter, fetchNumber, fetchedResult, releaseNumber, releasedBench, Listing};
+ghost use Rattle.calls.specs.Records.{admitRecordNumber, admittedRecordBench};
+use crate::records;
+use crate::types::RequestRecord;
 use crate::values;
 use bench::Bench;
 use bench::Finished;
@@ -21,8 +24,24 @@ pub fn admit(bench: &mut Bench, place: usize, request: JobRequest) -> u32
     answer.number
 }
 
+// The same for a caller in C: a record of numbers, lent. A number for a kind that is none gives 1.
+#[no_mangle]
+pub extern "C" fn admit_record(bench: &mut Bench, place: usize, asked: &RequestRecord) -> u32
+    ensures { λ r. ⌜ (r ≡ admitRecordNumber (now (bench .entry)) place (now (asked .entry))) × (now (bench .exit) ≡ admittedRecordBench (now (bench .entry)) place (now (asked .entry))) ⌝ }
+{
+    let record = *asked;
+    if place > 3 {
+        return records::record_number(record, place);
+    }
+    let row = bench.rows[place];
+    let answer = records::admit_record_row(row, place, record);
+    bench.rows[place] = answer.row;
+    answer.number
+}
+
 // One merit of the job at the place. 2, 9 and 11 to 13.
-pub fn turn(bench: &mut Bench, place: usize, scratch: &mut [f64]) -> u32
+#[no_mangle]
+pub extern "C" fn turn(bench: &mut Bench, place: usize, scratch: &mut [f64]) -> u32
     ensures { λ r. ⌜ (r ≡ turnNumber (now (bench .entry)) place (length (now (scratch .entry)))) × (now (bench .exit) ≡ turnedBench (now (bench .entry)) place (length (now (scratch .entry)))) × (now (scratch .exit) ≡ scratchAfter (now (bench .entry)) place (now (scratch .entry))) ⌝ }
 {
     if place > 3 {
@@ -35,7 +54,8 @@ pub fn turn(bench: &mut Bench, place: usize, scratch: &mut [f64]) -> u32
 }
 
 // The result of a finished job; its row stays. 2, 11, 12 and 14.
-pub fn fetch(bench: &Bench, place: usize, result: &mut OptimizationResult) -> u32
+#[no_mangle]
+pub extern "C" fn fetch(bench: &Bench, place: usize, result: &mut OptimizationResult) -> u32
     ensures { λ r. ⌜ (r ≡ fetchNumber (now (bench .entry)) place) × (now (result .exit) ≡ fetchedResult (now (bench .entry)) place (now (result .entry))) ⌝ }
 {
     if place > 3 {
@@ -49,7 +69,8 @@ pub fn fetch(bench: &Bench, place: usize, result: &mut OptimizationResult) -> u3
 }
 
 // The place becomes empty, all zero. 2 and 11.
-pub fn release(bench: &mut Bench, place: usize) -> u32
+#[no_mangle]
+pub extern "C" fn release(bench: &mut Bench, place: usize) -> u32
     ensures { λ r. ⌜ (r ≡ releaseNumber (now (bench .entry)) place) × (now (bench .exit) ≡ releasedBench (now (bench .entry)) place) ⌝ }
 {
     if place > 3 {
@@ -62,7 +83,8 @@ pub fn release(bench: &mut Bench, place: usize) -> u32
 }
 
 // The places whose jobs are finished, each once, in no promised order. Refuses nothing.
-pub fn finished_places(bench: &Bench) -> Finished
+#[no_mangle]
+pub extern "C" fn finished_places(bench: &Bench) -> Finished
     ensures { λ r. ⌜ Listing (now (bench .entry)) r ⌝ }
 {
     let all = *bench;

@@ -1,10 +1,12 @@
 // The calls on a bench (01): admit, turn, fetch, release and listing. Lent, and by value for programs.
 mod lent;
 mod play;
+mod records;
 mod types;
 mod values;
 
 pub use lent::admit;
+pub use lent::admit_record;
 pub use lent::fetch;
 pub use lent::finished_places;
 pub use lent::release;
@@ -12,6 +14,7 @@ pub use lent::turn;
 pub use play::play_turns;
 pub use types::BenchAnswer;
 pub use types::Played;
+pub use types::RequestRecord;
 pub use values::admitted;
 pub use values::empty_bench;
 pub use values::fetched;

@@ -1,6 +1,6 @@
 -- `admit` meets its contract: a walk of its MIR, by hand, as `turn`'s is, with a request by value that is passed on.
 -- All that the proof knows of `admit_row` and `admit_number` is that they meet their contracts. Assumes nothing.
-use mathlib.Core.Path.{_≡_, refl, sym, _∙_, ap}
+use mathlib.Core.Path.{_≡_, refl, sym, _∙_}
 use mathlib.Core.Bool.{false, not}
 use Prim.Native.Nat.{ℕ, _+_, _*_, _<_, _≤_, _^_}
 use mathlib.Core.List.{[], _∷_, List}
@@ -57,7 +57,7 @@ use Rattle.runs.proofs.types.Row as S
 use Rattle.runs.proofs.types.Row.Laws as S′
 use Rattle.rows.proofs.types.RowAnswer as An
 use Rattle.rows.proofs.types.RowAnswer.Laws as An′
-use Rattle.calls.proofs.Opened.{place-fits, row-size, Rest, rest-of, R, Bn, bn, valsR, valsB, in-parts, Back, opens-row, closes-row}
+use Rattle.calls.proofs.Opened.{place-fits, row-size, Rest, rest-of, R, Bn, bn, valsR, valsB, in-parts, number-is, Back, opens-row, closes-row}
 use Rattle.calls.proofs.Big.{big-lit}
 use Rattle.rows.proofs.admit_row as callee
 use Rattle.rows.proofs.admit_row.Symbol as callee-def
@@ -84,10 +84,6 @@ Arg = RefT Bench × (ℕ × (JobRequest × Unit {0}))
 
 abbrev stayed : Stays (f.ended .signature .params) (f.ended .kept)
 stayed = (stay-ref (0 ∷ []) tt (plain (λ _. Bn)), (stay-none (λ _. usize) yes, (stay-none (λ _. Rq) yes, tt)))
-
--- the machine value of a number
-number-is : {G : Type 1} (r : ℕ) (v : Val) → Is u32 r (v ∷ []) → (v ≡ vint w32 r → r < 2 ^ 32 → G) → G
-number-is r v is go = go (ap only (uint-tells w32 r _ is)) (is .1)
 
 -- ---- what the contract says, in each arm
 abbrev Said : Bench → ℕ → JobRequest → ℕ → Bench → Type 0
