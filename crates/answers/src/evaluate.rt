@@ -2,7 +2,7 @@
 ghost use Prim.Native.Nat.{_≤_};
 ghost use lib.ListN.{length};
 use crate::digest;
-use crate::jobs;
+use crate::job;
 use crate::least::least;
 use crate::unknown::put_unknown;
 use joblines::JobLine;
@@ -23,17 +23,18 @@ pub(crate) fn evaluate(
 ) -> usize
     requires { ⌜ id .from ≤ id .to ⌝ }
     requires { ⌜ id .to ≤ length (now line) ⌝ }
+    ensures { λ r. ⌜ r ≤ length (now (out .exit)) ⌝ }
 {
     if !cursor::is_done(line, job.next) {
         return put_unknown(out, waiting, number);
     }
     let prescription = job.prescription;
     let function = job.merit_function;
-    let waiting = jobs::put_head(out, waiting, line, id);
+    let waiting = job::put_head(out, waiting, line, id);
     let waiting = output::put(out, waiting, b" 4");
     let e = merit::evaluated(prescription, function);
     if e.number > 0 {
-        return jobs::put_refused(out, waiting, e.number);
+        return job::put_refused(out, waiting, e.number);
     }
     let evaluation = e.evaluation;
     let waiting = put_evaluation(out, waiting, evaluation, function.operand_count);
@@ -53,7 +54,7 @@ fn put_evaluation(out: &mut [u8], waiting: usize, e: MeritEvaluation, count: usi
 }
 
 // A count, and so many floats of a row.
-fn put_row(out: &mut [u8], waiting: usize, row: [f64; 12], count: usize) -> usize {
+pub(crate) fn put_row(out: &mut [u8], waiting: usize, row: [f64; 12], count: usize) -> usize {
     let waiting = output::put_decimal(out, waiting, count as u64);
     let n = least(count, 12);
     output::put_floats(out, waiting, &row[..n])
@@ -65,7 +66,9 @@ fn put_digest(
     waiting: usize,
     prescription: OpticalPrescription,
     total: f64,
-) -> usize {
+) -> usize
+    ensures { λ r. ⌜ r ≤ length (now (out .exit)) ⌝ }
+{
     let surfaces = prescription.surfaces;
     let hash = digest::with_surfaces(digest::START, surfaces, prescription.surface_count);
     let waiting = output::put(out, waiting, b" H ");

@@ -127,7 +127,9 @@ fn apply_clamp(x: f64, lo: f64, hi: f64) -> f64 {
 }
 
 // Puts a line and its answer.
-fn put_reply(out: &mut [u8], waiting: usize, line: &[u8], reply: Reply) -> usize {
+fn put_reply(out: &mut [u8], waiting: usize, line: &[u8], reply: Reply) -> usize
+    ensures { λ r. ⌜ r ≤ length (now (out .exit)) ⌝ }
+{
     let waiting = output::put(out, waiting, line);
     let waiting = output::put(out, waiting, b" = ");
     let waiting = put_values(out, waiting, reply);
@@ -155,6 +157,7 @@ fn put_values(out: &mut [u8], waiting: usize, reply: Reply) -> usize {
 pub fn answer_leaf(out: &mut [u8], waiting: usize, line: &[u8], w: Word, number: u64) -> usize
     requires { ⌜ w .from ≤ w .to ⌝ }
     requires { ⌜ w .to ≤ length (now line) ⌝ }
+    ensures { λ r. ⌜ r ≤ length (now (out .exit)) ⌝ }
 {
     let reply = reply_to(line, w);
     match reply {

@@ -42,7 +42,9 @@ fn read_right_side(line: &[u8], c: Cursor, scratch: &mut [f64], p: usize) -> Cur
 }
 
 // SOLVE p {entries by rows} {right side}: the solution, or `none`.
-pub fn answer_solve(out: &mut [u8], waiting: usize, line: &[u8], at: usize, number: u64) -> usize {
+pub fn answer_solve(out: &mut [u8], waiting: usize, line: &[u8], at: usize, number: u64) -> usize
+    ensures { λ r. ⌜ r ≤ length (now (out .exit)) ⌝ }
+{
     let r = cursor::decimal(line, Cursor::new(at));
     let p = r.value as usize;
     if p == 0 || p > 8 {
@@ -63,6 +65,7 @@ pub fn answer_solve(out: &mut [u8], waiting: usize, line: &[u8], at: usize, numb
 
 fn put_solution(out: &mut [u8], waiting: usize, scratch: &[f64], p: usize) -> usize
     requires { ⌜ scratchLength ≤ length (now scratch) ⌝ ∗ ⌜ p ≤ mostVariables ⌝ }
+    ensures { λ r. ⌜ r ≤ length (now (out .exit)) ⌝ }
 {
     let to = STEP + p;
     let waiting = output::put_floats(out, waiting, &scratch[STEP..to]);
@@ -90,7 +93,9 @@ fn read_columns(line: &[u8], c: Cursor, jacobian: &mut [f64], m: usize, p: usize
 }
 
 // NORMAL m p {entries by columns} {residuals}: J^T J by rows, J^T r, and its norm.
-pub fn answer_normal(out: &mut [u8], waiting: usize, line: &[u8], at: usize, number: u64) -> usize {
+pub fn answer_normal(out: &mut [u8], waiting: usize, line: &[u8], at: usize, number: u64) -> usize
+    ensures { λ r. ⌜ r ≤ length (now (out .exit)) ⌝ }
+{
     let r = cursor::decimal(line, Cursor::new(at));
     let m = r.value as usize;
     let r = cursor::decimal(line, r.next);
@@ -113,6 +118,7 @@ pub fn answer_normal(out: &mut [u8], waiting: usize, line: &[u8], at: usize, num
 
 fn put_equations(out: &mut [u8], waiting: usize, scratch: &[f64], p: usize, norm: f64) -> usize
     requires { ⌜ scratchLength ≤ length (now scratch) ⌝ ∗ ⌜ p ≤ mostVariables ⌝ }
+    ensures { λ r. ⌜ r ≤ length (now (out .exit)) ⌝ }
 {
     let waiting = put_product(out, waiting, scratch, p);
     let to = GRADIENT + p;

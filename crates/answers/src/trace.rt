@@ -1,7 +1,7 @@
 // Job lines of kind 5: a lens traced in one slot.
 ghost use Prim.Native.Nat.{_≤_};
 ghost use lib.ListN.{length};
-use crate::jobs;
+use crate::job;
 use crate::unknown::put_unknown;
 use joblines::JobLine;
 use merit::Traced;
@@ -24,13 +24,14 @@ pub(crate) fn trace(
 ) -> usize
     requires { ⌜ id .from ≤ id .to ⌝ }
     requires { ⌜ id .to ≤ length (now line) ⌝ }
+    ensures { λ r. ⌜ r ≤ length (now (out .exit)) ⌝ }
 {
     let slot = cursor::decimal(line, job.next);
     if !cursor::is_done(line, slot.next) {
         return put_unknown(out, waiting, number);
     }
     let prescription = job.prescription;
-    let waiting = jobs::put_head(out, waiting, line, id);
+    let waiting = job::put_head(out, waiting, line, id);
     let waiting = output::put(out, waiting, b" 5");
     put_trace(out, waiting, prescription, slot.value as usize)
 }
@@ -40,11 +41,13 @@ fn put_trace(
     waiting: usize,
     prescription: OpticalPrescription,
     slot: usize,
-) -> usize {
+) -> usize
+    ensures { λ r. ⌜ r ≤ length (now (out .exit)) ⌝ }
+{
     let t = merit::traced_heights(prescription, slot, prescription.surface_count);
     let answer = t.answer;
     match answer {
-        Traced::Refused(n) => jobs::put_refused(out, waiting, n),
+        Traced::Refused(n) => job::put_refused(out, waiting, n),
         Traced::Failed => output::put(out, waiting, b" failed\n"),
         Traced::Done => put_done(out, waiting, prescription, slot, t),
     }
@@ -57,7 +60,9 @@ fn put_done(
     prescription: OpticalPrescription,
     slot: usize,
     t: TracedHeights,
-) -> usize {
+) -> usize
+    ensures { λ r. ⌜ r ≤ length (now (out .exit)) ⌝ }
+{
     let heights = t.heights;
     let slopes = t.slopes;
     let waiting = output::put(out, waiting, b" ok T ");
@@ -69,7 +74,9 @@ fn put_done(
     put_paraxial(out, waiting, properties)
 }
 
-fn put_ray(out: &mut [u8], waiting: usize, height: f64, slope: f64) -> usize {
+fn put_ray(out: &mut [u8], waiting: usize, height: f64, slope: f64) -> usize
+    ensures { λ r. ⌜ r ≤ length (now (out .exit)) ⌝ }
+{
     let waiting = output::put(out, waiting, b" ");
     let waiting = output::put_float(out, waiting, height);
     let waiting = output::put(out, waiting, b" ");
@@ -83,7 +90,9 @@ fn put_rays<'a>(
     heights: &'a [f64; 16],
     slopes: &'a [f64; 16],
     count: usize,
-) -> usize {
+) -> usize
+    ensures { λ r. ⌜ r ≤ length (now (out .exit)) ⌝ }
+{
     let mut held = output::put_decimal(out, waiting, count as u64);
     let mut i = 0;
     while i < count && i < 16 {
@@ -116,7 +125,9 @@ fn paraxial(prescription: OpticalPrescription, slot: usize) -> Paraxial {
 }
 
 // P efl bfl f-number
-fn put_paraxial(out: &mut [u8], waiting: usize, q: ParaxialProperties) -> usize {
+fn put_paraxial(out: &mut [u8], waiting: usize, q: ParaxialProperties) -> usize
+    ensures { λ r. ⌜ r ≤ length (now (out .exit)) ⌝ }
+{
     let waiting = output::put(out, waiting, b" P ");
     let waiting = output::put_float(out, waiting, q.efl_mm);
     let waiting = output::put(out, waiting, b" ");

@@ -4,7 +4,11 @@
 mod lens;
 mod line;
 mod operands;
+mod request;
 mod sets;
+mod settings;
 
 pub use line::JobLine;
 pub use line::read_job;
+pub use request::RequestRead;
+pub use request::read_request;

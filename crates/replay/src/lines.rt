@@ -1,49 +1,31 @@
 // The lines, answered one after the other.
 ghost use Prim.Native.Nat.{_≤_};
 ghost use lib.ListN.{length};
+use crate::answer;
+use crate::answer::State;
 use text::input;
 use text::input::Input;
 use text::output;
-use text::words;
 
-// How far the input is read, and how much of the output waits.
+// How far the input is read, and what the answers so far have left.
 pub(crate) struct Progress {
+    pub state: State,
     pub input: Input,
-    pub waiting: usize,
-}
-
-// Answers one line. Blanks alone have no answer.
-fn answer_line(out: &mut [u8], waiting: usize, line: &[u8], number: u64) -> usize {
-    let w = words::next_word(line, 0);
-    if w.from == w.to {
-        return waiting;
-    }
-    let from = w.from;
-    let to = w.to;
-    let name = &line[from..to];
-    if check::same(name, b"J") {
-        return answers::answer_job(out, waiting, line, to, number);
-    }
-    if check::same(name, b"SOLVE") {
-        return answers::answer_solve(out, waiting, line, to, number);
-    }
-    if check::same(name, b"NORMAL") {
-        return answers::answer_normal(out, waiting, line, to, number);
-    }
-    answers::answer_leaf(out, waiting, line, w, number)
 }
 
 // Answers the line that the buffer holds up to `to`.
-fn answer_held(buf: &[u8], out: &mut [u8], p: Progress, to: usize) -> usize
+fn answer_held(buf: &[u8], out: &mut [u8], p: Progress, to: usize) -> State
     requires { ⌜ p .input .from ≤ to ⌝ }
     requires { ⌜ to ≤ length (now buf) ⌝ }
 {
+    let state = p.state;
     let input = p.input;
     let from = input.from;
     if input.is_cut {
-        return answers::put_unknown(out, p.waiting, input.number);
+        let waiting = answers::put_unknown(out, state.waiting, input.number);
+        return answer::with_waiting(state, waiting);
     }
-    answer_line(out, p.waiting, &buf[from..to], input.number)
+    answer::answer_line(out, state, &buf[from..to], input.number)
 }
 
 // Where a line ends that has its line feed at `end`: a carriage return before that is no part of it.
@@ -74,15 +56,16 @@ fn turn(buf: &mut [u8], out: &mut [u8], p: Progress) -> Progress
     let end = bytes::scan::find(buf, from, to, b'\n');
     if end < to {
         let stop = line_end(buf, from, end);
-        let waiting = answer_held(buf, out, p, stop);
+        let state = answer_held(buf, out, p, stop);
         return Progress {
+            state: state,
             input: input.after_line(end + 1),
-            waiting: waiting,
         };
     }
+    let state = p.state;
     Progress {
+        state: state,
         input: input::read_on(buf, input),
-        waiting: p.waiting,
     }
 }
 
@@ -93,17 +76,17 @@ fn answer_last(buf: &[u8], out: &mut [u8], p: Progress) -> usize
 {
     let input = p.input;
     if input.from < input.to || input.is_cut {
-        return answer_held(buf, out, p, input.to);
+        return answer_held(buf, out, p, input.to).waiting;
     }
-    p.waiting
+    p.state.waiting
 }
 
 // Answers all lines of the input, through the two buffers. A proved loop has to end, and nothing says
 // that the input does: so the turns are counted down, from a number that no run uses up.
 pub(crate) fn answer_all(buf: &mut [u8], out: &mut [u8]) {
     let mut p = Progress {
+        state: State::new(),
         input: Input::new(),
-        waiting: 0,
     };
     let mut turns = u64::MAX;
     while turns > 0 && p.input.is_open {

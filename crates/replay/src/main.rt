@@ -1,6 +1,7 @@
 // Reads lines from standard input to its end, and answers each on standard output as the oracle
 // does, byte for byte; oracle/README.md has the formats. A line that is none of those is answered
 // with `? ` and its number, from 1. A line of blanks alone counts and has no answer, as there.
+mod answer;
 mod lines;
 
 fn main() {

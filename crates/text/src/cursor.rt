@@ -110,6 +110,13 @@ pub fn decimal(line: &[u8], c: Cursor) -> NumberRead
     number_read(f, c)
 }
 
+pub fn hex(line: &[u8], c: Cursor) -> NumberRead
+    ensures { λ r. ⌜ r ≡ numberRead c (numberField 16 (now (line .entry)) (c .at)) ⌝ }
+{
+    let f = fields::hex_field(line, c.at);
+    number_read(f, c)
+}
+
 pub fn float(line: &[u8], c: Cursor) -> FloatRead
     ensures { λ r. ⌜ r ≡ floatFrom (now (line .entry)) c ⌝ }
 {

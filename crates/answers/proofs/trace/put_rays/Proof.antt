@@ -1,4 +1,4 @@
--- `answers::trace::put_rays` is safe and ends. Assumes nothing.
+-- `answers::trace::put_rays` is safe and ends, and what waits lies in the buffer. Assumes nothing.
 use Prim.Native.Nat.{_-_, _≤_}
 use mathlib.Core.Path.{_≡_}
 use lib.ListN.{length}
@@ -7,7 +7,7 @@ use Rattle.answers.proofs.trace.put_rays.Statement.{statement}
 use Rattle.answers.proofs.trace.put_rays.Tie as tie
 
 abbrev Inv-loop : tie.InvT-loop
-Inv-loop out₀ waiting heights slopes count held₀ i₀ out held i = (i ≤ count) × (length out ≡ length out₀)
+Inv-loop out₀ waiting heights slopes count held₀ i₀ out held i = (i ≤ count) × (length out ≡ length out₀) × (held ≤ length out)
 
 abbrev μ-loop : tie.MeasureT-loop
 μ-loop out₀ waiting heights slopes count held₀ i₀ out held i = count - i

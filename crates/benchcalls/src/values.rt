@@ -1,0 +1,116 @@
+// The empty bench, and the calls by value: what each leaves and answers.
+ghost use mathlib.Core.Path.{_≡_};
+ghost use lib.ListN.{length};
+ghost use Rattle.bench.specs.Benches.{emptyBench};
+ghost use Rattle.bench.specs.Calls.{Listing, scratchAfter};
+ghost use Rattle.benchcalls.specs.Values.{admittedOf, turnedOf, fetchedOf, releasedOf};
+use crate::types::BenchAnswer;
+use bench::Bench;
+use bench::Finished;
+use jobs::JobRequest;
+use rows::Fetched;
+use runs::OptimizationResult;
+
+// "the empty bench from which others are reached is all zero"
+pub fn empty_bench() -> Bench
+    ensures { λ r. ⌜ r ≡ emptyBench ⌝ }
+{
+    let zero = rows::zero_row();
+    let places = [zero; 4];
+    Bench { rows: places }
+}
+
+pub fn admitted(bench: Bench, place: usize, request: JobRequest) -> BenchAnswer
+    ensures { λ r. ⌜ r ≡ admittedOf bench place request ⌝ }
+{
+    if place > 3 {
+        return BenchAnswer {
+            bench: bench,
+            number: rows::admit_number(place, false, request),
+        };
+    }
+    let row = bench.rows[place];
+    let answer = rows::admit_row(row, place, request);
+    let mut next = bench;
+    let left = answer.row;
+    next.rows[place] = left;
+    BenchAnswer {
+        bench: next,
+        number: answer.number,
+    }
+}
+
+pub fn turned(bench: Bench, place: usize, scratch: &mut [f64]) -> BenchAnswer
+    ensures { λ r. ⌜ (r ≡ turnedOf bench place (length (now (scratch .entry)))) × (now (scratch .exit) ≡ scratchAfter bench place (now (scratch .entry))) ⌝ }
+{
+    if place > 3 {
+        return BenchAnswer {
+            bench: bench,
+            number: 2,
+        };
+    }
+    let row = bench.rows[place];
+    let answer = rows::turn_row(row, scratch);
+    let mut next = bench;
+    let left = answer.row;
+    next.rows[place] = left;
+    BenchAnswer {
+        bench: next,
+        number: answer.number,
+    }
+}
+
+// `old` is what a refused fetch answers.
+pub fn fetched(bench: Bench, place: usize, old: OptimizationResult) -> Fetched
+    ensures { λ r. ⌜ r ≡ fetchedOf bench place old ⌝ }
+{
+    if place > 3 {
+        return Fetched {
+            result: old,
+            number: 2,
+        };
+    }
+    let row = bench.rows[place];
+    rows::fetch_row(row, old)
+}
+
+pub fn released(bench: Bench, place: usize) -> BenchAnswer
+    ensures { λ r. ⌜ r ≡ releasedOf bench place ⌝ }
+{
+    if place > 3 {
+        return BenchAnswer {
+            bench: bench,
+            number: 2,
+        };
+    }
+    let row = bench.rows[place];
+    let answer = rows::release_row(row);
+    let mut next = bench;
+    let left = answer.row;
+    next.rows[place] = left;
+    BenchAnswer {
+        bench: next,
+        number: answer.number,
+    }
+}
+
+// The finished places, in rising order.
+pub fn listed(bench: Bench) -> Finished
+    ensures { λ r. ⌜ Listing bench r ⌝ }
+{
+    let mut places = [0; 4];
+    let mut count: usize = 0;
+    let mut place: usize = 0;
+    while place < 4 {
+        let row = bench.rows[place];
+        if rows::is_listed(row) {
+            places[count] = place;
+            count += 1;
+        }
+        place += 1;
+    }
+    Finished {
+        places: places,
+        count: count,
+    }
+}

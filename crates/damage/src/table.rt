@@ -1,0 +1,87 @@
+// The entries of a row by their numbers: 0 to 21 hold whole numbers, 22 to 47 floats, 48 and 49 bounds of a variable. 50 are
+// changes that are no damage, 51 a kind of 0, with which a place is empty whatever else its row has.
+use crate::number;
+use crate::real;
+use runs::Row;
+
+pub(crate) const ENTRIES: usize = 52;
+
+// At how many places the row has the entry in use.
+pub(crate) fn places(row: Row, e: usize) -> usize {
+    match e {
+        2 => is_unfinished(row) as usize,
+        13 => (row.kind < 3) as usize,
+        14 => (row.kind == 2) as usize,
+        15 | 16 | 46 | 47 => (row.kind == 3) as usize,
+        17..=19 | 36..=38 | 48 | 49 => row.job.variable_count as usize,
+        20 | 21 | 39..=41 => row.job.operand_count as usize,
+        22..=25 => row.job.surface_count as usize,
+        26..=29 => if_used(uses_current(row), row),
+        30..=33 => if_used(uses_best(row), row),
+        34 => 64,
+        42..=45 => (row.kind < 3) as usize,
+        _ => 1,
+    }
+}
+
+fn is_unfinished(row: Row) -> bool {
+    row.damped.phase != 4
+}
+
+fn if_used(used: bool, row: Row) -> usize {
+    if used {
+        row.job.surface_count as usize
+    } else {
+        0
+    }
+}
+
+// "the current surfaces in every phase but multi-start finished"
+fn uses_current(row: Row) -> bool {
+    row.kind != 2 || is_unfinished(row)
+}
+
+// "the best surfaces in multi-start from trial 1 on and when finished, and in annealing's walk"
+fn uses_best(row: Row) -> bool {
+    if row.kind == 2 {
+        return row.trial > 0 || !is_unfinished(row);
+    }
+    row.kind == 3 && row.damped.phase == 6
+}
+
+// Whether the entry at that place bears on the job: the slot of an operand that has one, an index of a surface and slot that
+// there are, the limit of an operand that has it, the lower bound of a semi-diameter.
+pub(crate) fn is_in_use(row: Row, e: usize, i: usize) -> bool {
+    match e {
+        21 => has_slot(number::operand_kind(row, i)),
+        34 => is_index(row, i),
+        39 => number::operand_kind(row, i) > 4,
+        49 => number::variable_kind(row, i) == 3,
+        _ => true,
+    }
+}
+
+// An index of surface i / 4 in slot i % 4.
+fn is_index(row: Row, i: usize) -> bool {
+    i / 4 < row.job.surface_count as usize && i % 4 < row.job.slot_count as usize
+}
+
+fn has_slot(kind: u64) -> bool {
+    kind < 5 && kind != 2
+}
+
+// The row with the entry at place i set to the v-th of its values.
+pub(crate) fn changed(row: Row, e: usize, i: usize, v: usize) -> Row {
+    if e < 22 {
+        return number::with_number(row, e, i, number::damage(row, e, v));
+    }
+    if e < 48 {
+        return real::with_float(row, e, i, real::damage(e, v));
+    }
+    match e {
+        48 => real::crossed(row, i),
+        49 => real::with_float(row, 36, i, real::damage(25, v)),
+        50 => real::taken(row, v),
+        _ => number::with_number(row, 0, 0, 0),
+    }
+}

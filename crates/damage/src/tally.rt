@@ -1,0 +1,160 @@
+// How many rows were tried, and how many answered right, for each entry; and what is printed of that.
+ghost use Prim.Native.Nat.{_≤_, _<_};
+ghost use lib.ListN.{length};
+use crate::table::ENTRIES;
+use text::output;
+
+pub(crate) struct Tally {
+    pub tried: [u64; 52],
+    pub right: [u64; 52],
+}
+
+impl Tally {
+    pub(crate) fn new() -> Tally {
+        Tally {
+            tried: [0; 52],
+            right: [0; 52],
+        }
+    }
+}
+
+// One more row tried.
+pub(crate) fn counted(t: Tally, entry: usize, is_right: bool) -> Tally
+    requires { ⌜ entry < 52 ⌝ }
+{
+    let mut tried = t.tried;
+    let mut right = t.right;
+    tried[entry] = std::num::wrapping_add_u64(tried[entry], 1);
+    right[entry] = std::num::wrapping_add_u64(right[entry], is_right as u64);
+    Tally {
+        tried: tried,
+        right: right,
+    }
+}
+
+// One of four names, twelve letters each.
+fn put_name(out: &mut [u8], waiting: usize, names: &[u8], at: usize) -> usize
+    requires { ⌜ 48 ≤ length (now names) ⌝ }
+{
+    let from = at % 4 * 12;
+    let to = from + 12;
+    output::put(out, waiting, &names[from..to])
+}
+
+// The entries 0 to 27.
+fn put_first_name(out: &mut [u8], waiting: usize, e: usize) -> usize {
+    match e / 4 {
+        0 => put_name(
+            out,
+            waiting,
+            b"kind        phase       turns       column      ",
+            e,
+        ),
+        1 => put_name(
+            out,
+            waiting,
+            b"attempt     iteration   trial       cycle       ",
+            e,
+        ),
+        2 => put_name(
+            out,
+            waiting,
+            b"step        surfaces    slots       variables   ",
+            e,
+        ),
+        3 => put_name(
+            out,
+            waiting,
+            b"operands    iterations  trials      steps       ",
+            e,
+        ),
+        4 => put_name(
+            out,
+            waiting,
+            b"cycles      variable    at-surface  enabled     ",
+            e,
+        ),
+        5 => put_name(
+            out,
+            waiting,
+            b"operand     at          radius      conic       ",
+            e,
+        ),
+        _ => put_name(
+            out,
+            waiting,
+            b"thickness   semi        now-radius  now-conic   ",
+            e,
+        ),
+    }
+}
+
+// The entries from 28 on.
+fn put_last_name(out: &mut [u8], waiting: usize, e: usize) -> usize {
+    match e / 4 {
+        7 => put_name(
+            out,
+            waiting,
+            b"now-thick   now-semi    best-radius best-conic  ",
+            e,
+        ),
+        8 => put_name(
+            out,
+            waiting,
+            b"best-thick  best-semi   index       pupil       ",
+            e,
+        ),
+        9 => put_name(
+            out,
+            waiting,
+            b"min         max         step-size   limit       ",
+            e,
+        ),
+        10 => put_name(
+            out,
+            waiting,
+            b"target      weight      damping     merit-tol   ",
+            e,
+        ),
+        11 => put_name(
+            out,
+            waiting,
+            b"gradient-tolrel-step    temperature cooling     ",
+            e,
+        ),
+        _ => put_name(
+            out,
+            waiting,
+            b"crossed     lower-semi  taken       empty       ",
+            e,
+        ),
+    }
+}
+
+fn put_entry_name(out: &mut [u8], waiting: usize, e: usize) -> usize {
+    if e < 28 {
+        return put_first_name(out, waiting, e);
+    }
+    put_last_name(out, waiting, e)
+}
+
+fn put_entry(out: &mut [u8], waiting: usize, e: usize, tried: u64, right: u64) -> usize {
+    let waiting = put_entry_name(out, waiting, e);
+    let waiting = output::put(out, waiting, b" ");
+    let waiting = output::put_decimal(out, waiting, tried);
+    let waiting = output::put(out, waiting, b" ");
+    let waiting = output::put_decimal(out, waiting, right);
+    output::put(out, waiting, b"\n")
+}
+
+pub(crate) fn print(out: &mut [u8], t: Tally) {
+    let tried = t.tried;
+    let right = t.right;
+    let mut waiting = 0;
+    let mut e = 0;
+    while e < ENTRIES {
+        waiting = put_entry(out, waiting, e, tried[e], right[e]);
+        e += 1;
+    }
+    output::flush(out, waiting);
+}

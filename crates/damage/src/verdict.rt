@@ -1,0 +1,130 @@
+// What the calls must answer on a bench that holds a changed row, and what they must leave alone.
+use crate::examine::Case;
+use crate::same;
+use bench::Bench;
+use jobs::JobRequest;
+use optics::OpticalSurface;
+use runs::OptimizationResult;
+use runs::Row;
+
+fn with_row(bench: Bench, place: usize, row: Row) -> Bench {
+    let mut b = bench;
+    b.rows[place % 4] = row;
+    b
+}
+
+fn row_of(bench: Bench, place: usize) -> Row {
+    let row = bench.rows[place % 4];
+    row
+}
+
+// The changed row at its place, finished ones at the others.
+fn bench_with(case: Case, changed: Row) -> Bench {
+    let finished = case.finished;
+    let rows = [finished; 4];
+    with_row(Bench { rows: rows }, case.place, changed)
+}
+
+pub(crate) fn is_right(case: Case, changed: Row, e: usize) -> bool {
+    let bench = bench_with(case, changed);
+    let request = case.request;
+    match e {
+        50 => is_taken(bench, case.place),
+        51 => is_empty(bench, case.place, request),
+        _ => is_refused(bench, case.place, request),
+    }
+}
+
+// Damage: a turn and a fetch give 12, an admission 10, the place is not listed, and a release empties it.
+fn is_refused(bench: Bench, place: usize, request: JobRequest) -> bool {
+    let answer = benchcalls::admitted(bench, place, request);
+    let left = answer.bench;
+    if answer.number != 10 || !same::same_benches(left, bench) {
+        return false;
+    }
+    keeps(bench, place, 12) && lists_others(bench, place) && empties(bench, place)
+}
+
+// An empty place: a turn, a fetch and a release give 11, and an admission leaves nothing of what the row had.
+fn is_empty(bench: Bench, place: usize, request: JobRequest) -> bool {
+    let answer = benchcalls::released(bench, place);
+    let left = answer.bench;
+    if answer.number != 11 || !same::same_benches(left, bench) {
+        return false;
+    }
+    keeps(bench, place, 11) && lists_others(bench, place) && admits(bench, place, request)
+}
+
+// No damage: a place is at its end or not, and all three calls say the same of it.
+fn is_taken(bench: Bench, place: usize) -> bool {
+    let mut scratch = [0.5; 256];
+    let turn = benchcalls::turned(bench, place, &mut scratch);
+    let fetch = benchcalls::fetched(bench, place, marked());
+    let finished = benchcalls::listed(bench);
+    let number = turn.number;
+    match number {
+        0 => fetch.number == 14 && finished.count == 3,
+        13 => fetch.number == 0 && finished.count == 4,
+        _ => false,
+    }
+}
+
+// A turn and a fetch give the number, and neither bench nor scratch nor result is changed.
+fn keeps(bench: Bench, place: usize, number: u32) -> bool {
+    let before = [0.5; 256];
+    let mut scratch = before;
+    let turn = benchcalls::turned(bench, place, &mut scratch);
+    let fetch = benchcalls::fetched(bench, place, marked());
+    let left = turn.bench;
+    let result = fetch.result;
+    if turn.number != number || fetch.number != number {
+        return false;
+    }
+    same::same_benches(left, bench)
+        && same::same_floats(&scratch, &before)
+        && same::same_results(result, marked())
+}
+
+// The listing has the three other places: 0 to 3 but this one make 6 less this one.
+fn lists_others(bench: Bench, place: usize) -> bool {
+    let finished = benchcalls::listed(bench);
+    let places = finished.places;
+    let low = std::num::wrapping_add_usize(places[0], places[1]);
+    let high = std::num::wrapping_add_usize(places[2], places[3]);
+    let all = std::num::wrapping_add_usize(low, high);
+    finished.count == 3 && std::num::wrapping_add_usize(all, place) == 6
+}
+
+fn empties(bench: Bench, place: usize) -> bool {
+    let answer = benchcalls::released(bench, place);
+    let left = answer.bench;
+    let zero = row_of(benchcalls::empty_bench(), 0);
+    answer.number == 0 && same::same_benches(left, with_row(bench, place, zero))
+}
+
+fn admits(bench: Bench, place: usize, request: JobRequest) -> bool {
+    let answer = benchcalls::admitted(bench, place, request);
+    let left = answer.bench;
+    let fresh = benchcalls::admitted(benchcalls::empty_bench(), place, request);
+    let admitted = row_of(fresh.bench, place);
+    answer.number == 0 && same::same_benches(left, with_row(bench, place, admitted))
+}
+
+// A result that no run leaves.
+fn marked() -> OptimizationResult {
+    let surface = OpticalSurface {
+        radius_mm: 0.0 / 0.0,
+        conic_constant: 0.25,
+        thickness_mm: 0.125,
+        semi_diameter_mm: -0.0,
+    };
+    OptimizationResult {
+        surfaces: [surface; 16],
+        values: [0.75; 12],
+        residuals: [0.875; 12],
+        initial_merit: 0.1,
+        final_merit: 0.2,
+        iterations: 77,
+        converged: 2,
+    }
+}
