@@ -31,10 +31,6 @@ gradientAt = 136
 abbrev pub stepAt : ℕ
 stepAt = 144
 
--- the surfaces of a trial, four numbers a surface
-abbrev pub surfacesAt : ℕ
-surfacesAt = 152
-
 -- the most variables, and the most operands
 abbrev pub mostVariables : ℕ
 mostVariables = 8

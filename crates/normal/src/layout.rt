@@ -21,9 +21,6 @@ pub const GRADIENT: usize = 136;
 // The solution of the damped system.
 pub const STEP: usize = 144;
 
-// The surfaces of a trial, four numbers a surface.
-pub const SURFACES: usize = 152;
-
 // The product of columns i and j of the Jacobian, in its part.
 pub fn place(i: usize, j: usize) -> usize
     requires { ⌜ i < mostVariables ⌝ ∗ ⌜ j < mostVariables ⌝ }

@@ -19,7 +19,6 @@ pub use layout::GRADIENT;
 pub use layout::PRODUCT;
 pub use layout::SCRATCH;
 pub use layout::STEP;
-pub use layout::SURFACES;
 pub use layout::place;
 pub use layout::system_place;
 pub use products::normal_equations;
