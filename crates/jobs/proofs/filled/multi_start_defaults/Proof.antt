@@ -8,7 +8,7 @@ local-defaults-requires : tie.Need-local-defaults-requires
 local-defaults-requires c κs = search needs
 
 returns : tie.Need-returns
-returns c = cc
+returns c = rw (c .local-defaults .ensures)
 
 pub multi-start-defaults-spec : {M : Type 1} → statement M
 multi-start-defaults-spec = tie.close (tie.spec local-defaults-requires returns)
