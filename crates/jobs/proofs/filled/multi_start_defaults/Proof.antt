@@ -1,6 +1,5 @@
 -- `jobs::filled::multi_start_defaults` meets its contract. Assumes nothing.
 use borrow.Author.Needs.{needs}
--- `jobs::filled::multi_start_defaults` meets its contract. Assumes nothing.
 use Rattle.jobs.proofs.filled.multi_start_defaults.Statement.{statement}
 use Rattle.jobs.proofs.filled.multi_start_defaults.Tie as tie
 
