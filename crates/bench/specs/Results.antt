@@ -4,7 +4,7 @@ use mathlib.Core.Bool.{Bool, true, false, not, _&&_}
 use Prim.Native.Nat.{ℕ}
 use lib.Dec.{T, leb}
 use borrow.Author.Tests.{le-leb}
-use Rattle.floats.specs.CallerLaws.{test-finite}
+use Rattle.floatlaws.specs.CallerLaws.{test-finite}
 use Rattle.lists.specs.All.{all-at}
 use Rattle.optics.specs.Check.{surfaceTaken, surfacesTaken, lensTaken}
 use Rattle.optics.specs.CheckLaws.{lens-parts, lens-from}

@@ -65,18 +65,14 @@ fn resume_attempts(
     let mut k = first;
     while k < 10 {
         let solved = attempt_step(scratch, p, now);
-        match solved {
-            Solved::Yes => {
-                let params = state.params;
-                let candidate = candidate_params(variables, p, params, scratch);
-                return at_candidate(state, now.value, k + 1, candidate);
-            }
-            Solved::No => {
-                let raised = now.raise();
-                now = raised;
-                k += 1;
-            }
-        }
+        let Solved::No = solved else {
+            let params = state.params;
+            let candidate = candidate_params(variables, p, params, scratch);
+            return at_candidate(state, now.value, k + 1, candidate);
+        };
+        let raised = now.raise();
+        now = raised;
+        k += 1;
     }
     ended(state, false)
 }

@@ -1,12 +1,7 @@
--- What the functions compute: `Basic`, `Sqrt`, `Exp`. That the square root is the nearest `f64` to the exact one: `Nearest`.
+-- What the functions compute: `Basic`, `Sqrt`, `Exp`.
 pub mod Basic
 pub mod Sqrt
 pub mod Exp
-pub mod Nearest
--- Laws for callers: of these functions, of the order of floats, and of the order through rounded operations.
-pub mod CallerLaws
-pub mod Order
-pub mod Monotone
 -- Steps of the proofs.
 pub mod Constants
 pub mod Steps
@@ -14,6 +9,3 @@ pub mod BasicLaws
 pub mod RootLaws
 pub mod Patterns
 pub mod SqrtCases
-pub mod Fractions
-pub mod Rounding
-pub mod Examples

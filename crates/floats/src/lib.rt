@@ -1,6 +1,6 @@
 // Functions on `f64`: the square root, rounded to the nearest `f64`, E, which stands in for the exponential,
 // and what Rust's methods do. Each contract is an equation with a definition in specs/; callers go by
-// the laws in `specs/CallerLaws.antt`, `Order.antt` and `Monotone.antt`.
+// the laws in the crate `floatlaws`: `specs/CallerLaws.antt`, `Order.antt` and `Monotone.antt`.
 mod basic;
 mod exp;
 mod root;

@@ -8,19 +8,21 @@ use native.Mathlib.Omega.{arith}
 use lib.ListN.{length, getD, set, length-set}
 use lib.Seq.{sets, getD-set-same, getD-set-other}
 
+-- an index outside a part is outside its rest, and is not the part's first
+module _ (at i n : ℕ) where
+  pub outside-rest : (i < at) ⊎ (at + suc n ≤ i) → (i < suc at) ⊎ (suc at + n ≤ i)
+  outside-rest (inl b) = inl (omega arith)
+  outside-rest (inr b) = inr (omega arith)
+
+  pub outside-first : (i < at) ⊎ (at + suc n ≤ i) → i ≢ at
+  outside-first (inl b) = omega arith
+  outside-first (inr b) = omega arith
+
 module _ {A : Type 0} where
   -- what stands before the part, or behind it, stays
   pub getD-sets-out : (vs l : List A) (at i : ℕ) (d : A) → (i < at) ⊎ (at + length vs ≤ i) → getD (sets l at vs) i d ≡ getD l i d
   getD-sets-out [] l at i d h = refl
-  getD-sets-out (v ∷ vs) l at i d h = getD-sets-out vs (set l at v) (suc at) i d (further h) ∙ getD-set-other l at i v d (apart h)
-    where
-      further : (i < at) ⊎ (at + suc (length vs) ≤ i) → (i < suc at) ⊎ (suc at + length vs ≤ i)
-      further (inl b) = inl (omega arith)
-      further (inr b) = inr (omega arith)
-
-      apart : (i < at) ⊎ (at + suc (length vs) ≤ i) → i ≢ at
-      apart (inl b) = omega arith
-      apart (inr b) = omega arith
+  getD-sets-out (v ∷ vs) l at i d h = getD-sets-out vs (set l at v) (suc at) i d (outside-rest at i (length vs) h) ∙ getD-set-other l at i v d (outside-first at i (length vs) h)
 
   -- what was written stands in the part
   pub getD-sets-in : (vs l : List A) (at k : ℕ) (d : A) → k < length vs → at + length vs ≤ length l → getD (sets l at vs) (at + k) d ≡ getD vs k d

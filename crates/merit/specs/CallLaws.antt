@@ -20,10 +20,16 @@ passed : (b : Bool) → not b ≡ false → T b
 passed true e = tt
 passed false e = absurd (true≢false e)
 
-pub counts-parts : (surfaces slots : ℕ) → T (lensCountsTaken surfaces slots) → (surfaces ≤ 16) × (1 ≤ slots) × (slots ≤ 4)
+counts-parts : (surfaces slots : ℕ) → T (lensCountsTaken surfaces slots) → (surfaces ≤ 16) × (1 ≤ slots) × (slots ≤ 4)
 counts-parts surfaces slots t =
     let l = and-l (leb surfaces 16 && leb 1 slots) (leb slots 4) t in
     (leb→le surfaces 16 (and-l (leb surfaces 16) (leb 1 slots) l), leb→le 1 slots (and-r (leb surfaces 16) (leb 1 slots) l), leb→le slots 4 (and-r (leb surfaces 16 && leb 1 slots) (leb slots 4) t))
+
+-- counts that passed their test leave room for the lens's own
+pub counts-room : (p : OpticalPrescription) {b : Bool} → b ≡ lensCountsTaken (p .«surface_count») (p .«slot_count») → not b ≡ false → (p .«surface_count» ≤ 16) × (p .«slot_count» ≤ 4)
+counts-room p {b} e h =
+    let k = counts-parts (p .«surface_count») (p .«slot_count») (subst T e (passed b h)) in
+    (k .0, k .2)
 
 -- ---- evaluate
 module _ (p : OpticalPrescription) (f : MeritFunction) where

@@ -9,8 +9,8 @@ use lib.Ieee.{Float, ofBits, binary64, add}
 use lib.ListN.{length, replicate, length-append, length-replicate}
 use Rattle.floats.specs.Basic.{finiteOf}
 use Rattle.floats.specs.Constants.{zero64}
-use Rattle.floats.specs.CallerLaws.{finite-test}
-use Rattle.floats.specs.Fractions.{Finite}
+use Rattle.floatlaws.specs.CallerLaws.{finite-test}
+use Rattle.floatlaws.specs.Fractions.{Finite}
 use Rattle.lists.specs.Tab.{tab, length-tab, tab-same}
 use Rattle.optics.specs.Properties.{paraxialOf}
 use Rattle.optics.specs.TraceLaws.{paraxial-same}

@@ -1,7 +1,7 @@
 -- Parts of a list that are written one number after another. Assumes nothing.
 use mathlib.Core.Path.{_≡_, refl, sym, ap, _∙_}
 use mathlib.Core.List.{List, [], _∷_, _++_}
-use mathlib.Core.Logic.{_⊎_, inl, inr, _≢_}
+use mathlib.Core.Logic.{_⊎_, inl}
 use Prim.Native.Nat.{ℕ, suc, _+_, _≤_, _<_}
 use native.Mathlib.Nat.{add-zero}
 use native.Mathlib.Numerals.{add-one}
@@ -9,21 +9,13 @@ use native.Mathlib.Omega.{arith}
 use lib.ListN.{length, getD, set, drop, length-drop}
 use lib.Seq.{sets, set-comm, getD-drop, ext-getD}
 use Rattle.lists.specs.Tab.{tab, length-tab, getD-tab}
-use Rattle.lists.specs.Parts.{getD-sets-in, getD-sets-out}
+use Rattle.lists.specs.Parts.{getD-sets-in, getD-sets-out, outside-first, outside-rest}
 
 module _ {A : Type 0} where
   -- a store outside a part, before the part is written or after
   pub set-sets : (vs l : List A) (at i : ℕ) (v : A) → (i < at) ⊎ (at + length vs ≤ i) → set (sets l at vs) i v ≡ sets (set l i v) at vs
   set-sets [] l at i v h = refl
-  set-sets (w ∷ vs) l at i v h = set-sets vs (set l at w) (suc at) i v (further h) ∙ ap (λ (k : List A). sets k (suc at) vs) (set-comm l at i w v (apart h))
-    where
-      further : (i < at) ⊎ (at + suc (length vs) ≤ i) → (i < suc at) ⊎ (suc at + length vs ≤ i)
-      further (inl b) = inl (omega arith)
-      further (inr b) = inr (omega arith)
-
-      apart : (i < at) ⊎ (at + suc (length vs) ≤ i) → at ≢ i
-      apart (inl b) = omega arith
-      apart (inr b) = omega arith
+  set-sets (w ∷ vs) l at i v h = set-sets vs (set l at w) (suc at) i v (outside-rest at i (length vs) h) ∙ ap (λ (k : List A). sets k (suc at) vs) (set-comm l at i w v (λ e. outside-first at i (length vs) h (sym e)))
 
   -- a part grows at its end, and at its front
   sets-snoc : (vs l : List A) (at : ℕ) (v : A) → set (sets l at vs) (at + length vs) v ≡ sets l at (vs ++ (v ∷ []))

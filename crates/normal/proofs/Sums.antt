@@ -6,7 +6,7 @@ use native.Mathlib.Omega.{arith}
 use mathlib.Core.List.{List}
 use lib.ListN.{getD}
 use lib.Ieee.{Float, nan, binary64, add, mul}
-use Rattle.floats.specs.Monotone.{mul-either}
+use Rattle.floatlaws.specs.Monotone.{mul-either}
 use Rattle.floats.specs.Sqrt.{sqrtOf}
 use Rattle.normal.specs.Layout.{jacobianPlace}
 use Rattle.normal.specs.Jacobian.{jacobianAt}

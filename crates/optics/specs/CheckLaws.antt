@@ -7,9 +7,9 @@ use lib.Ieee.{Float, nan, inf, fin, neg, lt, le, eq, isNan, ofBits}
 use lib.Ieee.Fits.{and-i, and-l, and-r}
 use Rattle.floats.specs.Basic.{finiteOf}
 use Rattle.floats.specs.Constants.{zero64}
-use Rattle.floats.specs.CallerLaws.{finite-test, test-finite}
-use Rattle.floats.specs.Fractions.{Finite}
-use Rattle.floats.specs.Order.{Number, lt→le, finite-between}
+use Rattle.floatlaws.specs.CallerLaws.{finite-test, test-finite}
+use Rattle.floatlaws.specs.Fractions.{Finite}
+use Rattle.floatlaws.specs.Order.{Number, lt→le, finite-between}
 use Rattle.lists.specs.All.{all-at, all-from}
 use Rattle.optics.specs.Types.{surfaceAt, slotIndex}
 use Rattle.optics.specs.Check.{billion, ten, within, aboveZeroUpTo, pupilTaken, indexTaken, surfaceTaken, surfacesTaken, rowTaken, indicesTaken, lensTaken}

@@ -9,9 +9,9 @@ use Rattle.merit.specs.declared.types.MeritEvaluation.{MeritEvaluation}
 use Rattle.runs.specs.declared.types.DampedState.{DampedState}
 use Rattle.runs.specs.declared.types.OptimizationResult.{OptimizationResult}
 use Rattle.runs.specs.Run.{Surfaces, Run, done, ask, _>>=_}
-use Rattle.runs.specs.Zeros.{zeroSurfaces, zeroOperands, zeroParams, zeroJacobian, zeroEvaluation}
+use Rattle.runs.specs.Zeros.{zeroSurfaces, zeroOperands, zeroParams}
 use Rattle.runs.specs.AnnealingRun.{Annealer, Walk, cooled, trialParams, afterDraws, trialPresc, judged, steps, cycles, started, polisher, withPrior, polish}
-use Rattle.runs.specs.DampedRow.{atFirst}
+use Rattle.runs.specs.DampedRow.{holding, atFirst}
 use Rattle.runs.specs.DampedRow as Damped
 use Rattle.runs.specs.DampedResumption as Damped′
 use Rattle.runs.specs.State.{State, withBest, alone, withDamped}
@@ -45,21 +45,7 @@ walkOf s = record {
 -- ---- Each phase's state: what the phase does not use is zero
 -- the damped part in the walk
 abbrev pub walking : (phase : ℕ) (surfaces : Surfaces) (params trial : List Float) → DampedState
-walking n surfaces params trial = record {
-  surfaces = surfaces;
-  jacobian = zeroJacobian;
-  evaluation = zeroEvaluation;
-  «plus_residuals» = zeroOperands;
-  params = params;
-  candidate = trial;
-  «initial_merit» = zero64;
-  damping = zero64;
-  phase = n;
-  iteration = 0;
-  column = 0;
-  attempt = 0;
-  converged = 0;
-}
+walking n surfaces params trial = holding n surfaces params trial
 
 -- the best part in the walk, and in the polish, which needs the first merit alone
 abbrev pub kept : (surfaces : Surfaces) (initialMerit bestMerit : Float) → OptimizationResult

@@ -22,7 +22,7 @@ use Rattle.runs.specs.AnnealingEnds.{sound-judged}
 use Rattle.runs.specs.JobRun.{annealerOf}
 use Rattle.runs.specs.State.{State}
 use Rattle.runs.specs.DampedRow as DampedRow
-use Rattle.runs.specs.AnnealingRow.{Phase, walkFirst, walk, polishing, phaseOf, walkOf, isCycle, resumeCycles, resumeSteps, advanceAt, advance, finishedAt, isFinished}
+use Rattle.runs.specs.AnnealingRow.{Phase, walkFirst, walk, polishing, phaseOf, walkOf, atStep, isCycle, resumeCycles, resumeSteps, advanceAt, advance, finishedAt, isFinished}
 use Rattle.runs.specs.Rows.{advanceBy, finishedBy}
 use Rattle.runs.specs.DampedSound as DampedSound
 use Rattle.runs.specs.StateSound.{Sound}
@@ -94,9 +94,9 @@ module _ (job : Job)
   below-max : (c n : ℕ) → c < n → c < max n 1
   below-max c n h = lt-of-lt-of-le h (le-max-left n 1)
 
-  cycles-sound : (b : Bool) (i : Float) (w : Walk) (c : ℕ) → isCycle (annealerOf job config) c ≡ b → 0 < p → TakenWalk w → Sound m job (resumeCycles (annealerOf job config) b i w c)
-  unfolding resumeCycles afterDraws
-  cycles-sound true i w c e pos h = record {
+  step-sound : (i : Float) (w : Walk) (c k : ℕ) → 0 < p → c < max cycleCount 1 → k < max stepCount 1 → TakenWalk w → Sound m job (atStep (annealerOf job config) i w c k)
+  unfolding afterDraws
+  step-sound i w c k pos below-c below-k h = record {
     phaseUpTo = omega arith;
     current = λ u. h .0;
     best = λ u. h .1;
@@ -104,9 +104,13 @@ module _ (job : Job)
     attemptUpTo = omega arith;
     iterationUpTo = omega arith;
     trialUpTo = omega arith;
-    cycleBelow = below-max c cycleCount (ltb-true c cycleCount (first (ltb c cycleCount) (ltb 0 stepCount) e));
-    stepBelow = one-below stepCount;
+    cycleBelow = below-c;
+    stepBelow = below-k;
   }
+
+  cycles-sound : (b : Bool) (i : Float) (w : Walk) (c : ℕ) → isCycle (annealerOf job config) c ≡ b → 0 < p → TakenWalk w → Sound m job (resumeCycles (annealerOf job config) b i w c)
+  unfolding resumeCycles
+  cycles-sound true i w c e pos h = step-sound i w c 0 pos (below-max c cycleCount (ltb-true c cycleCount (first (ltb c cycleCount) (ltb 0 stepCount) e))) (one-below stepCount) h
     where
       first : (x y : Bool) → x && y ≡ true → x ≡ true
       first true y h = refl
@@ -124,18 +128,8 @@ module _ (job : Job)
   }
 
   steps-sound : (b : Bool) (i : Float) (w : Walk) (c k : ℕ) → ltb k stepCount ≡ b → 0 < p → c < max cycleCount 1 → TakenWalk w → Sound m job (resumeSteps (annealerOf job config) b i w c k)
-  unfolding resumeSteps afterDraws
-  steps-sound true i w c k e pos l h = record {
-    phaseUpTo = omega arith;
-    current = λ u. h .0;
-    best = λ u. h .1;
-    columnBelow = pos;
-    attemptUpTo = omega arith;
-    iterationUpTo = omega arith;
-    trialUpTo = omega arith;
-    cycleBelow = l;
-    stepBelow = below-max k stepCount (ltb-true k stepCount e);
-  }
+  unfolding resumeSteps
+  steps-sound true i w c k e pos l h = step-sound i w c k pos l (below-max k stepCount (ltb-true k stepCount e)) h
   steps-sound false i w c k e pos l h = cycles-sound (isCycle (annealerOf job config) (suc c)) i (cooled (config .«cooling_rate») w) (suc c) refl pos h
 
   above-zero : (q n : ℕ) → q < n → 0 < n

@@ -37,22 +37,26 @@ currentOf d = record {
 }
 
 -- ---- Each phase's state: what the phase does not use is zero
-abbrev pub atFirst : Surfaces → DampedState
-atFirst initial = record {
-  surfaces = initial;
+-- surfaces, parameters and a candidate alone
+abbrev pub holding : (phase : ℕ) (surfaces : Surfaces) (params trial : List Float) → DampedState
+holding n surfaces params trial = record {
+  surfaces = surfaces;
   jacobian = zeroJacobian;
   evaluation = zeroEvaluation;
   «plus_residuals» = zeroOperands;
-  params = zeroParams;
-  candidate = zeroParams;
+  params = params;
+  candidate = trial;
   «initial_merit» = zero64;
   damping = zero64;
-  phase = 0;
+  phase = n;
   iteration = 0;
   column = 0;
   attempt = 0;
   converged = 0;
 }
+
+abbrev pub atFirst : Surfaces → DampedState
+atFirst initial = holding 0 initial zeroParams zeroParams
 
 -- in the loops, with the entries that differ from phase to phase
 abbrev within : (phase : ℕ) → Current → (jMat plusResiduals candidate : List Float) (column attempt : ℕ) → DampedState
@@ -101,21 +105,7 @@ ended c s = record {
 
 -- at the end, with nothing left
 abbrev pub zeroAtEnd : DampedState
-zeroAtEnd = record {
-  surfaces = zeroSurfaces;
-  jacobian = zeroJacobian;
-  evaluation = zeroEvaluation;
-  «plus_residuals» = zeroOperands;
-  params = zeroParams;
-  candidate = zeroParams;
-  «initial_merit» = zero64;
-  damping = zero64;
-  phase = 4;
-  iteration = 0;
-  column = 0;
-  attempt = 0;
-  converged = 0;
-}
+zeroAtEnd = holding 4 zeroSurfaces zeroParams zeroParams
 
 module _ (o : Optimizer) where
   -- ---- From where a loop is entered to just before the next merit, or to the end

@@ -4,7 +4,7 @@ use mathlib.Core.Bool.{Bool, true, false, cond}
 use Prim.Native.Nat.{ℕ, zero, suc}
 use lib.Dec.{T}
 use lib.Ieee.{Float, lt}
-use Rattle.floats.specs.Order.{lt-trans}
+use Rattle.floatlaws.specs.Order.{lt-trans}
 use Rattle.xorshift.specs.Xorshift.{seeded}
 use Rattle.merit.specs.declared.types.MeritEvaluation.{MeritEvaluation}
 use Rattle.runs.specs.declared.types.OptimizationResult.{OptimizationResult}

@@ -8,8 +8,8 @@ use lib.Dec.{T}
 use lib.Ieee.{Float, lt, le}
 use lib.Ieee.Fits.{and-r}
 use Rattle.floats.specs.Basic.{finiteOf}
-use Rattle.floats.specs.Order.{le-trans, lt→le, le-self}
-use Rattle.floats.specs.CallerLaws.{finite-test, finite-number}
+use Rattle.floatlaws.specs.Order.{le-trans, lt→le, le-self}
+use Rattle.floatlaws.specs.CallerLaws.{finite-test, finite-number}
 use Rattle.optics.specs.Check.{surfacesTaken}
 use Rattle.variables.specs.Active.{numActive}
 use Rattle.variables.specs.Values.{applied}

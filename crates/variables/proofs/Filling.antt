@@ -6,13 +6,13 @@ use Prim.Native.Nat.{ℕ, _+_, _≤_, _<_}
 use native.Mathlib.Omega.{arith}
 use lib.ListN.{length, getD, set, drop}
 use lib.Ieee.{Float, nan}
+use Rattle.lists.specs.Filled.{filled}
 use Rattle.lists.specs.Tab.{tab, tab-step}
 use Rattle.variables.specs.declared.types.VariableDef.{VariableDef}
 use Rattle.variables.specs.declared.types.VariableSet.{VariableSet}
 use Rattle.variables.specs.Active.{variableAt, activeAt}
 use Rattle.variables.specs.ActiveLaws.{enabledCount, count-le, count-more, count-past, active-here}
 use Rattle.variables.specs.Values.{eight}
-use Rattle.variables.proofs.Filled.{filled}
 
 -- i variables are passed, of which q were enabled, and the numbers of those are stored: g of the variable and its number among the enabled ones
 pub record Filling (v : VariableSet) (g : VariableDef → ℕ → Float) (start x : List Float) (q i : ℕ) : Type 0 where

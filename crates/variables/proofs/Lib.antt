@@ -1,3 +1,2 @@
 -- Laws that several functions' proofs cite.
-pub mod Filled
 pub mod Filling

@@ -12,10 +12,10 @@ use lib.Ieee.Fits.{down-pos}
 use lib.Ieee.Bits.{is-true}
 use Rattle.floats.specs.Basic.{magnitude, clampOf, finiteOf}
 use Rattle.floats.specs.BasicLaws.{not-zero}
-use Rattle.floats.specs.CallerLaws.{finite-test, test-finite, clamp-above, clamp-below, quotient-number}
+use Rattle.floatlaws.specs.CallerLaws.{finite-test, test-finite, clamp-above, clamp-below, quotient-number}
 use Rattle.floats.specs.Constants.{zero64, one64}
-use Rattle.floats.specs.Fractions.{Finite}
-use Rattle.floats.specs.Order.{Number, le-trans, le-self, le-numbers, finite-between}
+use Rattle.floatlaws.specs.Fractions.{Finite}
+use Rattle.floatlaws.specs.Order.{Number, le-trans, le-self, le-numbers, finite-between}
 use Rattle.optics.specs.declared.types.OpticalSurface.{OpticalSurface}
 use Rattle.optics.specs.Types.{noSurface, surfaceAt}
 use Rattle.optics.specs.Check.{billion, within, aboveZeroUpTo, surfaceTaken}
@@ -29,7 +29,7 @@ use Rattle.variables.specs.Active.{numActive, activeAt}
 use Rattle.variables.specs.Values.{storedAt, appliedTo, applied}
 use Rattle.variables.specs.Taken.{lowerBoundTaken, variablesTaken}
 use Rattle.variables.specs.TakenLaws.{VariableTaken, active-taken}
-use Rattle.floats.specs.Order.{lt-le-trans}
+use Rattle.floatlaws.specs.Order.{lt-le-trans}
 
 -- a value of that kind of which check 3 has nothing to say: of a curvature, any finite one
 abbrev pub allowed : VariableType → Float → Bool

@@ -24,6 +24,9 @@ attempt-step-requires c κs = omega (arith, active-le (c .before .before .before
 enum-told : tie.Need-enum-told Inv-loop μ-loop
 enum-told c = search needs
 
+enum-told-2 : tie.Need-enum-told-2 Inv-loop μ-loop
+enum-told-2 c = search needs
+
 candidate-params-requires : tie.Need-candidate-params-requires Inv-loop μ-loop
 candidate-params-requires c κs = omega (arith, c .before .before .before .before .before .before .before .before .before .loop .inv .kept .long, c .before .before .before .before .before .before .attempt-step .ensures .long)
 
@@ -41,9 +44,6 @@ returns c =
     let s = c .before .before .before .before .before .before .before .before in
     let yes : s .attempt-step .result ≡ Yes = cc in
     trying-found (c .before .before .before .before .before .before .before .before .before .before .before .loop .inv) (c .before .before .before .before .before .before .before .before .before .before .before .before .before .pre .1 .1) (omega arith) (s .attempt-step .ensures) yes (c .before .candidate-params .ensures) (c .at-candidate .ensures)
-
-enum-told-2 : tie.Need-enum-told-2 Inv-loop μ-loop
-enum-told-2 c = search needs
 
 raise-requires : tie.Need-raise-requires Inv-loop μ-loop
 raise-requires c κs = search needs
@@ -78,12 +78,12 @@ resume-attempts-spec =
     loop-holds
     attempt-step-requires
     enum-told
+    enum-told-2
     candidate-params-requires
     add-at-candidate
     at-candidate-requires
     same-length
     returns
-    enum-told-2
     raise-requires
     add-k
     loop-less

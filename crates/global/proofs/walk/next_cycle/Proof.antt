@@ -30,14 +30,14 @@ at-step-requires c κs = search needs
 
 returns : tie.Need-returns
 unfolding resumeSteps resumeCycles
-returns c = λ a ec ev k. c .at-step .ensures a ev ∙ simp (sym ec, sym (c .before .before .is-next-cycle .ensures a ec) ∙ c .before .if1 .taken, add-one)
+returns c = λ a ec ev k. c .at-step .ensures a ev ∙ rw (sym ec, sym (c .before .before .is-next-cycle .ensures a ec) ∙ c .before .if1 .taken, add-one)
 
 at-polish-requires : tie.Need-at-polish-requires
 at-polish-requires c κs = search needs
 
 returns-2 : tie.Need-returns-2
 unfolding resumeSteps resumeCycles
-returns-2 c = λ a ec ev k. c .at-polish .ensures ∙ simp (sym (c .before .before .before .is-next-cycle .ensures a ec) ∙ c .before .before .if1 .left)
+returns-2 c = λ a ec ev k. c .at-polish .ensures ∙ rw (sym (c .before .before .before .is-next-cycle .ensures a ec) ∙ c .before .before .if1 .left)
 
 pub next-cycle-spec : {M : Type 1} → statement M
 next-cycle-spec =

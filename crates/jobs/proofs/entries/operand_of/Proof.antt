@@ -7,7 +7,7 @@ operand-type-requires : tie.Need-operand-type-requires
 operand-type-requires c κs = search needs
 
 returns : tie.Need-returns
-returns c = cc
+returns c = rw (c .operand-type .ensures)
 
 pub operand-of-spec : {M : Type 1} → statement M
 operand-of-spec = tie.close (tie.spec operand-type-requires returns)

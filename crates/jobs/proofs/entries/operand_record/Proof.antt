@@ -13,7 +13,7 @@ limit-of-requires : tie.Need-limit-of-requires
 limit-of-requires c κs = search needs
 
 returns : tie.Need-returns
-returns c = cc
+returns c = rw (c .before .before .operand-kind .ensures, c .before .slot-or-surface .ensures, c .limit-of .ensures)
 
 pub operand-record-spec : {M : Type 1} → statement M
 operand-record-spec =

@@ -7,7 +7,7 @@ variable-type-requires : tie.Need-variable-type-requires
 variable-type-requires c κs = search needs
 
 returns : tie.Need-returns
-returns c = cc
+returns c = rw (c .before .variable-type .ensures)
 
 pub variable-of-spec : {M : Type 1} → statement M
 variable-of-spec = tie.close (tie.spec variable-type-requires returns)

@@ -13,7 +13,7 @@ one-if-requires : tie.Need-one-if-requires
 one-if-requires c κs = search needs
 
 returns : tie.Need-returns
-returns c = cc
+returns c = rw (c .before .before .variable-kind .ensures, c .before .surface-index .ensures, c .one-if .ensures)
 
 pub variable-record-spec : {M : Type 1} → statement M
 variable-record-spec =

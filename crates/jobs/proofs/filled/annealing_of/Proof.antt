@@ -1,6 +1,5 @@
 -- `jobs::filled::annealing_of` meets its contract. Assumes nothing.
 use borrow.Author.Needs.{needs}
--- `jobs::filled::annealing_of` meets its contract. Assumes nothing.
 use Rattle.jobs.proofs.filled.annealing_of.Statement.{statement}
 use Rattle.jobs.proofs.filled.annealing_of.Tie as tie
 
@@ -20,7 +19,13 @@ count-or-requires-3 : tie.Need-count-or-requires-3
 count-or-requires-3 c κs = search needs
 
 returns : tie.Need-returns
-returns c = cc
+returns c = λ i. record {
+  «initial_temperature» = c .before .before .before .before .number-or .ensures i;
+  «cooling_rate» = c .before .before .before .number-or2 .ensures i;
+  «steps_per_temperature» = c .before .before .count-or .ensures i;
+  «max_cooling_cycles» = c .before .count-or2 .ensures i;
+  seed = c .count-or3 .ensures i;
+}
 
 pub annealing-of-spec : {M : Type 1} → statement M
 annealing-of-spec =

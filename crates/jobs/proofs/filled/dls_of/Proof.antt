@@ -1,6 +1,5 @@
 -- `jobs::filled::dls_of` meets its contract. Assumes nothing.
 use borrow.Author.Needs.{needs}
--- `jobs::filled::dls_of` meets its contract. Assumes nothing.
 use Rattle.jobs.proofs.filled.dls_of.Statement.{statement}
 use Rattle.jobs.proofs.filled.dls_of.Tie as tie
 
@@ -20,7 +19,13 @@ number-or-requires-4 : tie.Need-number-or-requires-4
 number-or-requires-4 c κs = search needs
 
 returns : tie.Need-returns
-returns c = cc
+returns c = λ i. record {
+  «max_iterations» = c .before .before .before .before .count-or .ensures i;
+  «initial_damping» = c .before .before .before .number-or .ensures i;
+  «relative_merit_tolerance» = c .before .before .number-or2 .ensures i;
+  «gradient_tolerance» = c .before .number-or3 .ensures i;
+  «finite_difference_relative_step» = c .number-or4 .ensures i;
+}
 
 pub dls-of-spec : {M : Type 1} → statement M
 dls-of-spec =

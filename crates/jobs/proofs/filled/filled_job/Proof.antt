@@ -7,7 +7,7 @@ method-of-requires : tie.Need-method-of-requires
 method-of-requires c κs = search needs
 
 returns : tie.Need-returns
-returns c = cc
+returns c = rw (c .method-of .ensures)
 
 pub filled-job-spec : {M : Type 1} → statement M
 filled-job-spec = tie.close (tie.spec method-of-requires returns)

@@ -1,6 +1,5 @@
 -- `jobs::filled::multi_start_of` meets its contract. Assumes nothing.
 use borrow.Author.Needs.{needs}
--- `jobs::filled::multi_start_of` meets its contract. Assumes nothing.
 use Rattle.jobs.proofs.filled.multi_start_of.Statement.{statement}
 use Rattle.jobs.proofs.filled.multi_start_of.Tie as tie
 
@@ -14,7 +13,11 @@ count-or-requires-2 : tie.Need-count-or-requires-2
 count-or-requires-2 c κs = search needs
 
 returns : tie.Need-returns
-returns c = cc
+returns c = λ i. record {
+  «local_dls_config» = c .before .before .dls-of .ensures i;
+  «num_trials» = c .before .count-or .ensures i;
+  seed = c .count-or2 .ensures i;
+}
 
 pub multi-start-of-spec : {M : Type 1} → statement M
 multi-start-of-spec =

@@ -7,7 +7,7 @@ dls-config-requires : tie.Need-dls-config-requires
 dls-config-requires c κs = search needs
 
 returns : tie.Need-returns
-returns c = cc
+returns c = rw (c .dls-config .ensures)
 
 pub multi-start-config-spec : {M : Type 1} → statement M
 multi-start-config-spec = tie.close (tie.spec dls-config-requires returns)

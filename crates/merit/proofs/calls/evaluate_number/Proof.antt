@@ -2,7 +2,7 @@
 use mathlib.Core.Path.{sym, _∙_}
 use borrow.Author.Tests.{not-true, not-false, le-leb, lt-leb}
 use Rattle.merit.specs.Calls.{evaluateNumber}
-use Rattle.merit.specs.CallLaws.{counts-parts}
+use Rattle.merit.specs.CallLaws.{counts-room}
 use borrow.Author.Needs.{needs}
 use Rattle.merit.proofs.calls.evaluate_number.Statement.{statement}
 use Rattle.merit.proofs.calls.evaluate_number.Tie as tie
@@ -19,10 +19,7 @@ unfolding evaluateNumber
 returns-2 c = simp (sym (c .before .before .before .lens-counts-taken .ensures) ∙ not-false _ (c .before .before .if1 .left), lt-leb _ _ (c .if2 .taken))
 
 lens-taken-requires : tie.Need-lens-taken-requires
-lens-taken-requires c κs =
-    let a = c .before .before .before .before .args .prescription in
-    let k = counts-parts (a .«surface_count») (a .«slot_count») (rw (sym (c .before .before .before .lens-counts-taken .ensures) ∙ not-false _ (c .before .before .if1 .left)) tt) in
-    (k .0, k .2)
+lens-taken-requires c κs = counts-room (c .before .before .before .before .args .prescription) (c .before .before .before .lens-counts-taken .ensures) (c .before .before .if1 .left)
 
 returns-3 : tie.Need-returns-3
 unfolding evaluateNumber

@@ -33,31 +33,31 @@ is-within-requires-2 c κs = search needs
 
 returns : tie.Need-returns
 unfolding kindTaken
-returns c = cc
+returns c = rw (c .before .kind .given .1) (search needs)
 
 returns-2 : tie.Need-returns-2
 unfolding kindTaken
-returns-2 c = cc
+returns-2 c = rw (c .before .kind2 .given .1) (search needs)
 
 returns-3 : tie.Need-returns-3
 unfolding kindTaken
-returns-3 c = cc
+returns-3 c = rw (c .enum-told .given .1)
 
 returns-4 : tie.Need-returns-4
 unfolding kindTaken
-returns-4 c = cc
+returns-4 c = rw (c .before .kind3 .given .1) (search needs)
 
 returns-5 : tie.Need-returns-5
 unfolding kindTaken
-returns-5 c = cc
+returns-5 c = rw (c .before .kind4 .given .1) (search needs)
 
 returns-6 : tie.Need-returns-6
 unfolding kindTaken
-returns-6 c = cc
+returns-6 c = rw (c .before .before .kind5 .given .1) (c .is-within .ensures)
 
 returns-7 : tie.Need-returns-7
 unfolding kindTaken
-returns-7 c = cc
+returns-7 c = rw (c .before .before .kind6 .given .1) (c .is-within2 .ensures)
 
 pub kind-taken-spec : {M : Type 1} → statement M
 kind-taken-spec =

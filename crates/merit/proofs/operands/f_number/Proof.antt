@@ -16,7 +16,7 @@ returns : tie.Need-returns
 returns c = search needs
 
 returns-2 : tie.Need-returns-2
-returns-2 c = cc
+returns-2 c = rw (c .before .before .slot .given .1) (c .finite-or .ensures)
 
 pub f-number-spec : {M : Type 1} → statement M
 f-number-spec = tie.close (tie.spec enum-told enum-known-slot finite-or-requires returns returns-2)

@@ -16,7 +16,7 @@ returns : tie.Need-returns
 returns c = search needs
 
 returns-2 : tie.Need-returns-2
-returns-2 c = cc
+returns-2 c = rw (c .before .before .slot .given .1) (c .traced-magnification .ensures)
 
 pub magnification-of-spec : {M : Type 1} → statement M
 magnification-of-spec =

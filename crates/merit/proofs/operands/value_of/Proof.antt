@@ -101,7 +101,7 @@ returns-2 c =
 
 returns-3 : tie.Need-returns-3
 unfolding valueOf
-returns-3 c = cc
+returns-3 c = rw (c .before .before .enum-told .given .1) (c .counted-value3 .ensures ∙ ap counted (c .before .total-track .ensures))
 
 returns-4 : tie.Need-returns-4
 unfolding valueOf

@@ -9,8 +9,8 @@ use mathlib.Core.Bool.{Bool, true, false, not, cond}
 use lib.Dec.{T, ltb, eqb, ltb→lt, nltb→le, eqb→eq}
 use lib.Ieee.{Float, nan, inf, fin, Format, up, down, neg, le, round, sum, add, sub, mul, div, unlike}
 use lib.Ieee.Fits.{up-pos, down-pos}
-use Rattle.floats.specs.Fractions.{Finite, plus, less, den, den-pos, le→under}
-use Rattle.floats.specs.Rounding.{Rounded, rounded-mono, neg-anti}
+use Rattle.floatlaws.specs.Fractions.{Finite, plus, less, den, den-pos, le→under}
+use Rattle.floatlaws.specs.Rounding.{Rounded, rounded-mono, neg-anti}
 
 -- ---- a sum
 abbrev onPlus : Bool → ℕ → ℕ

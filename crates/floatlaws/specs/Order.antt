@@ -8,8 +8,8 @@ use native.Mathlib.Omega.{arith}
 use lib.Dec.{T, ltb, eqb, ltb→lt, lt→ltb, nltb→le}
 use lib.Ieee.{Float, nan, inf, fin, up, down, lt, eq, le, below, isNan}
 use lib.Ieee.Fits.{down-pos}
-use Rattle.floats.specs.Fractions.{Finite, plus, less, den, den-pos, Under, le→under, under→le}
-use Rattle.floats.specs.Monotone.{scaled}
+use Rattle.floatlaws.specs.Fractions.{Finite, plus, less, den, den-pos, Under, le→under, under→le}
+use Rattle.floatlaws.specs.Monotone.{scaled}
 
 -- ---- the order is transitive, NaN and infinities included
 under-trans : (px qx dx py qy dy pz qz dz : ℕ) → 0 < dy → px * dy + qy * dx ≤ py * dx + qx * dy → py * dz + qz * dy ≤ pz * dy + qy * dz → px * dz + qz * dx ≤ pz * dx + qx * dz

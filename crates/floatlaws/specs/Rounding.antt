@@ -10,7 +10,7 @@ use lib.Ieee.{Float, nan, inf, fin, Format, up, down, neg, le, round, units, odd
 use lib.Ieee.Fits.{round-is, eq→eqb, and-i, and-l, and-r}
 use lib.Ieee.Exact.{HasValue, round-exact}
 use lib.Ieee.Order.{round-mono}
-use Rattle.floats.specs.Fractions.{Under, under→le, both-zero, across}
+use Rattle.floatlaws.specs.Fractions.{Under, under→le, both-zero, across}
 
 -- ---- the sign of what is rounded
 odd-neg : (d q k l : ℕ) → odd d true q k l ≡ neg (odd d false q k l)

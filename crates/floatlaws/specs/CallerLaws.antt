@@ -7,11 +7,11 @@ use lib.IntN.{ℤ, pos}
 use lib.Dec.{T, ltb, eqb}
 use lib.Ieee.{Float, nan, inf, fin, Format, binary64, neg, lt, le, eq, isNan, round, units, odd, prec, low, emax, div, up, down, unlike}
 use lib.Ieee.Fits.{round-is}
 use Rattle.floats.specs.Basic.{magnitude, clampOf, finiteOf}
 use Rattle.floats.specs.BasicLaws.{zero-is}
-use Rattle.floats.specs.Fractions.{Finite}
-use Rattle.floats.specs.Monotone.{no-zero}
-use Rattle.floats.specs.Order.{Number, le-numbers, le-self, not-lt→le, le-trans, finite-between}
+use Rattle.floatlaws.specs.Fractions.{Finite}
+use Rattle.floatlaws.specs.Monotone.{no-zero}
+use Rattle.floatlaws.specs.Order.{Number, le-numbers, le-self, not-lt→le, le-trans, finite-between}
 
 -- ---- the test for finite numbers
 pub finite-test : (x : Float) → T (finiteOf x) → Finite x

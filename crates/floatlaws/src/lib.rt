@@ -1,0 +1,1 @@
+// Laws of floats for callers, in specs/: the order, rounded operations, the functions of `floats`; and that their square root is the nearest `f64`.
