@@ -1,0 +1,65 @@
+-- `quote::lines::quote_all` is safe and ends. What is read and not taken lies in the buffer, from step to step; the measure is the number of steps that are left.
+-- Assumes nothing.
+use Prim.Native.Nat.{_≤_}
+use mathlib.Core.Path.{_≡_}
+use lib.ListN.{length}
+use borrow.Author.Needs.{needs}
+use Rattle.quote.proofs.lines.quote_all.Statement.{statement}
+use Rattle.quote.proofs.lines.quote_all.Tie as tie
+
+abbrev Inv-loop : tie.InvT-loop
+Inv-loop buf₀ out₀ p₀ steps₀ buf out p steps = (length buf ≡ length buf₀) × (length out ≡ length out₀) × (p .input .from ≤ p .input .to) × (p .input .to ≤ length buf)
+
+abbrev μ-loop : tie.MeasureT-loop
+μ-loop buf₀ out₀ p₀ steps₀ buf out p steps = steps
+
+new-requires : tie.Need-new-requires Inv-loop μ-loop
+new-requires c κs = search needs
+
+loop-holds : tie.Need-loop-holds Inv-loop μ-loop
+loop-holds c = search needs
+
+step-requires : tie.Need-step-requires Inv-loop μ-loop
+step-requires c κs = search needs
+
+sub-steps : tie.Need-sub-steps Inv-loop μ-loop
+sub-steps c = search needs
+
+loop-less : tie.Need-loop-less Inv-loop μ-loop
+loop-less c = search needs
+
+loop-again : tie.Need-loop-again Inv-loop μ-loop
+loop-again c = search needs
+
+quote-last-requires : tie.Need-quote-last-requires Inv-loop μ-loop
+quote-last-requires c κs = search needs
+
+flush-requires : tie.Need-flush-requires Inv-loop μ-loop
+flush-requires c κs = search needs
+
+same-length : tie.Need-same-length Inv-loop μ-loop
+same-length c = search needs
+
+same-length-2 : tie.Need-same-length-2 Inv-loop μ-loop
+same-length-2 c = search needs
+
+returns : tie.Need-returns Inv-loop μ-loop
+returns c = search needs
+
+pub quote-all-spec : {M : Type 1} → statement M
+quote-all-spec =
+    tie.close
+    (tie.spec
+    Inv-loop
+    μ-loop
+    new-requires
+    loop-holds
+    step-requires
+    sub-steps
+    loop-less
+    loop-again
+    quote-last-requires
+    flush-requires
+    same-length
+    same-length-2
+    returns)
