@@ -1,5 +1,5 @@
 // The Jacobian of a damped run, by central differences: the surfaces on either side of a parameter, and the column out of
-// their residuals.
+// their residuals. An array is taken out of the state before it is indexed: an index into a field copies the whole state.
 ghost use mathlib.Core.Path.{_≡_};
 ghost use Prim.Native.Nat.{ℕ, _≤_, _<_};
 ghost use lib.ListN.{set};
@@ -59,7 +59,8 @@ pub fn presc_plus(
 {
     let q = state.column as usize;
     let variable = active_at(variables, q);
-    let x0 = state.params[q];
+    let params = state.params;
+    let x0 = params[q];
     let x = moved_up(x0, config.finite_difference_relative_step, variable);
     perturbed(variables, state, q, x)
 }
@@ -75,7 +76,8 @@ pub fn presc_minus(
 {
     let q = state.column as usize;
     let variable = active_at(variables, q);
-    let x0 = state.params[q];
+    let params = state.params;
+    let x0 = params[q];
     let x = moved_down(x0, config.finite_difference_relative_step, variable);
     perturbed(variables, state, q, x)
 }
@@ -87,7 +89,8 @@ fn between(config: DlsConfig, variables: VariableSet, state: DampedState) -> f64
 {
     let q = state.column as usize;
     let variable = active_at(variables, q);
-    let x0 = state.params[q];
+    let params = state.params;
+    let x0 = params[q];
     let relative = config.finite_difference_relative_step;
     let plus = moved_up(x0, relative, variable);
     let minus = moved_down(x0, relative, variable);
@@ -108,7 +111,9 @@ pub fn with_differences(
     let d = between(config, variables, state);
     let q = state.column as usize;
     let plus = state.plus_residuals;
+    let mut jacobian = state.jacobian;
+    jacobian_column(&mut jacobian, q, &plus, &minus, operand_count, d);
     let mut next = state;
-    jacobian_column(&mut next.jacobian, q, &plus, &minus, operand_count, d);
+    next.jacobian = jacobian;
     next
 }

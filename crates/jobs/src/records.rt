@@ -255,10 +255,11 @@ fn known_variables(held: JobRecord) -> bool
     requires { ⌜ held .«variable_count» ≤ 8 ⌝ }
     ensures { λ r. ⌜ r ≡ knownVariables held ⌝ }
 {
+    let records = held.variables;
     let count = held.variable_count as usize;
     let mut i: usize = 0;
     while i < count {
-        let v = held.variables[i];
+        let v = records[i];
         if !entries::variable_known(v) {
             return false;
         }
@@ -271,10 +272,11 @@ fn known_operands(held: JobRecord) -> bool
     requires { ⌜ held .«operand_count» ≤ 12 ⌝ }
     ensures { λ r. ⌜ r ≡ knownOperands held ⌝ }
 {
+    let records = held.operands;
     let count = held.operand_count as usize;
     let mut i: usize = 0;
     while i < count {
-        let o = held.operands[i];
+        let o = records[i];
         if !entries::operand_known(o) {
             return false;
         }

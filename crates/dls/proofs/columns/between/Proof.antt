@@ -10,8 +10,8 @@ active-at-requires c κs = search needs
 mul-x0 : tie.Need-mul-x0
 mul-x0 c = search needs
 
-element-copy-out-x0 : tie.Need-element-copy-out-x0
-element-copy-out-x0 c = search needs
+array-read-x0 : tie.Need-array-read-x0
+array-read-x0 c = search needs
 
 moved-up-requires : tie.Need-moved-up-requires
 moved-up-requires c κs = search needs
@@ -23,7 +23,7 @@ denominator-requires : tie.Need-denominator-requires
 denominator-requires c κs = search needs
 
 returns : tie.Need-returns
-returns c = λ m. between-both (c .before .before .before .before .before .args .config) (c .before .before .before .before .before .args .variables) m (c .before .before .before .before .before .args .t3) (c .before .before .before .before .active-at .ensures) (c .before .before .moved-up .ensures) (c .before .moved-down .ensures) (c .denominator .ensures)
+returns c = λ m. between-both (c .before .before .before .before .before .args .config) (c .before .before .before .before .before .args .variables) m (c .before .before .before .before .before .args .state) (c .before .before .before .before .active-at .ensures) (c .before .before .moved-up .ensures) (c .before .moved-down .ensures) (c .denominator .ensures)
 
 pub between-spec : {M : Type 1} → statement M
 between-spec =
@@ -31,7 +31,7 @@ between-spec =
     (tie.spec
     active-at-requires
     mul-x0
-    element-copy-out-x0
+    array-read-x0
     moved-up-requires
     moved-down-requires
     denominator-requires

@@ -10,8 +10,8 @@ active-at-requires c κs = search needs
 mul-x0 : tie.Need-mul-x0
 mul-x0 c = search needs
 
-element-copy-out-x0 : tie.Need-element-copy-out-x0
-element-copy-out-x0 c = search needs
+array-read-x0 : tie.Need-array-read-x0
+array-read-x0 c = search needs
 
 moved-down-requires : tie.Need-moved-down-requires
 moved-down-requires c κs = search needs
@@ -20,7 +20,7 @@ perturbed-requires : tie.Need-perturbed-requires
 perturbed-requires c κs = search needs
 
 returns : tie.Need-returns
-returns c = λ m. minus-surfaces (c .before .before .before .before .args .config) (c .before .before .before .before .args .variables) m (c .before .before .before .before .args .t3) (c .before .before .before .active-at .ensures) (c .before .moved-down .ensures) (c .perturbed .ensures)
+returns c = λ m. minus-surfaces (c .before .before .before .before .args .config) (c .before .before .before .before .args .variables) m (c .before .before .before .before .args .state) (c .before .before .before .active-at .ensures) (c .before .moved-down .ensures) (c .perturbed .ensures)
 
 pub presc-minus-spec : {M : Type 1} → statement M
 presc-minus-spec =
@@ -28,7 +28,7 @@ presc-minus-spec =
     (tie.spec
     active-at-requires
     mul-x0
-    element-copy-out-x0
+    array-read-x0
     moved-down-requires
     perturbed-requires
     returns)

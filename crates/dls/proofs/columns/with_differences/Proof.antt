@@ -11,7 +11,9 @@ jacobian-column-requires : tie.Need-jacobian-column-requires
 jacobian-column-requires c κs = search needs
 
 returns : tie.Need-returns
-returns c = column-written (c .before .before .before .before .before .before .args .config) (c .before .before .before .before .before .before .args .variables) (c .before .before .before .before .before .before .args .operand-count) (c .before .before .before .before .before .before .args .state) _ _ _ (c .before .before .before .before .before .between .ensures (c .before .before .before .before .before .before .args .operand-count)) (c .jacobian-column .ensures)
+returns c =
+    let x = c .before .before .before .before .before .before .before .args in
+    column-written (x .config) (x .variables) (x .operand-count) (x .state) _ _ _ (c .before .before .before .before .before .before .between .ensures (x .operand-count)) (c .jacobian-column .ensures)
 
 pub with-differences-spec : {M : Type 1} → statement M
 with-differences-spec = tie.close (tie.spec between-requires jacobian-column-requires returns)
