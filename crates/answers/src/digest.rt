@@ -2,9 +2,9 @@
 ghost use mathlib.Core.Path.{_≡_};
 ghost use Prim.Native.Nat.{_*_, _%_, _^_, min};
 ghost use Rattle.answers.specs.Digest.{prime, withByte, withBytes, withFloat, withSurface, withSurfaces};
-use crate::least::least;
 use optics::OpticalSurface;
 use text::numbers;
+use text::output;
 
 // The offset basis.
 pub const START: u64 = 0xcbf2_9ce4_8422_2325;
@@ -42,7 +42,7 @@ fn with_word(hash: u64, x: u64) -> u64
 }
 
 // A float more.
-pub(crate) fn with_float(hash: u64, x: f64) -> u64
+pub fn with_float(hash: u64, x: f64) -> u64
     ensures { λ r. ⌜ r ≡ withFloat hash x ⌝ }
 {
     with_word(hash, numbers::bits_of(x))
@@ -58,10 +58,10 @@ fn with_surface(hash: u64, s: OpticalSurface) -> u64
 }
 
 // The first `count` surfaces more.
-pub(crate) fn with_surfaces(hash: u64, surfaces: [OpticalSurface; 16], count: usize) -> u64
+pub fn with_surfaces(hash: u64, surfaces: [OpticalSurface; 16], count: usize) -> u64
     ensures { λ r. ⌜ r ≡ withSurfaces hash surfaces (min count 16) ⌝ }
 {
-    let n = least(count, 16);
+    let n = output::least(count, 16);
     let mut h = hash;
     let mut i = 0;
     while i < n {

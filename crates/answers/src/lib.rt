@@ -1,26 +1,13 @@
-// The answers to lines, each put in the output: leaf lines, lines on matrices, job lines, lines of calls; oracle/README.md has
-// the formats.
-mod call;
+// What the answers to lines have in common, put in the output piece by piece; oracle/README.md has the formats.
 mod digest;
-mod evaluate;
-mod job;
-mod leaf;
-mod least;
-mod listing;
-mod matrix;
-mod play;
+mod pieces;
 mod result;
-mod run;
-mod trace;
-mod turns;
-mod types;
-mod unknown;
 
-pub use call::answer_call;
-pub use call::is_call;
-pub use job::answer_job;
-pub use leaf::answer_leaf;
-pub use matrix::answer_normal;
-pub use matrix::answer_solve;
-pub use types::Answered;
-pub use unknown::put_unknown;
+pub use digest::START;
+pub use digest::with_float;
+pub use digest::with_surfaces;
+pub use pieces::put_number;
+pub use pieces::put_row;
+pub use pieces::put_unknown;
+pub use result::put_lens;
+pub use result::put_outcome;

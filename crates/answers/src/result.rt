@@ -1,12 +1,19 @@
 // A run's result, written.
-use crate::evaluate::put_row;
-use crate::least::least;
+ghost use mathlib.Core.Path.{_≡_};
+ghost use Prim.Native.Nat.{_≤_, min};
+ghost use lib.ListN.{length, take};
+ghost use Rattle.text.specs.Output.{after};
+ghost use Rattle.answers.specs.Pieces.{outcomeTexts, surfaceTexts, surfacesTexts, lensTexts};
+use crate::pieces::put_row;
 use optics::OpticalSurface;
 use runs::OptimizationResult;
 use text::output;
 
 // M first final N iterations converged
-pub(crate) fn put_outcome(out: &mut [u8], waiting: usize, result: OptimizationResult) -> usize {
+pub fn put_outcome(out: &mut [u8], waiting: usize, result: OptimizationResult) -> usize
+    ensures { λ r. ⌜ r ≤ length (now (out .exit)) ⌝ }
+    ensures { λ r. ⌜ take r (now (out .exit)) ≡ after waiting (now (out .entry)) (outcomeTexts result) ⌝ }
+{
     let merits = [result.initial_merit, result.final_merit];
     let waiting = output::put(out, waiting, b" M");
     let waiting = output::put_floats(out, waiting, &merits);
@@ -17,17 +24,21 @@ pub(crate) fn put_outcome(out: &mut [u8], waiting: usize, result: OptimizationRe
 }
 
 // S n {surface} V m {values} D m {residuals}
-pub(crate) fn put_lens(
+pub fn put_lens(
     out: &mut [u8],
     waiting: usize,
     result: OptimizationResult,
     surface_count: usize,
     operand_count: usize,
-) -> usize {
+) -> usize
+    ensures { λ r. ⌜ r ≤ length (now (out .exit)) ⌝ }
+    ensures { λ r. ⌜ take r (now (out .exit)) ≡ after waiting (now (out .entry)) (lensTexts result «surface_count» «operand_count») ⌝ }
+{
     let surfaces = result.surfaces;
     let values = result.values;
     let residuals = result.residuals;
     let waiting = output::put(out, waiting, b" S ");
+    let waiting = output::put_decimal(out, waiting, surface_count as u64);
     let waiting = put_surfaces(out, waiting, surfaces, surface_count);
     let waiting = output::put(out, waiting, b" V ");
     let waiting = put_row(out, waiting, values, operand_count);
@@ -35,15 +46,18 @@ pub(crate) fn put_lens(
     put_row(out, waiting, residuals, operand_count)
 }
 
-// A count, and so many surfaces.
+// So many surfaces.
 fn put_surfaces(
     out: &mut [u8],
     waiting: usize,
     surfaces: [OpticalSurface; 16],
     count: usize,
-) -> usize {
-    let mut held = output::put_decimal(out, waiting, count as u64);
-    let n = least(count, 16);
+) -> usize
+    ensures { λ r. ⌜ r ≤ length (now (out .exit)) ⌝ }
+    ensures { λ r. ⌜ take r (now (out .exit)) ≡ after waiting (now (out .entry)) (surfacesTexts surfaces (min count 16)) ⌝ }
+{
+    let n = output::least(count, 16);
+    let mut held = output::least(waiting, out.len());
     let mut i = 0;
     while i < n {
         let s = surfaces[i];
@@ -53,7 +67,10 @@ fn put_surfaces(
     held
 }
 
-fn put_surface(out: &mut [u8], waiting: usize, s: OpticalSurface) -> usize {
+fn put_surface(out: &mut [u8], waiting: usize, s: OpticalSurface) -> usize
+    ensures { λ r. ⌜ r ≤ length (now (out .exit)) ⌝ }
+    ensures { λ r. ⌜ take r (now (out .exit)) ≡ after waiting (now (out .entry)) (surfaceTexts s) ⌝ }
+{
     let row = [
         s.radius_mm,
         s.conic_constant,
@@ -61,23 +78,4 @@ fn put_surface(out: &mut [u8], waiting: usize, s: OpticalSurface) -> usize {
         s.semi_diameter_mm,
     ];
     output::put_floats(out, waiting, &row)
-}
-
-// A result of zeros, for a fetch to fill.
-pub(crate) fn no_result() -> OptimizationResult {
-    let zero = OpticalSurface {
-        radius_mm: 0.0,
-        conic_constant: 0.0,
-        thickness_mm: 0.0,
-        semi_diameter_mm: 0.0,
-    };
-    OptimizationResult {
-        surfaces: [zero; 16],
-        values: [0.0; 12],
-        residuals: [0.0; 12],
-        initial_merit: 0.0,
-        final_merit: 0.0,
-        iterations: 0,
-        converged: 0,
-    }
 }

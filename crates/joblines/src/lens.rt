@@ -1,4 +1,6 @@
 // Surfaces and indices.
+ghost use mathlib.Core.Path.{_≡_};
+ghost use Rattle.joblines.specs.Lens.{surfaceFrom, surfacesFrom, indexStored, pastRow, putRow, pastIndices, withIndices};
 use optics::OpticalSurface;
 use text::cursor;
 use text::cursor::Cursor;
@@ -9,7 +11,9 @@ pub struct SurfaceRead {
 }
 
 // radius conic thickness semi
-fn read_surface(line: &[u8], c: Cursor) -> SurfaceRead {
+fn read_surface(line: &[u8], c: Cursor) -> SurfaceRead
+    ensures { λ r. ⌜ r ≡ surfaceFrom (now (line .entry)) c ⌝ }
+{
     let radius = cursor::float(line, c);
     let conic = cursor::float(line, radius.next);
     let thickness = cursor::float(line, conic.next);
@@ -33,7 +37,9 @@ pub struct SurfacesRead {
 }
 
 // So many surfaces, of which the first 16 are kept. Where the line is out of form nothing more is read.
-pub(crate) fn read_surfaces(line: &[u8], c: Cursor, count: usize) -> SurfacesRead {
+pub(crate) fn read_surfaces(line: &[u8], c: Cursor, count: usize) -> SurfacesRead
+    ensures { λ r. ⌜ r ≡ surfacesFrom (now (line .entry)) c count ⌝ }
+{
     let none = OpticalSurface {
         radius_mm: 0.0 / 0.0,
         conic_constant: 0.0 / 0.0,
@@ -59,7 +65,9 @@ pub(crate) fn read_surfaces(line: &[u8], c: Cursor, count: usize) -> SurfacesRea
 }
 
 // Keeps the index of surface i in slot w, where there is room for it.
-fn keep_index(indices: &mut [f64; 64], i: usize, w: usize, x: f64) {
+fn keep_index(indices: &mut [f64; 64], i: usize, w: usize, x: f64)
+    ensures { λ _. ⌜ now (indices .exit) ≡ indexStored i w x (now (indices .entry)) ⌝ }
+{
     if i < 16 {
         if w < 4 {
             indices[i * 4 + w] = x;
@@ -68,7 +76,10 @@ fn keep_index(indices: &mut [f64; 64], i: usize, w: usize, x: f64) {
 }
 
 // The indices of surface i: one for each slot, of which the first four are kept.
-fn read_row(line: &[u8], c: Cursor, indices: &mut [f64; 64], i: usize, slots: usize) -> Cursor {
+fn read_row(line: &[u8], c: Cursor, indices: &mut [f64; 64], i: usize, slots: usize) -> Cursor
+    ensures { λ r. ⌜ r ≡ pastRow (now (line .entry)) slots c ⌝ }
+    ensures { λ r. ⌜ now (indices .exit) ≡ putRow (now (line .entry)) slots i c (now (indices .entry)) ⌝ }
+{
     let mut next = c;
     let mut w = 0;
     while w < slots && next.is_good {
@@ -87,7 +98,10 @@ pub(crate) fn read_indices(
     indices: &mut [f64; 64],
     count: usize,
     slots: usize,
-) -> Cursor {
+) -> Cursor
+    ensures { λ r. ⌜ r ≡ pastIndices (now (line .entry)) c count slots ⌝ }
+    ensures { λ r. ⌜ now (indices .exit) ≡ withIndices (now (line .entry)) c count slots (now (indices .entry)) ⌝ }
+{
     let mut next = c;
     let mut i = 0;
     while i < count && next.is_good {

@@ -1,4 +1,6 @@
 // A job line from its surfaces up to its settings.
+ghost use mathlib.Core.Path.{_≡_};
+ghost use Rattle.joblines.specs.Line.{prescriptionFrom, variableSetFrom, meritFunctionFrom, jobLineFrom};
 use crate::lens;
 use crate::operands;
 use crate::sets;
@@ -14,7 +16,9 @@ pub struct PrescriptionRead {
 }
 
 // S n {surface} I slots {index, surface-major} P pupil
-fn read_prescription(line: &[u8], c: Cursor) -> PrescriptionRead {
+fn read_prescription(line: &[u8], c: Cursor) -> PrescriptionRead
+    ensures { λ r. ⌜ r ≡ prescriptionFrom (now (line .entry)) c ⌝ }
+{
     let count = cursor::decimal(line, cursor::tag(line, c, b"S"));
     let read = lens::read_surfaces(line, count.next, count.value as usize);
     let slots = cursor::decimal(line, cursor::tag(line, read.next, b"I"));
@@ -48,7 +52,9 @@ pub struct VariableSetRead {
 }
 
 // V n {variable}
-fn read_variable_set(line: &[u8], c: Cursor) -> VariableSetRead {
+fn read_variable_set(line: &[u8], c: Cursor) -> VariableSetRead
+    ensures { λ r. ⌜ r ≡ variableSetFrom (now (line .entry)) c ⌝ }
+{
     let count = cursor::decimal(line, cursor::tag(line, c, b"V"));
     let read = sets::read_variables(line, count.next, count.value as usize);
     let entries = read.variables;
@@ -69,7 +75,9 @@ pub struct MeritFunctionRead {
 }
 
 // O n {operand}
-fn read_merit_function(line: &[u8], c: Cursor) -> MeritFunctionRead {
+fn read_merit_function(line: &[u8], c: Cursor) -> MeritFunctionRead
+    ensures { λ r. ⌜ r ≡ meritFunctionFrom (now (line .entry)) c ⌝ }
+{
     let count = cursor::decimal(line, cursor::tag(line, c, b"O"));
     let read = operands::read_operands(line, count.next, count.value as usize);
     let entries = read.operands;
@@ -93,7 +101,9 @@ pub struct JobLine {
 }
 
 // S .. I .. P .. V .. O .. C
-pub fn read_job(line: &[u8], c: Cursor) -> JobLine {
+pub fn read_job(line: &[u8], c: Cursor) -> JobLine
+    ensures { λ r. ⌜ r ≡ jobLineFrom (now (line .entry)) c ⌝ }
+{
     let lens = read_prescription(line, c);
     let set = read_variable_set(line, lens.next);
     let merit = read_merit_function(line, set.next);

@@ -1,11 +1,16 @@
 // Operands.
+ghost use mathlib.Core.Path.{_≡_};
+ghost use Rattle.jobs.specs.Entries.{operandType};
+ghost use Rattle.joblines.specs.Operands.{operandFrom, operandsFrom};
 use merit::MeritOperand;
 use merit::OperandType;
 use text::cursor;
 use text::cursor::Cursor;
 
 // By its number: 0 focal length, 1 f-number, 2 track, 3 back focus, 4 magnification, 5 least and 6 greatest centre thickness.
-fn operand_type(number: u64, at: usize, limit: f64) -> OperandType {
+fn operand_type(number: u64, at: usize, limit: f64) -> OperandType
+    ensures { λ r. ⌜ r ≡ operandType number at limit ⌝ }
+{
     match number {
         0 => OperandType::EffectiveFocalLength(at),
         1 => OperandType::WorkingFNumber(at),
@@ -29,7 +34,9 @@ pub struct OperandRead {
 }
 
 // kind at limit target weight
-fn read_operand(line: &[u8], c: Cursor) -> OperandRead {
+fn read_operand(line: &[u8], c: Cursor) -> OperandRead
+    ensures { λ r. ⌜ r ≡ operandFrom (now (line .entry)) c ⌝ }
+{
     let number = cursor::decimal(line, c);
     let at = cursor::decimal(line, number.next);
     let limit = cursor::float(line, at.next);
@@ -54,7 +61,9 @@ pub struct OperandsRead {
 }
 
 // So many operands, of which the first twelve are kept.
-pub(crate) fn read_operands(line: &[u8], c: Cursor, count: usize) -> OperandsRead {
+pub(crate) fn read_operands(line: &[u8], c: Cursor, count: usize) -> OperandsRead
+    ensures { λ r. ⌜ r ≡ operandsFrom (now (line .entry)) c count ⌝ }
+{
     let none = MeritOperand {
         operand_type: OperandType::EffectiveFocalLength(usize::MAX),
         target: 0.0 / 0.0,

@@ -1,5 +1,6 @@
 // A whole job line of the three kinds of run.
 ghost use mathlib.Core.Path.{_≡_};
+ghost use Rattle.joblines.specs.Request.{requestFrom};
 use crate::line::JobLine;
 use crate::settings;
 use jobs::JobRequest;
@@ -12,7 +13,7 @@ pub struct RequestRead {
 
 // The request of a job line of this kind, with the settings read from where the rest left off.
 pub fn read_request(line: &[u8], kind: u64, job: JobLine) -> RequestRead
-    ensures { λ r. ⌜ (r .request .prescription ≡ job .prescription) × (r .request .variables ≡ job .variables) × (r .request .«merit_function» ≡ job .«merit_function») ⌝ }
+    ensures { λ r. ⌜ r ≡ requestFrom (now (line .entry)) kind job ⌝ }
 {
     let read = settings::read_method(line, job.next, kind);
     let prescription = job.prescription;

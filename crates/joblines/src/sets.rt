@@ -1,11 +1,16 @@
 // Variables.
+ghost use mathlib.Core.Path.{_≡_};
+ghost use Rattle.jobs.specs.Entries.{variableType};
+ghost use Rattle.joblines.specs.Sets.{variableFrom, variablesFrom};
 use text::cursor;
 use text::cursor::Cursor;
 use variables::VariableDef;
 use variables::VariableType;
 
 // By its number: 0 curvature, 1 thickness, 2 conic, 3 semi-diameter.
-fn variable_type(number: u64, surface: usize) -> VariableType {
+fn variable_type(number: u64, surface: usize) -> VariableType
+    ensures { λ r. ⌜ r ≡ variableType number surface ⌝ }
+{
     match number {
         0 => VariableType::Curvature(surface),
         1 => VariableType::Thickness(surface),
@@ -20,7 +25,9 @@ pub struct VariableRead {
 }
 
 // type surface enabled lo hi step
-fn read_variable(line: &[u8], c: Cursor) -> VariableRead {
+fn read_variable(line: &[u8], c: Cursor) -> VariableRead
+    ensures { λ r. ⌜ r ≡ variableFrom (now (line .entry)) c ⌝ }
+{
     let number = cursor::decimal(line, c);
     let surface = cursor::decimal(line, number.next);
     let enabled = cursor::decimal(line, surface.next);
@@ -48,7 +55,9 @@ pub struct VariablesRead {
 }
 
 // So many variables, of which the first eight are kept.
-pub(crate) fn read_variables(line: &[u8], c: Cursor, count: usize) -> VariablesRead {
+pub(crate) fn read_variables(line: &[u8], c: Cursor, count: usize) -> VariablesRead
+    ensures { λ r. ⌜ r ≡ variablesFrom (now (line .entry)) c count ⌝ }
+{
     let none = VariableDef {
         var_type: VariableType::Curvature(usize::MAX),
         min_value: 0.0 / 0.0,

@@ -1,4 +1,6 @@
 // The settings of the three kinds of run, each of which may be left out, as `d`.
+ghost use mathlib.Core.Path.{_≡_};
+ghost use Rattle.joblines.specs.Settings.{countFrom, floatSettingFrom, dampedFrom, dampedMethodFrom, multiStartFrom, annealingFrom, methodFrom};
 use jobs::CountSetting;
 use jobs::DlsRequest;
 use jobs::MethodRequest;
@@ -19,7 +21,9 @@ pub struct NumberSettingRead {
 }
 
 // A count, in decimal. The mark `d` is looked for first here and below, since it is a hexadecimal digit too.
-fn read_count(line: &[u8], c: Cursor) -> CountRead {
+fn read_count(line: &[u8], c: Cursor) -> CountRead
+    ensures { λ r. ⌜ r ≡ countFrom 10 (now (line .entry)) c ⌝ }
+{
     let left_out = cursor::tag(line, c, b"d");
     if left_out.is_good {
         return CountRead {
@@ -35,7 +39,9 @@ fn read_count(line: &[u8], c: Cursor) -> CountRead {
     }
 }
 
-fn read_seed(line: &[u8], c: Cursor) -> CountRead {
+fn read_seed(line: &[u8], c: Cursor) -> CountRead
+    ensures { λ r. ⌜ r ≡ countFrom 16 (now (line .entry)) c ⌝ }
+{
     let left_out = cursor::tag(line, c, b"d");
     if left_out.is_good {
         return CountRead {
@@ -51,7 +57,9 @@ fn read_seed(line: &[u8], c: Cursor) -> CountRead {
     }
 }
 
-fn read_number(line: &[u8], c: Cursor) -> NumberSettingRead {
+fn read_number(line: &[u8], c: Cursor) -> NumberSettingRead
+    ensures { λ r. ⌜ r ≡ floatSettingFrom (now (line .entry)) c ⌝ }
+{
     let left_out = cursor::tag(line, c, b"d");
     if left_out.is_good {
         return NumberSettingRead {
@@ -73,7 +81,9 @@ pub struct DlsRead {
 }
 
 // limit damping merit-tolerance gradient-tolerance relative-step
-fn read_damped(line: &[u8], c: Cursor) -> DlsRead {
+fn read_damped(line: &[u8], c: Cursor) -> DlsRead
+    ensures { λ r. ⌜ r ≡ dampedFrom (now (line .entry)) c ⌝ }
+{
     let limit = read_count(line, c);
     let damping = read_number(line, limit.next);
     let merit_tolerance = read_number(line, damping.next);
@@ -103,7 +113,9 @@ pub struct MethodRead {
     pub next: Cursor,
 }
 
-fn read_damped_method(line: &[u8], c: Cursor) -> MethodRead {
+fn read_damped_method(line: &[u8], c: Cursor) -> MethodRead
+    ensures { λ r. ⌜ r ≡ dampedMethodFrom (now (line .entry)) c ⌝ }
+{
     let read = read_damped(line, c);
     let settings = read.settings;
     let next = read.next;
@@ -114,7 +126,9 @@ fn read_damped_method(line: &[u8], c: Cursor) -> MethodRead {
 }
 
 // The settings of its damped runs, then: trials seed
-fn read_multi_start(line: &[u8], c: Cursor) -> MethodRead {
+fn read_multi_start(line: &[u8], c: Cursor) -> MethodRead
+    ensures { λ r. ⌜ r ≡ multiStartFrom (now (line .entry)) c ⌝ }
+{
     let local = read_damped(line, c);
     let trials = read_count(line, local.next);
     let seed = read_seed(line, trials.next);
@@ -134,7 +148,9 @@ fn read_multi_start(line: &[u8], c: Cursor) -> MethodRead {
 }
 
 // temperature cooling steps-per-temperature cycles seed
-fn read_annealing(line: &[u8], c: Cursor) -> MethodRead {
+fn read_annealing(line: &[u8], c: Cursor) -> MethodRead
+    ensures { λ r. ⌜ r ≡ annealingFrom (now (line .entry)) c ⌝ }
+{
     let temperature = read_number(line, c);
     let cooling = read_number(line, temperature.next);
     let steps = read_count(line, cooling.next);
@@ -160,7 +176,9 @@ fn read_annealing(line: &[u8], c: Cursor) -> MethodRead {
 }
 
 // The settings of a kind; of none but the three there are any.
-pub(crate) fn read_method(line: &[u8], c: Cursor, kind: u64) -> MethodRead {
+pub(crate) fn read_method(line: &[u8], c: Cursor, kind: u64) -> MethodRead
+    ensures { λ r. ⌜ r ≡ methodFrom (now (line .entry)) c kind ⌝ }
+{
     match kind {
         1 => read_damped_method(line, c),
         2 => read_multi_start(line, c),

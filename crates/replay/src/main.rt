@@ -1,8 +1,14 @@
-// Reads lines from standard input to its end, and answers each on standard output as the oracle
-// does, byte for byte; oracle/README.md has the formats. A line that is none of those is answered
-// with `? ` and its number, from 1. A line of blanks alone counts and has no answer, as there.
-mod answer;
+// Reads job lines from standard input to its end, and answers each on standard output as the oracle does, byte for byte;
+// oracle/README.md has the formats. A line that is none of those is answered with `? ` and its number, from 1. A line of blanks
+// alone counts and has no answer, as there.
+mod evaluate;
+mod job;
 mod lines;
+mod marks;
+mod play;
+mod run;
+mod trace;
+mod types;
 
 fn main() {
     let mut buf = io::large_buffer();

@@ -1,7 +1,6 @@
 -- A line read field by field. Definitions only.
 use mathlib.Core.Bool.{Bool, false, cond}
 use mathlib.Core.List.{List}
-use mathlib.Core.Path.{_≡_}
 use Prim.Native.Nat.{ℕ, zero, suc}
 use lib.Ieee.{Float, ofBits, binary64}
 use Rattle.text.specs.declared.cursor.Cursor.{Cursor}
@@ -10,7 +9,7 @@ use Rattle.text.specs.declared.cursor.FloatRead.{FloatRead}
 use Rattle.text.specs.declared.fields.NumberField as number-field
 use Rattle.text.specs.declared.fields.FloatField as float-field
 use Rattle.text.specs.Fields.{textOf, numberField, floatOf}
-use Rattle.text.specs.Words.{wordFrom, noneLeft}
+use Rattle.text.specs.Words.{wordFrom, noneLeft, sameText}
 
 -- moved on, and with the mark that a field out of form leaves for good
 abbrev pub movedTo : ℕ → Cursor → Cursor
@@ -42,9 +41,10 @@ abbrev pub floatAt : List ℕ → Cursor → ℕ → Float
 floatAt line c i = floatFrom line (pastFloats line c i) .value
 
 -- past the next word where it is this one, and spoilt where it is another
-pub record PastTag (line : List ℕ) (c : Cursor) (name : List ℕ) (after : Cursor) : Type 0 where
-  pub same : textOf line (wordFrom line (c .at)) ≡ name → after ≡ movedTo (wordFrom line (c .at) .to) c
-  pub other : (textOf line (wordFrom line (c .at)) ≡ name → ⊥) → after ≡ spoiltFrom c
+abbrev pub pastTag : List ℕ → Cursor → List ℕ → Cursor
+pastTag line c name =
+    let w = wordFrom line (c .at) in
+    cond (sameText (textOf line w) name) (movedTo (w .to) c) (spoiltFrom c)
 
 -- all fields were in form, and no word is left
 abbrev pub doneWith : List ℕ → Cursor → Bool

@@ -1,5 +1,7 @@
 pub mod Cursor
 pub mod Fields
+pub mod Input
 pub mod Numbers
 pub mod Output
+pub mod OutputLaws
 pub mod Words

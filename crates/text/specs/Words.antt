@@ -29,3 +29,10 @@ wordFrom line at = let start = min at (length line) in wordAt line (start + lead
 -- no word is left from `at` on
 abbrev pub noneLeft : List ℕ → ℕ → Bool
 noneLeft line at = let w = wordFrom line at in eqb (w .from) (w .to)
+
+-- two texts are the same, byte for byte
+unfoldable pub sameText : List ℕ → List ℕ → Bool
+sameText [] [] = true
+sameText [] (y ∷ ys) = false
+sameText (x ∷ xs) [] = false
+sameText (x ∷ xs) (y ∷ ys) = cond (eqb x y) (sameText xs ys) false

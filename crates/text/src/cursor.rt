@@ -7,7 +7,7 @@ ghost use mathlib.Core.List.{_++_};
 ghost use lib.ListN.{length, drop};
 ghost use Rattle.lists.specs.Tab.{tab};
 ghost use Rattle.text.specs.Fields.{numberField};
-ghost use Rattle.text.specs.Cursor.{movedTo, spoiltFrom, numberRead, floatRead, floatFrom, pastFloats, floatAt, PastTag, doneWith};
+ghost use Rattle.text.specs.Cursor.{movedTo, spoiltFrom, numberRead, floatRead, floatFrom, pastFloats, floatAt, pastTag, doneWith};
 use crate::fields;
 use crate::fields::FloatField;
 use crate::fields::NumberField;
@@ -153,7 +153,7 @@ pub fn required(c: Cursor, holds: bool) -> Cursor
 
 // Past a word that has to be there.
 pub fn tag(line: &[u8], c: Cursor, name: &[u8]) -> Cursor
-    ensures { λ r. ⌜ PastTag (now (line .entry)) c (now (name .entry)) r ⌝ }
+    ensures { λ r. ⌜ r ≡ pastTag (now (line .entry)) c (now (name .entry)) ⌝ }
 {
     let w = words::next_word(line, c.at);
     let from = w.from;

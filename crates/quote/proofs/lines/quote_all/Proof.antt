@@ -8,10 +8,11 @@ use Rattle.quote.proofs.lines.quote_all.Statement.{statement}
 use Rattle.quote.proofs.lines.quote_all.Tie as tie
 
 abbrev Inv-loop : tie.InvT-loop
-Inv-loop buf₀ out₀ p₀ steps₀ buf out p steps = (length buf ≡ length buf₀) × (length out ≡ length out₀) × (p .input .from ≤ p .input .to) × (p .input .to ≤ length buf)
+Inv-loop buf₀ out₀ input₀ waiting₀ steps₀ buf out input waiting steps =
+    (length buf ≡ length buf₀) × (length out ≡ length out₀) × (input .from ≤ input .to) × (input .to ≤ length buf)
 
 abbrev μ-loop : tie.MeasureT-loop
-μ-loop buf₀ out₀ p₀ steps₀ buf out p steps = steps
+μ-loop buf₀ out₀ input₀ waiting₀ steps₀ buf out input waiting steps = steps
 
 new-requires : tie.Need-new-requires Inv-loop μ-loop
 new-requires c κs = search needs
@@ -19,8 +20,11 @@ new-requires c κs = search needs
 loop-holds : tie.Need-loop-holds Inv-loop μ-loop
 loop-holds c = search needs
 
-step-requires : tie.Need-step-requires Inv-loop μ-loop
-step-requires c κs = search needs
+next-line-requires : tie.Need-next-line-requires Inv-loop μ-loop
+next-line-requires c κs = search needs
+
+quote-found-requires : tie.Need-quote-found-requires Inv-loop μ-loop
+quote-found-requires c κs = search needs
 
 sub-steps : tie.Need-sub-steps Inv-loop μ-loop
 sub-steps c = search needs
@@ -30,9 +34,6 @@ loop-less c = search needs
 
 loop-again : tie.Need-loop-again Inv-loop μ-loop
 loop-again c = search needs
-
-quote-last-requires : tie.Need-quote-last-requires Inv-loop μ-loop
-quote-last-requires c κs = search needs
 
 flush-requires : tie.Need-flush-requires Inv-loop μ-loop
 flush-requires c κs = search needs
@@ -54,11 +55,11 @@ quote-all-spec =
     μ-loop
     new-requires
     loop-holds
-    step-requires
+    next-line-requires
+    quote-found-requires
     sub-steps
     loop-less
     loop-again
-    quote-last-requires
     flush-requires
     same-length
     same-length-2

@@ -1,29 +1,30 @@
 -- `text::output::put` meets its contract. Assumes nothing.
 use Prim.Native.Nat.{ℕ, _+_, _≤_, _<_}
-use mathlib.Core.Path.{_≡_, sym, _∙_}
-use mathlib.Core.List.{List, [], _++_, append-assoc}
+use mathlib.Core.Path.{_≡_, sym, ap, _∙_}
+use mathlib.Core.List.{List, [], _∷_, _++_, append-assoc}
 use native.Mathlib.Omega.{arith}
 use denote.Ref.{now}
-use lib.ListN.{length, take, length-append}
+use lib.ListN.{length, take, length-append, length-take}
 use lib.Seq.{length-take-le, take-length, take-at}
 use borrow.Author.Needs.{needs}
 use borrow.Author.Tests.{le-leb, lt-leb}
-use Rattle.text.specs.Output.{added}
+use Rattle.text.specs.OutputLaws.{take-min}
+use Rattle.text.specs.Output.{added, addedAll, after}
 use Rattle.text.proofs.output.put.Statement.{statement}
 use Rattle.text.proofs.output.put.Tie as tie
 
 module _ (waiting : ℕ) (out text : List ℕ) where
-  too-long : length out < length text → added waiting out text ≡ []
-  unfolding added
-  too-long h = simp (lt-leb (waiting + length text) (length out) (omega arith), lt-leb (length text) (length out) h)
+  too-long : length out < length text → after waiting out (text ∷ []) ≡ []
+  unfolding addedAll added
+  too-long h = simp (lt-leb (length (take waiting out) + length text) (length out) (omega arith), lt-leb (length text) (length out) h)
 
-  alone : length text ≤ length out → length out < waiting + length text → added waiting out text ≡ text
-  unfolding added
-  alone h k = simp (lt-leb (waiting + length text) (length out) k, le-leb (length text) (length out) h)
+  alone : length text ≤ length out → length out < length (take waiting out) + length text → after waiting out (text ∷ []) ≡ text
+  unfolding addedAll added
+  alone h k = simp (lt-leb (length (take waiting out) + length text) (length out) k, le-leb (length text) (length out) h)
 
-  beside : waiting + length text ≤ length out → added waiting out text ≡ take waiting out ++ text
-  unfolding added
-  beside h = simp (le-leb (waiting + length text) (length out) h)
+  beside : length (take waiting out) + length text ≤ length out → after waiting out (text ∷ []) ≡ take waiting out ++ text
+  unfolding addedAll added
+  beside h = simp (le-leb (length (take waiting out) + length text) (length out) h)
 
 -- a part that a copy of the text went to the start of, whatever follows
 module _ (text rest part : List ℕ) (n : ℕ) (copied : part ≡ take (length text) text ++ rest) (all : n ≡ length text) where
@@ -50,6 +51,9 @@ returns c =
     let a = c .before .before .before .before .before .before .args in
     (search needs, sym (too-long (a .waiting) (now (a .out)) (now (a .text)) (omega arith)))
 
+least-requires : tie.Need-least-requires
+least-requires c κs = search needs
+
 sub-if2 : tie.Need-sub-if2
 sub-if2 c = search needs
 
@@ -64,7 +68,9 @@ same-length-2 c = search needs
 
 returns-2 : tie.Need-returns-2
 returns-2 c =
-    let a = c .before .before .before .before .before .before .before .before .before .before .args in
+    let e = c .before .before .before .before .before .before .before .before .before .before .before in
+    let a = e .args in
+    let held = length-take (a .waiting) (now (a .out)) ∙ sym (c .before .before .before .before .before .before .before .least .ensures) in
     let k = c .before .before .copy in (
       search needs,
       put-front (now (a .text)) _ _ (k .result) (k .ensures .1) (k .ensures .0)
@@ -91,12 +97,15 @@ same-length-3 c = search needs
 
 returns-3 : tie.Need-returns-3
 returns-3 c =
-    let a = c .before .before .before .before .before .before .before .before .args in
+    let a = c .before .before .before .before .before .before .before .before .before .args in
+    let l = c .before .before .before .before .before .least in
     let k = c .before .before .copy2 in
-    let w = a .waiting in (
+    let w = a .waiting in
+    let held = length-take w (now (a .out)) ∙ sym (l .ensures) in (
       search needs,
       put-after (now (a .text)) _ _ (k .result) (k .ensures .1) (k .ensures .0)
-          (take w (now (a .out))) _ w (length-take-le w (now (a .out)) (omega arith))
+          (take (l .result) (now (a .out))) _ (l .result) (length-take-le (l .result) (now (a .out)) (omega arith))
+          ∙ ap (λ (head : List ℕ). head ++ now (a .text)) (ap (λ (n : ℕ). take n (now (a .out))) (l .ensures) ∙ take-min w (now (a .out)))
           ∙ sym (beside w (now (a .out)) (now (a .text)) (omega arith)),
     )
 
@@ -108,6 +117,7 @@ put-spec =
     write-all-requires
     same-length
     returns
+    least-requires
     sub-if2
     flush-requires-2
     copy-requires

@@ -1,19 +1,31 @@
--- `text::output::put_floats` is safe and ends. Assumes nothing.
-use Prim.Native.Nat.{_-_, _≤_}
-use mathlib.Core.Path.{_≡_}
-use lib.ListN.{length}
+-- `text::output::put_floats` meets its contract: after i floats what waits is what i floats add. Assumes nothing.
+use Prim.Native.Nat.{ℕ, _-_, _≤_}
+use mathlib.Core.List.{List, [], _∷_, _++_, append-assoc}
+use mathlib.Core.Path.{_≡_, sym, ap, _∙_}
+use denote.Ref.{now}
+use lib.Ieee.{Float}
+use lib.Seq.{take-all}
+use Rattle.text.specs.OutputLaws.{then, take-min, nothing-put, next-float}
+use lib.ListN.{length, take}
+use Rattle.text.specs.Output.{after, blank, floatText, floatTexts}
 use borrow.Author.Needs.{needs}
 use Rattle.text.proofs.output.put_floats.Statement.{statement}
 use Rattle.text.proofs.output.put_floats.Tie as tie
 
 abbrev Inv-loop : tie.InvT-loop
-Inv-loop out₀ waiting row now₀ i₀ t6 out held i = (i ≤ length row) × (length out ≡ length out₀)
+Inv-loop out₀ waiting row now₀ i₀ t6 out held i = (i ≤ length row) × (length out ≡ length out₀) × (held ≤ length out) × (take held out ≡ after waiting out₀ (floatTexts (take i row)))
 
 abbrev μ-loop : tie.MeasureT-loop
 μ-loop out₀ waiting row now₀ i₀ t6 out held i = length row - i
 
+least-requires : tie.Need-least-requires Inv-loop μ-loop
+least-requires c κs = search needs
+
 loop-holds : tie.Need-loop-holds Inv-loop μ-loop
-loop-holds c = search needs
+unfolding floatTexts
+loop-holds c =
+    let a = c .before .before .before .args in
+    (search needs, search needs, search needs, ap (λ (n : ℕ). take n (now (a .out))) (c .least .ensures) ∙ take-min (a .waiting) (now (a .out)) ∙ nothing-put (a .waiting) (now (a .out)))
 
 slice-aggregate-put : tie.Need-slice-aggregate-put Inv-loop μ-loop
 slice-aggregate-put c = search needs
@@ -37,13 +49,25 @@ loop-less : tie.Need-loop-less Inv-loop μ-loop
 loop-less c = search needs
 
 loop-again : tie.Need-loop-again Inv-loop μ-loop
-loop-again c = search needs
+loop-again c =
+    let l = c .before .before .before .before .before .before .before .before .before .before .before .loop in
+    let a = c .before .before .before .before .before .before .before .before .before .before .before .before .before .before .before .args in
+    let p = c .before .before .before .before .before .before .before .put in
+    let f = c .before .before .put-float in
+    let ts = floatTexts (take (l .i) (now (a .row))) in
+    let one = then (a .waiting) (now (a .out)) ts (l .held) (l .out) (blank ∷ []) (l .inv .3) (p .ensures .1) (l .inv .1) in
+    let two = then (a .waiting) (now (a .out)) (ts ++ (blank ∷ [])) (p .result) _ (floatText _ ∷ []) one (f .ensures .1) (search needs) in
+    let texts = ap (λ (t : List (List ℕ)). after (a .waiting) (now (a .out)) t) (append-assoc ts (blank ∷ []) _ ∙ sym (next-float (now (a .row)) (l .i) _ (search needs))) in
+    (search needs, search needs, search needs, two ∙ texts)
 
 same-length : tie.Need-same-length Inv-loop μ-loop
 same-length c = search needs
 
 returns : tie.Need-returns Inv-loop μ-loop
-returns c = search needs
+returns c =
+    let l = c .before .loop in
+    let a = c .before .before .before .before .before .args in
+    (search needs, l .inv .3 ∙ ap (λ (row : List Float). after (a .waiting) (now (a .out)) (floatTexts row)) (take-all (l .i) (now (a .row)) (search needs)))
 
 pub put-floats-spec : {M : Type 1} → statement M
 put-floats-spec =
@@ -51,6 +75,7 @@ put-floats-spec =
     (tie.spec
     Inv-loop
     μ-loop
+    least-requires
     loop-holds
     slice-aggregate-put
     put-requires

@@ -1,0 +1,55 @@
+// Lines that ask for the finished places, which are put in rising order, whatever order the call gave.
+use answers::put_unknown;
+use bench::Bench;
+use bench::Finished;
+use text::output;
+use text::words;
+
+// L
+pub(crate) fn list(
+    out: &mut [u8],
+    waiting: usize,
+    bench: Bench,
+    line: &[u8],
+    at: usize,
+    number: u64,
+) -> usize {
+    if !words::is_end(line, at) {
+        return put_unknown(out, waiting, number);
+    }
+    let finished = benchcalls::listed(bench);
+    let waiting = answers::put_number(out, waiting, b"L", finished.count as u64);
+    let waiting = put_places(out, waiting, finished);
+    output::put(out, waiting, b"\n")
+}
+
+fn put_places(out: &mut [u8], waiting: usize, finished: Finished) -> usize {
+    let mut held = waiting;
+    let mut place = 0;
+    while place < 4 {
+        held = put_place(out, held, finished, place);
+        place += 1;
+    }
+    held
+}
+
+// The place, where the listing has it.
+fn put_place(out: &mut [u8], waiting: usize, finished: Finished, place: usize) -> usize {
+    if has_place(finished, place) {
+        return answers::put_number(out, waiting, b"", place as u64);
+    }
+    waiting
+}
+
+fn has_place(finished: Finished, place: usize) -> bool {
+    let places = finished.places;
+    let n = output::least(finished.count, 4);
+    let mut i = 0;
+    while i < n {
+        if places[i] == place {
+            return true;
+        }
+        i += 1;
+    }
+    false
+}

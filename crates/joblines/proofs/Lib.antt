@@ -1,0 +1,4 @@
+-- Laws that proofs of several functions cite.
+pub mod LeftOut
+pub mod Nan
+pub mod Reading

@@ -1,0 +1,8 @@
+pub mod Entries
+pub mod Fields
+pub mod Lens
+pub mod Line
+pub mod Operands
+pub mod Request
+pub mod Sets
+pub mod Settings

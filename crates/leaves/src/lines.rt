@@ -1,0 +1,59 @@
+// The lines, answered one after the other.
+ghost use Prim.Native.Nat.{_≤_};
+ghost use lib.ListN.{length};
+use crate::leaf;
+use crate::matrix;
+use text::input;
+use text::input::Input;
+use text::input::Line;
+use text::output;
+use text::words;
+
+// Answers one line. Blanks alone have no answer.
+fn answer_line(out: &mut [u8], waiting: usize, line: &[u8], number: u64) -> usize {
+    let w = words::next_word(line, 0);
+    let from = w.from;
+    let to = w.to;
+    if from == to {
+        return waiting;
+    }
+    let name = &line[from..to];
+    if check::same(name, b"SOLVE") {
+        return matrix::answer_solve(out, waiting, line, to, number);
+    }
+    if check::same(name, b"NORMAL") {
+        return matrix::answer_normal(out, waiting, line, to, number);
+    }
+    leaf::answer_leaf(out, waiting, line, w, number)
+}
+
+// Answers a line of the input where it is there; one that is too long for the buffer has no form.
+fn answer_found(out: &mut [u8], waiting: usize, buf: &[u8], line: Line) -> usize
+    requires { ⌜ line .from ≤ line .to ⌝ }
+    requires { ⌜ line .to ≤ length (now buf) ⌝ }
+{
+    if !line.is_there {
+        return waiting;
+    }
+    if line.is_cut {
+        return answers::put_unknown(out, waiting, line.number);
+    }
+    let from = line.from;
+    let to = line.to;
+    answer_line(out, waiting, &buf[from..to], line.number)
+}
+
+// Answers all lines of the input, through the two buffers. A proved loop has to end, and nothing says that the input does: so
+// the steps are counted down, from a number that no run uses up.
+pub(crate) fn answer_all(buf: &mut [u8], out: &mut [u8]) {
+    let mut input = Input::new();
+    let mut waiting = 0;
+    let mut steps = u64::MAX;
+    while steps > 0 && input.is_open {
+        let line = input::next_line(buf, input);
+        waiting = answer_found(out, waiting, buf, line);
+        input = line.input;
+        steps -= 1;
+    }
+    output::flush(out, waiting);
+}

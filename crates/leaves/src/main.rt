@@ -1,0 +1,12 @@
+// Reads leaf lines and lines on small matrices from standard input to its end, and answers each on standard output as the oracle
+// does, byte for byte; oracle/README.md has the formats. A line that is none of those is answered with `? ` and its number, from
+// 1. A line of blanks alone counts and has no answer, as there.
+mod leaf;
+mod lines;
+mod matrix;
+
+fn main() {
+    let mut buf = io::large_buffer();
+    let mut out = io::large_buffer();
+    lines::answer_all(&mut buf, &mut out);
+}

@@ -1,0 +1,108 @@
+// Job lines of kinds 1 to 3, played on a bench. A job that was played is admitted to its place once more, so that it takes
+// turns while the jobs of the next three lines are played.
+ghost use Prim.Native.Nat.{_≤_, _<_};
+ghost use lib.ListN.{length};
+use crate::job;
+use crate::play;
+use crate::play::Play;
+use crate::types::Answered;
+use answers::put_unknown;
+use bench::Bench;
+use jobs::JobRequest;
+use text::cursor;
+use text::cursor::Cursor;
+use text::output;
+use text::words::Word;
+
+// Each line has the place of its number.
+pub(crate) fn run(
+    out: &mut [u8],
+    waiting: usize,
+    bench: Bench,
+    line: &[u8],
+    id: Word,
+    number: u64,
+) -> Answered
+    requires { ⌜ id .from ≤ id .to ⌝ }
+    requires { ⌜ id .to ≤ length (now line) ⌝ }
+{
+    let kind = cursor::decimal(line, Cursor::new(id.to));
+    let job = joblines::read_job(line, kind.next);
+    let read = joblines::read_request(line, kind.value, job);
+    if !cursor::is_done(line, read.next) {
+        return Answered {
+            bench: bench,
+            waiting: put_unknown(out, waiting, number),
+        };
+    }
+    let request = read.request;
+    let waiting = job::put_head(out, waiting, line, id);
+    let waiting = output::put(out, waiting, b" ");
+    let waiting = output::put_decimal(out, waiting, kind.value);
+    admit(out, waiting, bench, (number % 4) as usize, request)
+}
+
+// Admits the job to the place, from which another's may have to go.
+fn admit(
+    out: &mut [u8],
+    waiting: usize,
+    bench: Bench,
+    place: usize,
+    request: JobRequest,
+) -> Answered
+    requires { ⌜ place < 4 ⌝ }
+{
+    let emptied = benchcalls::released(bench, place).bench;
+    let answer = benchcalls::admitted(emptied, place, request);
+    let admitted = answer.bench;
+    if answer.number > 0 {
+        return Answered {
+            bench: admitted,
+            waiting: job::put_refused(out, waiting, answer.number, true),
+        };
+    }
+    let played = play::played(admitted, place);
+    let waiting = put_played(out, waiting, played, place, request);
+    let left = played.bench;
+    Answered {
+        bench: again(left, place, request),
+        waiting: waiting,
+    }
+}
+
+// The bench with the job at its start.
+fn again(bench: Bench, place: usize, request: JobRequest) -> Bench {
+    let emptied = benchcalls::released(bench, place).bench;
+    let admitted = benchcalls::admitted(emptied, place, request).bench;
+    admitted
+}
+
+// M first final N iterations converged turns S .. V .. D .. H digest
+fn put_played(
+    out: &mut [u8],
+    waiting: usize,
+    play: Play,
+    place: usize,
+    request: JobRequest,
+) -> usize {
+    let bench = play.bench;
+    let none = rows::zero_row().best;
+    let fetched = benchcalls::fetched(bench, place, none);
+    if fetched.number > 0 {
+        return job::put_refused(out, waiting, fetched.number, true);
+    }
+    let found = fetched.result;
+    let waiting = answers::put_outcome(out, waiting, found);
+    let waiting = output::put(out, waiting, b" ");
+    let waiting = output::put_decimal(out, waiting, play.turns);
+    let waiting = answers::put_lens(
+        out,
+        waiting,
+        found,
+        request.prescription.surface_count,
+        request.merit_function.operand_count,
+    );
+    let waiting = output::put(out, waiting, b" H ");
+    let waiting = output::put_hex(out, waiting, play.hash);
+    output::put(out, waiting, b"\n")
+}
