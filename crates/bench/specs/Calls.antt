@@ -2,16 +2,15 @@
 use mathlib.Core.Path.{_≡_}
 use Prim.Native.Nat.{ℕ, _-_, _≤_}
 use mathlib.Core.Bool.{Bool, not, _&&_}
-use mathlib.Core.List.{List, [], _∷_, _++_, List·Permᴰ}
+use mathlib.Core.List.{List, [], _∷_, List·Permᴰ}
 use lib.Dec.{eqb}
 use lib.Ieee.{Float}
 use lib.ListN.{length, take, drop, replicate}
-use Rattle.floats.specs.Constants.{zero64}
 use Rattle.lists.specs.Refusals.{Refusal, refusal, firstRefusal}
 use Rattle.merit.specs.Calls.{unlessRefused}
-use Rattle.normal.specs.Layout.{scratchLength}
 use Rattle.jobs.specs.declared.types.JobRequest.{JobRequest}
 use Rattle.jobs.specs.Kept.{jobFrom}
+use Rattle.runs.specs.Cleared.{cleared}
 use Rattle.runs.specs.JobRun.{Result}
 use Rattle.runs.specs.Rows.{admitted, isFinished, resultOf}
 use Rattle.runs.specs.Damage.{damaged}
@@ -57,9 +56,9 @@ turnNumber b place length = firstRefusal (turnRefusals b place length)
 abbrev pub turnedBench : Bench → (place length : ℕ) → Bench
 turnedBench b place length = unlessRefused (turnNumber b place length) (withRow b place (turned (rowAt b place))) b
 
--- "A turn uses the first 256 f64 of scratch, left all +0.0; the rest is untouched."
+-- cleared, unless the turn is refused
 abbrev pub scratchAfter : Bench → (place : ℕ) → List Float → List Float
-scratchAfter b place s = unlessRefused (turnNumber b place (length s)) (replicate scratchLength zero64 ++ drop scratchLength s) s
+scratchAfter b place s = unlessRefused (turnNumber b place (length s)) (cleared s) s
 
 -- ---- fetch: "2, 11, 12 and 14"
 abbrev pub rowFetchRefusals : Row → List Refusal

@@ -17,7 +17,7 @@ use Rattle.runs.specs.declared.types.Row.{Row}
 use Rattle.runs.specs.JobRun.{Result}
 use Rattle.runs.specs.Rows.{admitted, resultOf}
 use Rattle.runs.specs.Turn.{turned}
-use Rattle.global.specs.Cleared.{cleared}
+use Rattle.runs.specs.Cleared.{cleared}
 use Rattle.bench.specs.declared.types.Bench.{Bench}
 use Rattle.bench.specs.Benches.{zeroRow, noRow, rowAt, withRow}
 use Rattle.bench.specs.Refusals.{noPlace, admitRefusals}
@@ -119,7 +119,7 @@ module _ (b : Bench) (place : ℕ) where
     turned-there n r a = placed (turnRowNumber n (rowAt b place)) (turnNumber b place n) (turned (rowAt b place)) r (turn-at n) a
 
     pub scratch-there : (s : List Float) → scratchOf (rowAt b place) s ≡ scratchAfter b place s
-    unfolding scratchOf cleared
+    unfolding scratchOf
     scratch-there s = ap (λ (k : ℕ). unlessRefused k (cleared s) s) (sym (turn-at (length s)))
 
     pub admitted-there : (request : JobRequest) (r : RowAnswer) → r ≡ admitRowOf (rowAt b place) place request → (r .number ≡ admitNumber b place request) × (withRow b place (r .row) ≡ admittedBench b place request)

@@ -16,6 +16,7 @@ use Rattle.jobs.specs.declared.types.MultiStartRequest.{MultiStartRequest}
 use Rattle.jobs.specs.declared.types.SettingsRecord.{SettingsRecord}
 use Rattle.jobs.specs.declared.types.SimulatedAnnealingRequest.{SimulatedAnnealingRequest}
 use Rattle.jobs.specs.Records.{jobOf, knownKinds}
+use Rattle.runs.specs.Damage.{isKind}
 use Rattle.runs.specs.declared.types.Row.{Row}
 use Rattle.rows.specs.declared.types.RowAnswer.{RowAnswer}
 use Rattle.rows.specs.Calls.{admitRowOf}
@@ -69,7 +70,7 @@ requestOf q =
 
 -- each number for a kind is one, of the job and of each variable and operand
 unfoldable pub isRequest : RequestRecord → Bool
-isRequest q = not (ltb (q .kind) 1) && not (ltb 3 (q .kind)) && not (ltb 8 (q .job .«variable_count»)) && not (ltb 12 (q .job .«operand_count»)) && knownKinds (q .job)
+isRequest q = isKind (q .kind) && not (ltb 8 (q .job .«variable_count»)) && not (ltb 12 (q .job .«operand_count»)) && knownKinds (q .job)
 
 -- ---- admit by such a record
 unfoldable pub recordNumber : RequestRecord → (place : ℕ) → ℕ

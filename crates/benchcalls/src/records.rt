@@ -122,10 +122,7 @@ fn request_of(asked: RequestRecord) -> JobRequest
 fn is_request(asked: RequestRecord) -> bool
     ensures { λ r. ⌜ r ≡ isRequest asked ⌝ }
 {
-    if asked.kind < 1 {
-        return false;
-    }
-    if asked.kind > 3 {
+    if !global::is_kind(asked.kind) {
         return false;
     }
     let held = asked.job;

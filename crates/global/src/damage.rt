@@ -14,7 +14,7 @@ use jobs::Method;
 use optics::OpticalSurface;
 use runs::Row;
 
-fn is_kind(kind: u64) -> bool
+pub fn is_kind(kind: u64) -> bool
     ensures { λ r. ⌜ r ≡ isKind kind ⌝ }
 {
     if kind == 1 {

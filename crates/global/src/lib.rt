@@ -10,6 +10,7 @@ mod zeros;
 pub use damage::bound;
 pub use damage::is_damaged;
 pub use damage::is_damaged_as;
+pub use damage::is_kind;
 pub use scratch::zero_first;
 pub use states::began;
 pub use states::finished_of;

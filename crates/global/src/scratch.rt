@@ -3,7 +3,7 @@ ghost use mathlib.Core.Path.{_≡_};
 ghost use Prim.Native.Nat.{_≤_};
 ghost use lib.ListN.{length};
 ghost use Rattle.normal.specs.Layout.{scratchLength};
-ghost use Rattle.global.specs.Cleared.{cleared};
+ghost use Rattle.runs.specs.Cleared.{cleared};
 
 // The first 256 become +0.0, and the rest is untouched.
 pub fn zero_first(scratch: &mut [f64])

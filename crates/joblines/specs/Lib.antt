@@ -1,5 +1,4 @@
 pub mod Entries
-pub mod Fields
 pub mod Lens
 pub mod Line
 pub mod Operands

@@ -4,12 +4,11 @@ use mathlib.Core.List.{List, [], _∷_}
 use lib.Ieee.{nan}
 use lib.ListN.{replicate}
 use Rattle.text.specs.declared.cursor.Cursor.{Cursor}
-use Rattle.text.specs.Cursor.{floatFrom, pastTag}
+use Rattle.text.specs.Cursor.{decimalFrom, floatFrom, pastTag}
 use Rattle.joblines.specs.declared.line.PrescriptionRead.{PrescriptionRead}
 use Rattle.joblines.specs.declared.line.VariableSetRead.{VariableSetRead}
 use Rattle.joblines.specs.declared.line.MeritFunctionRead.{MeritFunctionRead}
 use Rattle.joblines.specs.declared.line.JobLine.{JobLine}
-use Rattle.joblines.specs.Fields.{decimalFrom}
 use Rattle.joblines.specs.Lens.{surfacesFrom, pastIndices, withIndices}
 use Rattle.joblines.specs.Operands.{operandsFrom}
 use Rattle.joblines.specs.Sets.{variablesFrom}

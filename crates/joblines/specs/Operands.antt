@@ -8,11 +8,10 @@ use Rattle.merit.specs.declared.types.MeritOperand.{MeritOperand}
 use Rattle.merit.specs.declared.types.OperandType.the-variants.{EffectiveFocalLength}
 use Rattle.jobs.specs.Entries.{operandType}
 use Rattle.text.specs.declared.cursor.Cursor.{Cursor}
-use Rattle.text.specs.Cursor.{floatFrom}
+use Rattle.text.specs.Cursor.{decimalFrom, demanded, floatFrom}
 use Rattle.joblines.specs.declared.operands.OperandRead.{OperandRead}
 use Rattle.joblines.specs.declared.operands.OperandsRead.{OperandsRead}
 use Rattle.joblines.specs.Entries.{past, filled, storedAt}
-use Rattle.joblines.specs.Fields.{decimalFrom, demanded}
 
 -- an operand: kind at limit target weight; there are kinds 0 to 6
 unfoldable pub operandFrom : List ℕ → Cursor → OperandRead

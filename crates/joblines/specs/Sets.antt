@@ -9,11 +9,10 @@ use Rattle.variables.specs.declared.types.VariableDef.{VariableDef}
 use Rattle.variables.specs.declared.types.VariableType.the-variants.{Curvature}
 use Rattle.jobs.specs.Entries.{variableType}
 use Rattle.text.specs.declared.cursor.Cursor.{Cursor}
-use Rattle.text.specs.Cursor.{floatFrom}
+use Rattle.text.specs.Cursor.{decimalFrom, demanded, floatFrom}
 use Rattle.joblines.specs.declared.sets.VariableRead.{VariableRead}
 use Rattle.joblines.specs.declared.sets.VariablesRead.{VariablesRead}
 use Rattle.joblines.specs.Entries.{past, filled, storedAt}
-use Rattle.joblines.specs.Fields.{decimalFrom, demanded}
 
 -- a variable: type surface enabled lo hi step; there are types 0 to 3, and the mark of an enabled variable is 1, that of another 0
 unfoldable pub variableFrom : List ℕ → Cursor → VariableRead

@@ -7,12 +7,11 @@ use Rattle.jobs.specs.declared.types.CountSetting as count-setting
 use Rattle.jobs.specs.declared.types.NumberSetting as number-setting
 use Rattle.jobs.specs.declared.types.MethodRequest.the-variants.{Damped, MultiStart, Annealing}
 use Rattle.text.specs.declared.cursor.Cursor.{Cursor}
-use Rattle.text.specs.Cursor.{floatFrom, pastTag, spoiltFrom}
+use Rattle.text.specs.Cursor.{numberFrom, floatFrom, pastTag, spoiltFrom}
 use Rattle.joblines.specs.declared.settings.CountRead.{CountRead}
 use Rattle.joblines.specs.declared.settings.NumberSettingRead.{NumberSettingRead}
 use Rattle.joblines.specs.declared.settings.DlsRead.{DlsRead}
 use Rattle.joblines.specs.declared.settings.MethodRead.{MethodRead}
-use Rattle.joblines.specs.Fields.{numberFrom}
 
 -- a setting that is left out is written `d`, which is looked for first: it is a hexadecimal digit too
 abbrev pub leftOut : List ℕ → Cursor → Cursor

@@ -5,7 +5,7 @@ use optics::OpticalSurface;
 use text::cursor;
 use text::cursor::Cursor;
 
-pub struct SurfaceRead {
+struct SurfaceRead {
     pub surface: OpticalSurface,
     pub next: Cursor,
 }
@@ -31,7 +31,7 @@ fn read_surface(line: &[u8], c: Cursor) -> SurfaceRead
     }
 }
 
-pub struct SurfacesRead {
+pub(crate) struct SurfacesRead {
     pub surfaces: [OpticalSurface; 16],
     pub next: Cursor,
 }

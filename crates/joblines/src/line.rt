@@ -10,7 +10,7 @@ use text::cursor;
 use text::cursor::Cursor;
 use variables::VariableSet;
 
-pub struct PrescriptionRead {
+struct PrescriptionRead {
     pub prescription: OpticalPrescription,
     pub next: Cursor,
 }
@@ -46,7 +46,7 @@ fn read_prescription(line: &[u8], c: Cursor) -> PrescriptionRead
     }
 }
 
-pub struct VariableSetRead {
+struct VariableSetRead {
     pub variables: VariableSet,
     pub next: Cursor,
 }
@@ -69,7 +69,7 @@ fn read_variable_set(line: &[u8], c: Cursor) -> VariableSetRead
     }
 }
 
-pub struct MeritFunctionRead {
+struct MeritFunctionRead {
     pub function: MeritFunction,
     pub next: Cursor,
 }

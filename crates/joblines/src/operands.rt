@@ -7,28 +7,7 @@ use merit::OperandType;
 use text::cursor;
 use text::cursor::Cursor;
 
-// By its number: 0 focal length, 1 f-number, 2 track, 3 back focus, 4 magnification, 5 least and 6 greatest centre thickness.
-fn operand_type(number: u64, at: usize, limit: f64) -> OperandType
-    ensures { λ r. ⌜ r ≡ operandType number at limit ⌝ }
-{
-    match number {
-        0 => OperandType::EffectiveFocalLength(at),
-        1 => OperandType::WorkingFNumber(at),
-        2 => OperandType::TotalTrack,
-        3 => OperandType::BackFocalLength(at),
-        4 => OperandType::ParaxialMagnification(at),
-        5 => OperandType::MinCenterThickness {
-            surface_index: at,
-            min_thickness_mm: limit,
-        },
-        _ => OperandType::MaxCenterThickness {
-            surface_index: at,
-            max_thickness_mm: limit,
-        },
-    }
-}
-
-pub struct OperandRead {
+struct OperandRead {
     pub operand: MeritOperand,
     pub next: Cursor,
 }
@@ -42,7 +21,7 @@ fn read_operand(line: &[u8], c: Cursor) -> OperandRead
     let limit = cursor::float(line, at.next);
     let target = cursor::float(line, limit.next);
     let weight = cursor::float(line, target.next);
-    let kind = operand_type(number.value, at.value as usize, limit.value);
+    let kind = jobs::operand_type(number.value, at.value as usize, limit.value);
     let operand = MeritOperand {
         operand_type: kind,
         target: target.value,
@@ -55,7 +34,7 @@ fn read_operand(line: &[u8], c: Cursor) -> OperandRead
     }
 }
 
-pub struct OperandsRead {
+pub(crate) struct OperandsRead {
     pub operands: [MeritOperand; 12],
     pub next: Cursor,
 }

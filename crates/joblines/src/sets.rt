@@ -7,19 +7,7 @@ use text::cursor::Cursor;
 use variables::VariableDef;
 use variables::VariableType;
 
-// By its number: 0 curvature, 1 thickness, 2 conic, 3 semi-diameter.
-fn variable_type(number: u64, surface: usize) -> VariableType
-    ensures { λ r. ⌜ r ≡ variableType number surface ⌝ }
-{
-    match number {
-        0 => VariableType::Curvature(surface),
-        1 => VariableType::Thickness(surface),
-        2 => VariableType::Conic(surface),
-        _ => VariableType::SemiDiameter(surface),
-    }
-}
-
-pub struct VariableRead {
+struct VariableRead {
     pub variable: VariableDef,
     pub next: Cursor,
 }
@@ -34,7 +22,7 @@ fn read_variable(line: &[u8], c: Cursor) -> VariableRead
     let lo = cursor::float(line, enabled.next);
     let hi = cursor::float(line, lo.next);
     let step = cursor::float(line, hi.next);
-    let kind = variable_type(number.value, surface.value as usize);
+    let kind = jobs::variable_type(number.value, surface.value as usize);
     let variable = VariableDef {
         var_type: kind,
         min_value: lo.value,
@@ -49,7 +37,7 @@ fn read_variable(line: &[u8], c: Cursor) -> VariableRead
     }
 }
 
-pub struct VariablesRead {
+pub(crate) struct VariablesRead {
     pub variables: [VariableDef; 8],
     pub next: Cursor,
 }

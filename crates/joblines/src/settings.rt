@@ -10,12 +10,12 @@ use jobs::SimulatedAnnealingRequest;
 use text::cursor;
 use text::cursor::Cursor;
 
-pub struct CountRead {
+struct CountRead {
     pub setting: CountSetting,
     pub next: Cursor,
 }
 
-pub struct NumberSettingRead {
+struct NumberSettingRead {
     pub setting: NumberSetting,
     pub next: Cursor,
 }
@@ -75,7 +75,7 @@ fn read_number(line: &[u8], c: Cursor) -> NumberSettingRead
     }
 }
 
-pub struct DlsRead {
+struct DlsRead {
     pub settings: DlsRequest,
     pub next: Cursor,
 }
@@ -108,7 +108,7 @@ fn read_damped(line: &[u8], c: Cursor) -> DlsRead
     }
 }
 
-pub struct MethodRead {
+pub(crate) struct MethodRead {
     pub method: MethodRequest,
     pub next: Cursor,
 }

@@ -44,7 +44,7 @@ fn variable_kind(t: VariableType) -> u64
     }
 }
 
-fn variable_type(kind: u64, i: usize) -> VariableType
+pub fn variable_type(kind: u64, i: usize) -> VariableType
     ensures { λ r. ⌜ r ≡ variableType kind i ⌝ }
 {
     match kind {
@@ -160,7 +160,7 @@ fn slot_type(kind: u64, w: usize) -> OperandType
     }
 }
 
-fn operand_type(kind: u64, at: usize, limit: f64) -> OperandType
+pub fn operand_type(kind: u64, at: usize, limit: f64) -> OperandType
     ensures { λ r. ⌜ r ≡ operandType kind at limit ⌝ }
 {
     if kind < 5 {

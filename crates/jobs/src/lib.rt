@@ -10,6 +10,8 @@ pub use checks::job_refusal;
 pub use checks::job_taken;
 pub use checks::read_taken;
 pub use checks::refusal_of;
+pub use entries::operand_type;
+pub use entries::variable_type;
 pub use entries::zero_operand_record;
 pub use entries::zero_variable_record;
 pub use filled::annealing_defaults;

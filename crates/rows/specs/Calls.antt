@@ -16,7 +16,7 @@ use Rattle.runs.specs.Damage.{damaged}
 use Rattle.runs.specs.Rows.{jobOfRow, admitted, pendingSurfaces, resultOf}
 use Rattle.runs.specs.Turn.{evaluateOf, turned}
 use Rattle.runs.specs.Zeros.{zeroSurfaces}
-use Rattle.global.specs.Cleared.{cleared}
+use Rattle.runs.specs.Cleared.{cleared}
 use Rattle.bench.specs.Benches.{zeroRow}
 use Rattle.bench.specs.Refusals.{admitRefusals}
 use Rattle.bench.specs.Calls.{isVacant, rowTurnRefusals, rowFetchRefusals, rowReleaseRefusals}

@@ -15,6 +15,7 @@ pub mod Rows
 pub mod Resumption
 pub mod Damage
 pub mod Unused
+pub mod Cleared
 pub mod Turn
 -- Laws: a row stands where its job's run stands (1 to 4), also when it is turned again and again.
 pub mod DampedLaws

@@ -27,6 +27,17 @@ abbrev pub floatRead : Cursor → float-field.FloatField → FloatRead
 floatRead c (float-field.the-variants.Is x to) = record { value = x; next = movedTo to c }
 floatRead c float-field.the-variants.Bad = record { value = ofBits binary64 0; next = spoiltFrom c }
 
+-- a number in a base from where a cursor stands, and one in decimal
+abbrev pub numberFrom : (base : ℕ) → List ℕ → Cursor → NumberRead
+numberFrom base line c = numberRead c (numberField base line (c .at))
+
+abbrev pub decimalFrom : List ℕ → Cursor → NumberRead
+decimalFrom line c = numberFrom 10 line c
+
+-- a demand on what was read
+abbrev pub demanded : Bool → Cursor → Cursor
+demanded holds c = cond holds c (spoiltFrom c)
+
 -- a float, by its bits in hexadecimal, from where a cursor stands
 abbrev pub floatFrom : List ℕ → Cursor → FloatRead
 floatFrom line c = floatRead c (floatOf (numberField 16 line (c .at)))

@@ -1,13 +1,12 @@
 // A line read field by field, without a test at each: a field that is missing or out of form spoils
 // the cursor, which stays spoilt, and whoever reads the line asks once, at its end.
 ghost use mathlib.Core.Path.{_≡_};
-ghost use mathlib.Core.Bool.{true, cond};
+ghost use mathlib.Core.Bool.{true};
 ghost use Prim.Native.Nat.{_≤_};
 ghost use mathlib.Core.List.{_++_};
 ghost use lib.ListN.{length, drop};
 ghost use Rattle.lists.specs.Tab.{tab};
-ghost use Rattle.text.specs.Fields.{numberField};
-ghost use Rattle.text.specs.Cursor.{movedTo, spoiltFrom, numberRead, floatRead, floatFrom, pastFloats, floatAt, pastTag, doneWith};
+ghost use Rattle.text.specs.Cursor.{movedTo, spoiltFrom, numberRead, numberFrom, decimalFrom, demanded, floatRead, floatFrom, pastFloats, floatAt, pastTag, doneWith};
 use crate::fields;
 use crate::fields::FloatField;
 use crate::fields::NumberField;
@@ -104,14 +103,14 @@ fn float_read(f: FloatField, c: Cursor) -> FloatRead
 }
 
 pub fn decimal(line: &[u8], c: Cursor) -> NumberRead
-    ensures { λ r. ⌜ r ≡ numberRead c (numberField 10 (now (line .entry)) (c .at)) ⌝ }
+    ensures { λ r. ⌜ r ≡ decimalFrom (now (line .entry)) c ⌝ }
 {
     let f = fields::decimal_field(line, c.at);
     number_read(f, c)
 }
 
 pub fn hex(line: &[u8], c: Cursor) -> NumberRead
-    ensures { λ r. ⌜ r ≡ numberRead c (numberField 16 (now (line .entry)) (c .at)) ⌝ }
+    ensures { λ r. ⌜ r ≡ numberFrom 16 (now (line .entry)) c ⌝ }
 {
     let f = fields::hex_field(line, c.at);
     number_read(f, c)
@@ -143,7 +142,7 @@ pub fn floats(line: &[u8], c: Cursor, row: &mut [f64], n: usize) -> Cursor
 
 // A demand on what was read.
 pub fn required(c: Cursor, holds: bool) -> Cursor
-    ensures { λ r. ⌜ r ≡ cond holds c (spoiltFrom c) ⌝ }
+    ensures { λ r. ⌜ r ≡ demanded holds c ⌝ }
 {
     if holds {
         return c;

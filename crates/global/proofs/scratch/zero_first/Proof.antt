@@ -9,7 +9,7 @@ use lib.Ieee.{Float, nan}
 use borrow.Author.Needs.{needs}
 use Rattle.floats.specs.Constants.{zero64}
 use Rattle.lists.specs.Tab.{tab, length-tab, getD-tab, tab-step}
-use Rattle.global.specs.Cleared.{cleared}
+use Rattle.runs.specs.Cleared.{cleared}
 use Rattle.global.proofs.scratch.zero_first.Statement.{statement}
 use Rattle.global.proofs.scratch.zero_first.Tie as tie
 
@@ -47,7 +47,6 @@ same-length : tie.Need-same-length Inv-loop μ-loop
 same-length c = search needs
 
 returns : tie.Need-returns Inv-loop μ-loop
-unfolding cleared
 returns c =
     let e : c .before .loop .i ≡ 256 = omega arith in
     rw e at (c .before .loop .inv .2) ∙ ap (λ (zeros : List Float). zeros ++ drop 256 (c .before .before .args .scratch .now)) (same-zeros 256)

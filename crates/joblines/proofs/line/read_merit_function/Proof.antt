@@ -1,6 +1,6 @@
 -- `joblines::line::read_merit_function` meets its contract. Assumes nothing.
 use mathlib.Core.Path.{ap, _∙_}
-use Rattle.joblines.specs.Fields.{decimalFrom}
+use Rattle.text.specs.Cursor.{decimalFrom}
 use Rattle.joblines.specs.Operands.{operandsFrom}
 use Rattle.joblines.specs.Line.{meritFunctionFrom}
 use borrow.Author.Needs.{needs}

@@ -1,8 +1,7 @@
 -- `joblines::line::read_prescription` meets its contract. Assumes nothing.
 use mathlib.Core.Path.{ap, _∙_}
 use lib.ListN.{replicate}
-use Rattle.text.specs.Cursor.{floatFrom, pastTag}
-use Rattle.joblines.specs.Fields.{decimalFrom}
+use Rattle.text.specs.Cursor.{decimalFrom, floatFrom, pastTag}
 use Rattle.joblines.specs.Lens.{surfacesFrom, pastIndices, withIndices}
 use Rattle.joblines.specs.Line.{indicesMark, pupilMark, prescriptionFrom}
 use Rattle.joblines.proofs.Nan.{no-number}

@@ -1,6 +1,6 @@
 -- `joblines::line::read_variable_set` meets its contract. Assumes nothing.
 use mathlib.Core.Path.{ap, _∙_}
-use Rattle.joblines.specs.Fields.{decimalFrom}
+use Rattle.text.specs.Cursor.{decimalFrom}
 use Rattle.joblines.specs.Sets.{variablesFrom}
 use Rattle.joblines.specs.Line.{variableSetFrom}
 use borrow.Author.Needs.{needs}

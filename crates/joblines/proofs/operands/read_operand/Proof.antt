@@ -3,9 +3,8 @@ use mathlib.Core.Path.{ap, _∙_}
 use lib.Dec.{ltb}
 use Rattle.text.specs.declared.cursor.FloatRead.{FloatRead}
 use Rattle.text.specs.declared.cursor.NumberRead.{NumberRead}
-use Rattle.text.specs.Cursor.{floatFrom}
+use Rattle.text.specs.Cursor.{decimalFrom, demanded, floatFrom}
 use Rattle.jobs.specs.Entries.{operandType}
-use Rattle.joblines.specs.Fields.{decimalFrom, demanded}
 use Rattle.joblines.specs.Operands.{operandFrom}
 use borrow.Author.Needs.{needs}
 use Rattle.joblines.proofs.operands.read_operand.Statement.{statement}

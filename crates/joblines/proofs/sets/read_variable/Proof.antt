@@ -6,9 +6,8 @@ use lib.Dec.{ltb, eqb}
 use borrow.Author.Tests.{lt-ltb, le-ltb}
 use Rattle.text.specs.declared.cursor.FloatRead.{FloatRead}
 use Rattle.text.specs.declared.cursor.NumberRead.{NumberRead}
-use Rattle.text.specs.Cursor.{floatFrom}
+use Rattle.text.specs.Cursor.{decimalFrom, demanded, floatFrom}
 use Rattle.jobs.specs.Entries.{variableType}
-use Rattle.joblines.specs.Fields.{decimalFrom, demanded}
 use Rattle.joblines.specs.Sets.{variableFrom}
 use borrow.Author.Needs.{needs}
 use Rattle.joblines.proofs.sets.read_variable.Statement.{statement}

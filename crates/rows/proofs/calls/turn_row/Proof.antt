@@ -6,7 +6,7 @@ use native.Mathlib.Omega.{arith}
 use lib.ListN.{length, replicate}
 use Rattle.floats.specs.Constants.{zero64}
 use Rattle.normal.specs.Layout.{scratchLength}
-use Rattle.global.specs.Cleared.{cleared}
+use Rattle.runs.specs.Cleared.{cleared}
 use Rattle.rows.specs.Calls.{turnRowNumber, turnRowOf, scratchOf}
 use Rattle.rows.proofs.Numbers.{kept-by, made-by, zero-by, turnable}
 use borrow.Author.Needs.{needs}
@@ -43,7 +43,7 @@ same-length : tie.Need-same-length
 same-length c = search needs
 
 returns-2 : tie.Need-returns-2
-unfolding turnRowOf scratchOf cleared
+unfolding turnRowOf scratchOf
 returns-2 c =
     let x = c .before .before .before .before .before .before .before .before .before .before .before .before .before .args in
     let n = turnRowNumber (length (x .scratch .now)) (x .row) in

@@ -6,5 +6,5 @@ use Rattle.floats.specs.Constants.{zero64}
 use Rattle.normal.specs.Layout.{scratchLength}
 
 -- "A turn uses the first 256 f64 of scratch, left all +0.0; the rest is untouched."
-unfoldable pub cleared : List Float → List Float
+abbrev pub cleared : List Float → List Float
 cleared scratch = replicate scratchLength zero64 ++ drop scratchLength scratch
