@@ -5,9 +5,9 @@ use mathlib.Core.List.{List}
 use Prim.Native.Nat.{ℕ, zero, suc, _+_, _-_, _≤_, _<_}
 use native.Mathlib.Numerals.{add-one}
 use native.Mathlib.Omega.{arith}
-use lib.Dec.{ltb, leb}
+use lib.Dec.{ltb}
 use lib.Ieee.{Float, lt}
-use borrow.Author.Tests.{lt-ltb, le-ltb, le-leb}
+use borrow.Author.Tests.{lt-ltb, le-ltb}
 use Rattle.floats.specs.Basic.{finiteOf}
 use Rattle.variables.specs.Active.{numActive}
 use Rattle.variables.specs.Values.{extracted}
@@ -15,7 +15,7 @@ use Rattle.merit.specs.declared.types.MeritEvaluation.{MeritEvaluation}
 use Rattle.runs.specs.declared.types.DampedState.{DampedState}
 use Rattle.runs.specs.Run.{Surfaces}
 use Rattle.runs.specs.DampedRun.{Optimizer, Current, on, settled, started, raised, withDifferences, isStationary, isReduction, relImprovement, moved, accepted}
-use Rattle.runs.specs.DampedRow.{Phase, first, minus, candidate, finished, phaseOf, currentOf, atPlus, ended, resumeAttempts, resumeStationary, resumeColumns, resumeAfter, resumeReduced, pendingAt, advanceAt, pending, advance, resumeIterations, finishedAt, isFinished}
+use Rattle.runs.specs.DampedRow.{Phase, first, minus, candidate, finished, phaseOf, currentOf, atPlus, ended, resumeAttempts, resumeStationary, resumeColumns, resumeAfter, resumeReduced, pendingAt, advanceAt, pending, advance, resumeIterations}
 use Rattle.dls.specs.DampedSteps.{withJacobian, withCurrent, relativeGain, iterationEntered}
 
 -- ---- a run with a variable enters an iteration at its first column
@@ -32,17 +32,6 @@ phase-over (suc zero) h = absurd (omega arith)
 phase-over (suc (suc zero)) h = absurd (omega arith)
 phase-over (suc (suc (suc zero))) h = absurd (omega arith)
 phase-over (suc (suc (suc (suc n)))) h = refl
-
-pub finished-from : (d : DampedState) → leb 4 (d .phase) ≡ isFinished d
-unfolding isFinished finishedAt phaseOf
-finished-from d = at (d .phase)
-  where
-    at : (n : ℕ) → leb 4 n ≡ finishedAt (phaseOf n)
-    at zero = refl
-    at (suc zero) = refl
-    at (suc (suc zero)) = refl
-    at (suc (suc (suc zero))) = refl
-    at (suc (suc (suc (suc n)))) = le-leb 4 (suc (suc (suc (suc n)))) (omega arith)
 
 module _ (o : Optimizer) (d : DampedState) {n : ℕ} (at : d .phase ≡ n) where
   pub pending-at : {r : Surfaces} → r ≡ pendingAt o (phaseOf n) d → r ≡ pending o d

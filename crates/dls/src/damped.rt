@@ -9,7 +9,7 @@ ghost use Rattle.floats.specs.Basic.{finiteOf};
 ghost use Rattle.normal.specs.Layout.{scratchLength, mostOperands, mostVariables};
 ghost use Rattle.variables.specs.Active.{numActive};
 ghost use Rattle.jobs.specs.declared.types.DlsConfig.{DlsConfig};
-ghost use Rattle.runs.specs.DampedRow.{first, minus, candidate, currentOf, pending, advance, advanceAt, isFinished, resultOf, resumeAfter};
+ghost use Rattle.runs.specs.DampedRow.{first, minus, candidate, currentOf, pending, advance, advanceAt, resultOf, resumeAfter};
 ghost use Rattle.runs.specs.DampedRun.{moved, accepted};
 ghost use Rattle.dls.specs.DampedSteps.{optimizer, withCurrent, ScratchKept, relativeGain, iterationEntered};
 use crate::attempts::resume_rejected;
@@ -210,12 +210,6 @@ pub fn advance_damped(
         return advance_candidate(config, variables, operand_count, state, evaluation, scratch);
     }
     state
-}
-
-pub fn damped_finished(state: DampedState) -> bool
-    ensures { λ r. ⌜ r ≡ isFinished state ⌝ }
-{
-    state.phase >= 4
 }
 
 // The result is read off the end.

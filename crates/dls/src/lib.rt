@@ -5,7 +5,6 @@ mod damped;
 mod states;
 
 pub use damped::advance_damped;
-pub use damped::damped_finished;
 pub use damped::damped_result;
 pub use damped::pending_damped;
 pub use states::at_first;

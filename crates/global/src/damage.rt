@@ -212,7 +212,7 @@ fn bound_by(method: Method, p: u64) -> u64
 }
 
 // The most merits that the job's run works out.
-pub fn bound(job: Job) -> u64
+fn bound(job: Job) -> u64
     requires { ⌜ Within job ⌝ }
     ensures { λ r. ⌜ r ≡ bound job ⌝ }
 {

@@ -7,7 +7,6 @@ mod trials;
 mod walk;
 mod zeros;
 
-pub use damage::bound;
 pub use damage::is_damaged;
 pub use damage::is_damaged_as;
 pub use damage::is_kind;
@@ -17,7 +16,6 @@ pub use states::finished_of;
 pub use states::fresh;
 pub use states::result_of;
 pub use states::with_damped;
-pub use states::with_state;
 pub use trials::resume_damped;
 pub use walk::advance_walk;
 pub use walk::advance_walk_first;

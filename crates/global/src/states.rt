@@ -19,7 +19,7 @@ use runs::OptimizationResult;
 use runs::Row;
 
 // The row with another state: job, kind and turns stay.
-pub fn with_state(
+pub(crate) fn with_state(
     row: Row,
     damped: DampedState,
     best: OptimizationResult,

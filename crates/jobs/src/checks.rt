@@ -89,7 +89,7 @@ fn counts_taken(job: Job) -> bool
 }
 
 // The number by which the job is refused, and 0 where it is not.
-pub fn job_refusal(job: Job) -> u32
+fn job_refusal(job: Job) -> u32
     ensures { λ r. ⌜ r ≡ firstRefusal (jobRefusals job) ⌝ }
 {
     if !counts_taken(job) {
@@ -127,7 +127,7 @@ pub fn refusal_of(request: JobRequest) -> u32
     job_refusal(filled::filled_job(request))
 }
 
-pub fn job_taken(job: Job) -> bool
+fn job_taken(job: Job) -> bool
     ensures { λ r. ⌜ r ≡ jobTaken job ⌝ }
 {
     job_refusal(job) == 0

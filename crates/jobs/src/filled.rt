@@ -16,7 +16,7 @@ use crate::types::SimulatedAnnealingConfig;
 use crate::types::SimulatedAnnealingRequest;
 
 // Of a damped job.
-pub fn damped_defaults() -> DlsConfig
+fn damped_defaults() -> DlsConfig
     ensures { λ r. ⌜ r ≡ dampedDefaults ⌝ }
 {
     DlsConfig {
@@ -54,7 +54,7 @@ pub fn polish_settings() -> DlsConfig
     }
 }
 
-pub fn multi_start_defaults() -> MultiStartConfig
+fn multi_start_defaults() -> MultiStartConfig
     ensures { λ r. ⌜ r ≡ multiStartDefaults ⌝ }
 {
     let runs = local_defaults();
@@ -65,7 +65,7 @@ pub fn multi_start_defaults() -> MultiStartConfig
     }
 }
 
-pub fn annealing_defaults() -> SimulatedAnnealingConfig
+fn annealing_defaults() -> SimulatedAnnealingConfig
     ensures { λ r. ⌜ r ≡ annealingDefaults ⌝ }
 {
     SimulatedAnnealingConfig {
@@ -167,7 +167,7 @@ fn method_of(request: MethodRequest) -> Method
 }
 
 // The request with its settings filled in, unused entries as they came.
-pub fn filled_job(request: JobRequest) -> Job
+pub(crate) fn filled_job(request: JobRequest) -> Job
     ensures { λ r. ⌜ r ≡ filled request ⌝ }
 {
     let prescription = request.prescription;

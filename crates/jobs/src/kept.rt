@@ -81,7 +81,7 @@ fn kept_operands(f: MeritFunction) -> MeritFunction
     }
 }
 
-pub fn kept_job(job: Job) -> Job
+fn kept_job(job: Job) -> Job
     ensures { λ r. ⌜ r ≡ keptJob job ⌝ }
 {
     let asked_prescription = job.prescription;

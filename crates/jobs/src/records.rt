@@ -1,7 +1,7 @@
 // A job in numbers alone, as a row holds it, and read back.
 ghost use mathlib.Core.Path.{_≡_};
 ghost use Prim.Native.Nat.{_≤_};
-ghost use Rattle.jobs.specs.Records.{variableRecords, operandRecords, variablesOf, operandsOf, methodKind, dlsSettings, annealingSettings, settingsRecord, dlsConfig, multiStartConfig, annealingConfig, method, kindOf, recordOf, jobOf, knownVariables, knownOperands, knownKinds};
+ghost use Rattle.jobs.specs.Records.{variableRecords, operandRecords, variablesOf, operandsOf, dlsSettings, annealingSettings, settingsRecord, dlsConfig, multiStartConfig, annealingConfig, method, recordOf, jobOf, knownVariables, knownOperands, knownKinds};
 use crate::entries;
 use crate::kept;
 use crate::types::DlsConfig;
@@ -172,23 +172,6 @@ fn method_from(kind: u64, s: SettingsRecord) -> Method
         2 => Method::MultiStart(multi_start_config(s)),
         _ => Method::Annealing(annealing_config(s)),
     }
-}
-
-fn method_kind(m: Method) -> u64
-    ensures { λ r. ⌜ r ≡ methodKind m ⌝ }
-{
-    match m {
-        Method::Damped(_) => 1,
-        Method::MultiStart(_) => 2,
-        Method::Annealing(_) => 3,
-    }
-}
-
-pub fn kind_of(job: Job) -> u64
-    ensures { λ r. ⌜ r ≡ kindOf job ⌝ }
-{
-    let m = job.method;
-    method_kind(m)
 }
 
 pub fn record_of(job: Job) -> JobRecord

@@ -67,7 +67,7 @@ fn lens_evaluation(prescription: OpticalPrescription, function: MeritFunction) -
 }
 
 // The evaluation of a lens under its operands, by value.
-pub fn evaluated(prescription: OpticalPrescription, function: MeritFunction) -> Evaluated
+fn evaluated(prescription: OpticalPrescription, function: MeritFunction) -> Evaluated
     ensures { λ r. ⌜ r ≡ evaluatedOf prescription function ⌝ }
 {
     let number = evaluate_number(prescription, function);
@@ -169,7 +169,7 @@ fn nothing_traced(answer: Traced) -> TracedHeights
 }
 
 // The trace of a slot into a row of so many records, by value.
-pub fn traced_heights(
+fn traced_heights(
     prescription: OpticalPrescription,
     slot: usize,
     length: usize,

@@ -6,9 +6,7 @@ mod operands;
 mod types;
 
 pub use calls::evaluate;
-pub use calls::evaluated;
 pub use calls::trace;
-pub use calls::traced_heights;
 pub use checks::operands_taken;
 pub use evaluation::evaluate_flat;
 pub use types::Evaluated;
@@ -17,4 +15,3 @@ pub use types::MeritFunction;
 pub use types::MeritOperand;
 pub use types::OperandType;
 pub use types::Traced;
-pub use types::TracedHeights;

@@ -3,9 +3,9 @@ use Prim.Native.Nat.{ℕ}
 use mathlib.Core.Bool.{Bool, true, false, _&&_}
 use mathlib.Core.List.{List}
 use lib.ListN.{getD}
-use lib.Ieee.{Float, nan, binary64, add}
+use lib.Ieee.{Float, nan}
 use Rattle.lists.specs.All.{allBelow}
-use Rattle.floats.specs.Basic.{clampOf, finiteOf}
+use Rattle.floats.specs.Basic.{finiteOf}
 use Rattle.normal.specs.Products.{Matrix, Vector}
 use Rattle.normal.specs.Damping.{dampedSystem}
 use Rattle.normal.specs.Elimination.{solvable, solutionOf}
@@ -24,7 +24,3 @@ stepFound p damping h g = solvable p (dampedSystem p damping h g) && allBelow (�
 abbrev pub solvedIf : Bool → Solved
 solvedIf true = Yes
 solvedIf false = No
-
--- a parameter after the step, kept within its bounds
-abbrev pub candidateValue : Float → Float → Float → Float → Float
-candidateValue x step lo hi = clampOf (add binary64 x step) lo hi

@@ -23,4 +23,3 @@ pub use layout::place;
 pub use layout::system_place;
 pub use products::normal_equations;
 pub use step::attempt_step;
-pub use step::candidate_value;

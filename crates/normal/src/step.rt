@@ -8,7 +8,7 @@ ghost use Rattle.lists.specs.All.{allBelow};
 ghost use Rattle.floats.specs.Basic.{finiteOf};
 ghost use Rattle.normal.specs.Layout.{scratchLength, stepAt, mostVariables};
 ghost use Rattle.normal.specs.Damping.{dampedSystem};
-ghost use Rattle.normal.specs.Step.{candidateValue, solvedIf};
+ghost use Rattle.normal.specs.Step.{solvedIf};
 ghost use Rattle.normal.specs.Scratch.{productIn, gradientIn, Attempt};
 ghost use Rattle.normal.specs.Loops.{withSystemRow, withSystem};
 use crate::damping::Damping;
@@ -20,7 +20,6 @@ use crate::layout::PRODUCT;
 use crate::layout::STEP;
 use crate::layout::place;
 use crate::layout::system_place;
-use floats::clamp;
 use floats::is_finite;
 
 // Row i and column j of the damped system; column p is the right side.
@@ -87,11 +86,4 @@ pub fn attempt_step(scratch: &mut [f64], p: usize, damping: Damping) -> Solved
         return Solved::No;
     };
     all_finite(scratch, p)
-}
-
-// A parameter after the step, within its bounds.
-pub fn candidate_value(x: f64, step: f64, lo: f64, hi: f64) -> f64
-    ensures { λ r. ⌜ r ≡ candidateValue x step lo hi ⌝ }
-{
-    clamp(x + step, lo, hi)
 }

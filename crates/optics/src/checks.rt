@@ -14,14 +14,14 @@ pub fn is_within(x: f64) -> bool
 }
 
 // A NaN is not above 0.
-pub fn above_zero_up_to(top: f64, x: f64) -> bool
+fn above_zero_up_to(top: f64, x: f64) -> bool
     ensures { λ r. ⌜ r ≡ aboveZeroUpTo top x ⌝ }
 {
     0.0 < x && x <= top
 }
 
 // Check 3 on one surface: a NaN is the one number that differs from itself.
-pub fn surface_taken(s: OpticalSurface) -> bool
+fn surface_taken(s: OpticalSurface) -> bool
     ensures { λ r. ⌜ r ≡ surfaceTaken s ⌝ }
 {
     if s.radius_mm != s.radius_mm {

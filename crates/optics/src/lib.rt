@@ -7,10 +7,8 @@ mod rays;
 mod trace;
 mod types;
 
-pub use checks::above_zero_up_to;
 pub use checks::is_within;
 pub use checks::lens_taken;
-pub use checks::surface_taken;
 pub use checks::surfaces_taken;
 pub use flat::lay_flat;
 pub use kept::kept_prescription;

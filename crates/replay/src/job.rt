@@ -60,7 +60,7 @@ pub(crate) fn put_head(out: &mut [u8], waiting: usize, line: &[u8], id: Word) ->
     output::put(out, waiting, &line[from..to])
 }
 
-// What was lent is as it was: the oracle knows no other answer, so one that is not would differ.
+// `changed` where what was lent is not as it was, which the oracle never says.
 pub(crate) fn put_refused(out: &mut [u8], waiting: usize, number: u32, is_kept: bool) -> usize {
     let waiting = output::put(out, waiting, b" refused ");
     let waiting = output::put_decimal(out, waiting, number as u64);

@@ -44,7 +44,7 @@ fn digits_value(text: &[u8], base: u64) -> Number
 }
 
 // The number that a text is in a base: one digit at least.
-pub fn number_in(text: &[u8], base: u64) -> Number
+pub(crate) fn number_in(text: &[u8], base: u64) -> Number
     requires { ⌜ 0 < base ⌝ }
     requires { ⌜ base ≤ 16 ⌝ }
     ensures { λ r. ⌜ r ≡ numberOf base (now (text .entry)) ⌝ }
@@ -56,7 +56,7 @@ pub fn number_in(text: &[u8], base: u64) -> Number
 }
 
 // The float of a bit pattern.
-pub fn float_of(bits: u64) -> f64
+pub(crate) fn float_of(bits: u64) -> f64
     ensures { λ r. ⌜ r ≡ ofBits binary64 bits ⌝ }
 {
     if bits % 0x8000_0000_0000_0000 > 0x7ff0_0000_0000_0000 {

@@ -18,7 +18,7 @@ pub fn surface_index(kind: VariableType) -> usize
 }
 
 // What the variable names, of its surface.
-pub fn quantity(surface: OpticalSurface, kind: VariableType) -> f64
+fn quantity(surface: OpticalSurface, kind: VariableType) -> f64
     ensures { λ r. ⌜ r ≡ quantityOf surface kind ⌝ }
 {
     match kind {
@@ -42,7 +42,7 @@ fn no_surface() -> OpticalSurface
 }
 
 // The variable's quantity as it stands in the surfaces.
-pub fn value_of(surfaces: [OpticalSurface; 16], kind: VariableType) -> f64
+pub(crate) fn value_of(surfaces: [OpticalSurface; 16], kind: VariableType) -> f64
     ensures { λ r. ⌜ r ≡ valueOf surfaces kind ⌝ }
 {
     let i = surface_index(kind);
@@ -54,7 +54,7 @@ pub fn value_of(surfaces: [OpticalSurface; 16], kind: VariableType) -> f64
 }
 
 // Clamp, with a NaN counting as below the lower bound.
-pub fn apply_clamp(x: f64, lo: f64, hi: f64) -> f64
+pub(crate) fn apply_clamp(x: f64, lo: f64, hi: f64) -> f64
     ensures { λ r. ⌜ r ≡ applyClamp x lo hi ⌝ }
 {
     if x != x {
@@ -64,7 +64,7 @@ pub fn apply_clamp(x: f64, lo: f64, hi: f64) -> f64
 }
 
 // The radius that is stored for a curvature.
-pub fn radius_of(curvature: f64) -> f64
+fn radius_of(curvature: f64) -> f64
     ensures { λ r. ⌜ r ≡ radiusOf curvature ⌝ }
 {
     if floats::abs(curvature) < 1e-12 {
@@ -74,7 +74,7 @@ pub fn radius_of(curvature: f64) -> f64
 }
 
 // The surface with the variable's quantity changed, and no other.
-pub fn with_value(surface: OpticalSurface, kind: VariableType, value: f64) -> OpticalSurface
+pub(crate) fn with_value(surface: OpticalSurface, kind: VariableType, value: f64) -> OpticalSurface
     ensures { λ r. ⌜ r ≡ withValue surface kind value ⌝ }
 {
     let mut s = surface;
