@@ -169,11 +169,7 @@ fn nothing_traced(answer: Traced) -> TracedHeights
 }
 
 // The trace of a slot into a row of so many records, by value.
-fn traced_heights(
-    prescription: OpticalPrescription,
-    slot: usize,
-    length: usize,
-) -> TracedHeights
+fn traced_heights(prescription: OpticalPrescription, slot: usize, length: usize) -> TracedHeights
     ensures { λ r. ⌜ r ≡ tracedHeights prescription slot length ⌝ }
 {
     let number = trace_number(prescription, slot, length);
