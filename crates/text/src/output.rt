@@ -13,10 +13,13 @@ pub fn least(a: usize, b: usize) -> usize
     if a < b { a } else { b }
 }
 
-// Writes what waits.
-pub fn flush(out: &[u8], waiting: usize) {
+// Writes what waits, and answers how many bytes that is.
+pub fn flush(out: &[u8], waiting: usize) -> usize
+    ensures { λ r. ⌜ r ≡ min waiting (length (now (out .entry))) ⌝ }
+{
     let n = least(waiting, out.len());
     io::write_all(STDOUT_FILENO, &out[..n]);
+    n
 }
 
 // Adds text to what waits, and answers how much waits now. What there is no room for beside it is
