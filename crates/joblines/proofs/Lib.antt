@@ -1,4 +1,3 @@
 -- Laws that proofs of several functions cite.
 pub mod LeftOut
-pub mod Nan
 pub mod Reading

@@ -5,7 +5,7 @@ use mathlib.Core.Logic.{⊎-elim}
 use lib.ListN.{replicate}
 use Rattle.joblines.specs.declared.lens.SurfaceRead.{SurfaceRead}
 use Rattle.joblines.specs.Lens.{pastSurface, putSurface, unreadSurface, surfaceFrom, surfacesFrom}
-use Rattle.joblines.proofs.Nan.{no-number}
+use Rattle.floats.specs.Constants.{no-number}
 use Rattle.joblines.proofs.Reading.{Reading, stored, no-room, begin, more, stopped, ended}
 use borrow.Author.Needs.{needs}
 use Rattle.joblines.proofs.lens.read_surfaces.Statement.{statement}

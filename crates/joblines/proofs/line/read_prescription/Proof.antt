@@ -4,7 +4,7 @@ use lib.ListN.{replicate}
 use Rattle.text.specs.Cursor.{decimalFrom, floatFrom, pastTag}
 use Rattle.joblines.specs.Lens.{surfacesFrom, pastIndices, withIndices}
 use Rattle.joblines.specs.Line.{indicesMark, pupilMark, prescriptionFrom}
-use Rattle.joblines.proofs.Nan.{no-number}
+use Rattle.floats.specs.Constants.{no-number}
 use borrow.Author.Needs.{needs}
 use Rattle.joblines.proofs.line.read_prescription.Statement.{statement}
 use Rattle.joblines.proofs.line.read_prescription.Tie as tie

@@ -5,7 +5,7 @@ use mathlib.Core.Logic.{⊎-elim}
 use lib.ListN.{replicate}
 use Rattle.joblines.specs.declared.operands.OperandRead.{OperandRead}
 use Rattle.joblines.specs.Operands.{pastOperand, putOperand, unreadOperand, operandFrom, operandsFrom}
-use Rattle.joblines.proofs.Nan.{no-number}
+use Rattle.floats.specs.Constants.{no-number}
 use Rattle.joblines.proofs.Reading.{Reading, stored, no-room, begin, more, stopped, ended}
 use borrow.Author.Needs.{needs}
 use Rattle.joblines.proofs.operands.read_operands.Statement.{statement}
