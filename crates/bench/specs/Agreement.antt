@@ -5,7 +5,7 @@ use Prim.Native.Nat.{ℕ, zero, suc, _<_}
 use lib.Dec.{ltb}
 use lib.ListN.{length, length-set}
 use borrow.Author.Tests.{ltb-true, not-false}
-use Rattle.lists.specs.Refusals.{firstRefusal, answers-none}
+use Rattle.lists.specs.Refusals.{firstRefusal, answers-none, none-of}
 use Rattle.merit.specs.Calls.{unlessRefused}
 use Rattle.jobs.specs.declared.types.JobRequest.{JobRequest}
 use Rattle.jobs.specs.Kept.{jobFrom}
@@ -76,7 +76,8 @@ module _ (b : Bench) (k : Book) (a : Agree b k) where
       done e =
           let n = answers-none (Book.fetchRefusals k place) tt .0 e in
           let h = alike-at place in
-          h .result (n .1 .0) (h .finished (n .1 .0) ∙ not-false (isFinished (entryAt k place)) (n .1 .1 .0))
+          let there = none-of (Book.fetchRefusals k place) 11 n in
+          h .result there (h .finished there ∙ not-false (isFinished (entryAt k place)) (none-of (Book.fetchRefusals k place) 14 n))
 
   -- ---- the places listed
   listed-by : (v d f : Bool) (e : Entry) → v ≡ isEmpty e → (isEmpty e ≡ false → d ≡ false) → (isEmpty e ≡ false → f ≡ isFinished e) → not v && not d && f ≡ isFinished e
@@ -114,7 +115,9 @@ module _ (b : Bench) (k : Book) (a : Agree b k) where
   turn-done : (place n : ℕ) → Book.turnNumber k place n ≡ 0 → Kept (turned (rowAt b place)) (counted (entryAt k place))
   turn-done place n e =
       let m = answers-none (Book.turnRefusals k place n) tt .0 e in
-      turned-kept (rowAt b place) (entryAt k place) (kept-at place (ltb-true place 4 (not-false (ltb place 4) (m .0)))) (m .1 .1 .0) (alike-at place .finished (m .1 .1 .0) ∙ m .1 .1 .1 .0)
+      let rs = Book.turnRefusals k place n in
+      let there = none-of rs 11 m in
+      turned-kept (rowAt b place) (entryAt k place) (kept-at place (ltb-true place 4 (not-false (ltb place 4) (none-of rs 2 m)))) there (alike-at place .finished there ∙ none-of rs 13 m)
 
   pub agree-step : (c : Call) → Agree (benchStep b c) (bookStep k c)
   unfolding benchStep bookStep

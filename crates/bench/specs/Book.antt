@@ -11,7 +11,7 @@ use Rattle.jobs.specs.Kept.{jobFrom}
 use Rattle.runs.specs.Run.{Run, afterMerits, isDone, value}
 use Rattle.runs.specs.JobRun.{Result, run}
 use Rattle.runs.specs.Zeros.{zeroResult}
-use Rattle.runs.specs.Turn.{evaluateOf}
+use Rattle.runs.specs.JobMerit.{evaluateOf}
 use Rattle.bench.specs.Refusals.{noPlace, scratchShort, admitRefusals}
 
 -- ---- Calls and answers

@@ -5,12 +5,11 @@ use mathlib.Core.Bool.{true, not}
 use mathlib.Core.List.{List, _++_}
 use mathlib.Core.Logic.{_↔_}
 use Prim.Native.Nat.{ℕ, zero, suc}
-use lib.Dec.{lit<}
 use lib.Ieee.{Float}
-use lib.ListN.{length, take, drop, replicate}
+use lib.ListN.{length, drop, replicate}
 use lib.Seq.{set-getD}
 use Rattle.floats.specs.Constants.{zero64}
-use Rattle.lists.specs.Refusals.{Refusal, NoneOf, answers, answers-none}
+use Rattle.lists.specs.Refusals.{Refusal, NoneOf, before, answers, answers-none}
 use Rattle.merit.specs.Calls.{unlessRefused}
 use Rattle.normal.specs.Layout.{scratchLength}
 use Rattle.jobs.specs.declared.types.JobRequest.{JobRequest}
@@ -44,41 +43,41 @@ module _ (b : Bench) (place : ℕ) where
     unfolding admitNumber
     admit-0 = answers-none causes tt
 
-    pub admit-1 : (admitNumber b place request ≡ 1) ↔ ((countsWrong (filled request) ≡ true) × NoneOf (take 0 causes))
+    pub admit-1 : (admitNumber b place request ≡ 1) ↔ ((countsWrong (filled request) ≡ true) × NoneOf (before 1 causes))
     unfolding admitNumber
-    admit-1 = answers causes 0 (lit< tt) tt
+    admit-1 = answers causes 1 tt tt
 
-    pub admit-2 : (admitNumber b place request ≡ 2) ↔ ((noPlace place ≡ true) × NoneOf (take 1 causes))
+    pub admit-2 : (admitNumber b place request ≡ 2) ↔ ((noPlace place ≡ true) × NoneOf (before 2 causes))
     unfolding admitNumber
-    admit-2 = answers causes 1 (lit< tt) tt
+    admit-2 = answers causes 2 tt tt
 
-    pub admit-3 : (admitNumber b place request ≡ 3) ↔ ((lensRefused (filled request) ≡ true) × NoneOf (take 2 causes))
+    pub admit-3 : (admitNumber b place request ≡ 3) ↔ ((lensRefused (filled request) ≡ true) × NoneOf (before 3 causes))
     unfolding admitNumber
-    admit-3 = answers causes 2 (lit< tt) tt
+    admit-3 = answers causes 3 tt tt
 
-    pub admit-4 : (admitNumber b place request ≡ 4) ↔ ((variablesRefused (filled request) ≡ true) × NoneOf (take 3 causes))
+    pub admit-4 : (admitNumber b place request ≡ 4) ↔ ((variablesRefused (filled request) ≡ true) × NoneOf (before 4 causes))
     unfolding admitNumber
-    admit-4 = answers causes 3 (lit< tt) tt
+    admit-4 = answers causes 4 tt tt
 
-    pub admit-5 : (admitNumber b place request ≡ 5) ↔ ((operandsRefused (filled request) ≡ true) × NoneOf (take 4 causes))
+    pub admit-5 : (admitNumber b place request ≡ 5) ↔ ((operandsRefused (filled request) ≡ true) × NoneOf (before 5 causes))
     unfolding admitNumber
-    admit-5 = answers causes 4 (lit< tt) tt
+    admit-5 = answers causes 5 tt tt
 
-    pub admit-6 : (admitNumber b place request ≡ 6) ↔ ((settingsRefused (filled request) ≡ true) × NoneOf (take 5 causes))
+    pub admit-6 : (admitNumber b place request ≡ 6) ↔ ((settingsRefused (filled request) ≡ true) × NoneOf (before 6 causes))
     unfolding admitNumber
-    admit-6 = answers causes 5 (lit< tt) tt
+    admit-6 = answers causes 6 tt tt
 
-    pub admit-7 : (admitNumber b place request ≡ 7) ↔ ((noActiveVariable (filled request) ≡ true) × NoneOf (take 6 causes))
+    pub admit-7 : (admitNumber b place request ≡ 7) ↔ ((noActiveVariable (filled request) ≡ true) × NoneOf (before 7 causes))
     unfolding admitNumber
-    admit-7 = answers causes 6 (lit< tt) tt
+    admit-7 = answers causes 7 tt tt
 
-    pub admit-8 : (admitNumber b place request ≡ 8) ↔ ((noOperand (filled request) ≡ true) × NoneOf (take 7 causes))
+    pub admit-8 : (admitNumber b place request ≡ 8) ↔ ((noOperand (filled request) ≡ true) × NoneOf (before 8 causes))
     unfolding admitNumber
-    admit-8 = answers causes 7 (lit< tt) tt
+    admit-8 = answers causes 8 tt tt
 
-    pub admit-10 : (admitNumber b place request ≡ 10) ↔ ((not (isVacant (rowAt b place)) ≡ true) × NoneOf (take 8 causes))
+    pub admit-10 : (admitNumber b place request ≡ 10) ↔ ((not (isVacant (rowAt b place)) ≡ true) × NoneOf (before 10 causes))
     unfolding admitNumber
-    admit-10 = answers causes 8 (lit< tt) tt
+    admit-10 = answers causes 10 tt tt
 
   -- ---- turn
   module _ (n : ℕ) where
@@ -86,25 +85,25 @@ module _ (b : Bench) (place : ℕ) where
     unfolding turnNumber
     turn-0 = answers-none (turnRefusals b place n) tt
 
-    pub turn-2 : (turnNumber b place n ≡ 2) ↔ ((noPlace place ≡ true) × NoneOf (take 0 (turnRefusals b place n)))
+    pub turn-2 : (turnNumber b place n ≡ 2) ↔ ((noPlace place ≡ true) × NoneOf (before 2 (turnRefusals b place n)))
     unfolding turnNumber
-    turn-2 = answers (turnRefusals b place n) 0 (lit< tt) tt
+    turn-2 = answers (turnRefusals b place n) 2 tt tt
 
-    pub turn-9 : (turnNumber b place n ≡ 9) ↔ ((scratchShort n ≡ true) × NoneOf (take 1 (turnRefusals b place n)))
+    pub turn-9 : (turnNumber b place n ≡ 9) ↔ ((scratchShort n ≡ true) × NoneOf (before 9 (turnRefusals b place n)))
     unfolding turnNumber
-    turn-9 = answers (turnRefusals b place n) 1 (lit< tt) tt
+    turn-9 = answers (turnRefusals b place n) 9 tt tt
 
-    pub turn-11 : (turnNumber b place n ≡ 11) ↔ ((isVacant (rowAt b place) ≡ true) × NoneOf (take 2 (turnRefusals b place n)))
+    pub turn-11 : (turnNumber b place n ≡ 11) ↔ ((isVacant (rowAt b place) ≡ true) × NoneOf (before 11 (turnRefusals b place n)))
     unfolding turnNumber
-    turn-11 = answers (turnRefusals b place n) 2 (lit< tt) tt
+    turn-11 = answers (turnRefusals b place n) 11 tt tt
 
-    pub turn-12 : (turnNumber b place n ≡ 12) ↔ ((damaged (rowAt b place) ≡ true) × NoneOf (take 3 (turnRefusals b place n)))
+    pub turn-12 : (turnNumber b place n ≡ 12) ↔ ((damaged (rowAt b place) ≡ true) × NoneOf (before 12 (turnRefusals b place n)))
     unfolding turnNumber
-    turn-12 = answers (turnRefusals b place n) 3 (lit< tt) tt
+    turn-12 = answers (turnRefusals b place n) 12 tt tt
 
-    pub turn-13 : (turnNumber b place n ≡ 13) ↔ ((isFinished (rowAt b place) ≡ true) × NoneOf (take 4 (turnRefusals b place n)))
+    pub turn-13 : (turnNumber b place n ≡ 13) ↔ ((isFinished (rowAt b place) ≡ true) × NoneOf (before 13 (turnRefusals b place n)))
     unfolding turnNumber
-    turn-13 = answers (turnRefusals b place n) 4 (lit< tt) tt
+    turn-13 = answers (turnRefusals b place n) 13 tt tt
 
   pub refused-scratch : (s : List Float) (n : ℕ) → turnNumber b place (length s) ≡ suc n → scratchAfter b place s ≡ s
   refused-scratch s n e = stays (turnNumber b place (length s)) n (replicate scratchLength zero64 ++ drop scratchLength s) s e
@@ -114,21 +113,21 @@ module _ (b : Bench) (place : ℕ) where
   unfolding fetchNumber
   fetch-0 = answers-none (fetchRefusals b place) tt
 
-  pub fetch-2 : (fetchNumber b place ≡ 2) ↔ ((noPlace place ≡ true) × NoneOf (take 0 (fetchRefusals b place)))
+  pub fetch-2 : (fetchNumber b place ≡ 2) ↔ ((noPlace place ≡ true) × NoneOf (before 2 (fetchRefusals b place)))
   unfolding fetchNumber
-  fetch-2 = answers (fetchRefusals b place) 0 (lit< tt) tt
+  fetch-2 = answers (fetchRefusals b place) 2 tt tt
 
-  pub fetch-11 : (fetchNumber b place ≡ 11) ↔ ((isVacant (rowAt b place) ≡ true) × NoneOf (take 1 (fetchRefusals b place)))
+  pub fetch-11 : (fetchNumber b place ≡ 11) ↔ ((isVacant (rowAt b place) ≡ true) × NoneOf (before 11 (fetchRefusals b place)))
   unfolding fetchNumber
-  fetch-11 = answers (fetchRefusals b place) 1 (lit< tt) tt
+  fetch-11 = answers (fetchRefusals b place) 11 tt tt
 
-  pub fetch-12 : (fetchNumber b place ≡ 12) ↔ ((damaged (rowAt b place) ≡ true) × NoneOf (take 2 (fetchRefusals b place)))
+  pub fetch-12 : (fetchNumber b place ≡ 12) ↔ ((damaged (rowAt b place) ≡ true) × NoneOf (before 12 (fetchRefusals b place)))
   unfolding fetchNumber
-  fetch-12 = answers (fetchRefusals b place) 2 (lit< tt) tt
+  fetch-12 = answers (fetchRefusals b place) 12 tt tt
 
-  pub fetch-14 : (fetchNumber b place ≡ 14) ↔ ((not (isFinished (rowAt b place)) ≡ true) × NoneOf (take 3 (fetchRefusals b place)))
+  pub fetch-14 : (fetchNumber b place ≡ 14) ↔ ((not (isFinished (rowAt b place)) ≡ true) × NoneOf (before 14 (fetchRefusals b place)))
   unfolding fetchNumber
-  fetch-14 = answers (fetchRefusals b place) 3 (lit< tt) tt
+  fetch-14 = answers (fetchRefusals b place) 14 tt tt
 
   pub refused-result : (old : Result) (n : ℕ) → fetchNumber b place ≡ suc n → fetchedResult b place old ≡ old
   refused-result old n e = stays (fetchNumber b place) n (resultOf (rowAt b place)) old e
@@ -138,10 +137,10 @@ module _ (b : Bench) (place : ℕ) where
   unfolding releaseNumber
   release-0 = answers-none (releaseRefusals b place) tt
 
-  pub release-2 : (releaseNumber b place ≡ 2) ↔ ((noPlace place ≡ true) × NoneOf (take 0 (releaseRefusals b place)))
+  pub release-2 : (releaseNumber b place ≡ 2) ↔ ((noPlace place ≡ true) × NoneOf (before 2 (releaseRefusals b place)))
   unfolding releaseNumber
-  release-2 = answers (releaseRefusals b place) 0 (lit< tt) tt
+  release-2 = answers (releaseRefusals b place) 2 tt tt
 
-  pub release-11 : (releaseNumber b place ≡ 11) ↔ ((isVacant (rowAt b place) ≡ true) × NoneOf (take 1 (releaseRefusals b place)))
+  pub release-11 : (releaseNumber b place ≡ 11) ↔ ((isVacant (rowAt b place) ≡ true) × NoneOf (before 11 (releaseRefusals b place)))
   unfolding releaseNumber
-  release-11 = answers (releaseRefusals b place) 1 (lit< tt) tt
+  release-11 = answers (releaseRefusals b place) 11 tt tt

@@ -19,8 +19,10 @@ use Rattle.runs.specs.Damage.{damaged}
 use Rattle.runs.specs.RowLaws.{resumption-done, kind-admitted, kind-advance, turns-admitted, turns-advance}
 use Rattle.runs.specs.Turned.{turnedUnless, rowAfter, reached, row-stands, finished-done, job-after}
 use Rattle.runs.specs.DamageLaws.{never-damaged}
-use Rattle.runs.specs.Turn.{evaluateOf, turned}
-use Rattle.bench.specs.Admission.{Admissible, kinds-known, usable}
+use Rattle.runs.specs.JobMerit.{evaluateOf}
+use Rattle.runs.specs.Turn.{turned}
+use Rattle.runs.specs.Usable.{usable}
+use Rattle.bench.specs.Admission.{Admissible, kinds-known}
 use Rattle.bench.specs.Book.{Entry, empty, holds, isEmpty, isFinished, resultOf}
 use Rattle.bench.specs.Benches.{zeroRow, noRow}
 use Rattle.bench.specs.Calls.{isVacant}
@@ -68,10 +70,13 @@ module _ (job : Job) (a : Admissible job) where
   result-after : (count : ℕ) → Rows.isFinished (rowAfter f count job) ≡ true → Rows.resultOf (rowAfter f count job) ≡ value f (run job)
   result-after count h = sym (value-done f count (run job) (Rows.resultOf (rowAfter f count job)) (sym (row-stands f job (a .back) count) ∙ resumption-done (rowAfter f count job) h))
 
+  pub undamaged : (count : ℕ) → damaged (rowAfter f count job) ≡ false
+  undamaged count = never-damaged f job (a .back) (usable job (a .taken)) (and-i (jobTaken (jobOf (kindOf job) (recordOf job))) (knownKinds (recordOf job)) (subst T (sym (ap jobTaken (a .back) ∙ a .taken)) tt) (kinds-known job a)) count
+
   alike-after : (count : ℕ) → Alike (rowAfter f count job) (holds job count)
   alike-after count = record {
     vacant = not-vacant count;
-    sound = λ h. never-damaged f job (a .back) (usable job a) (and-i (jobTaken (jobOf (kindOf job) (recordOf job))) (knownKinds (recordOf job)) (subst T (sym (ap jobTaken (a .back) ∙ a .taken)) tt) (kinds-known job a)) count;
+    sound = λ h. undamaged count;
     finished = λ h. finished-done f job (a .back) count;
     result = λ h u. result-after count u;
   }

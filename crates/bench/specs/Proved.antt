@@ -4,12 +4,14 @@ use mathlib.Core.Bool.{Bool, true, false, true≢false, false≢true}
 use mathlib.Core.List.{List, [], _∷_, List·Permᴰ}
 use mathlib.Core.Logic.{_↔_, _≢_}
 use Prim.Native.Nat.{ℕ, zero, suc, _≤_, _<_, zero-le}
+use lib.Dec.{T}
 use lib.ListN.{getD, take}
 use lib.Seq.{getD-set-other, ext-getD}
 use borrow.Author.Tests.{not-false}
-use Rattle.lists.specs.Refusals.{firstRefusal, answers-none}
+use Rattle.lists.specs.Refusals.{firstRefusal, answers-none, none-of}
+use Rattle.optics.specs.Check.{surfacesTaken}
 use Rattle.variables.specs.Active.{numActive}
-use Rattle.merit.specs.Calls.{unlessRefused}
+use Rattle.merit.specs.Calls.{unlessRefused, evaluateNumber}
 use Rattle.merit.specs.declared.types.MeritEvaluation.{MeritEvaluation}
 use Rattle.jobs.specs.declared.types.Job.{Job}
 use Rattle.jobs.specs.declared.types.JobRequest.{JobRequest}
@@ -21,6 +23,7 @@ use Rattle.jobs.specs.RecordLaws.{request-back}
 use Rattle.jobs.specs.RefusalLaws.{not-refused}
 use Rattle.jobs.specs.Same.{SameJob}
 use Rattle.jobs.specs.SameLaws.{same-exactly}
+use Rattle.jobs.specs.Unused.{CleanRecord}
 use Rattle.runs.specs.Run.{Surfaces, isDone}
 use Rattle.runs.specs.Ends.{Ends-after}
 use Rattle.runs.specs.RunEnds.{run-bounded}
@@ -29,11 +32,17 @@ use Rattle.runs.specs.Rows.{jobOfRow, pendingSurfaces, boundBy, bound}
 use Rattle.runs.specs.Rows as Rows
 use Rattle.runs.specs.Resumption.{resumption}
 use Rattle.runs.specs.RowLaws.{ReadBack, resumption-admitted, resumption-asks, resumption-done, turns-admitted, turns-advance}
-use Rattle.runs.specs.Turned.{turnedUnless, rowAfter, row-stands, job-after, unfinished-below, turns-after}
+use Rattle.runs.specs.State.{stateOf}
+use Rattle.runs.specs.Turned.{turnedUnless, rowAfter, reached, row-stands, job-after, unfinished-below, turns-after}
+use Rattle.runs.specs.TurnLaws.{evaluation-clean}
+use Rattle.runs.specs.PendingTaken.{pending-checked}
+use Rattle.runs.specs.ZeroEntries.{ZeroEntries}
+use Rattle.runs.specs.ZeroEntryLaws.{zero-entries}
 use Rattle.runs.specs.Zeros.{zeroResult}
 use Rattle.runs.specs.declared.types.Row.{Row}
 use Rattle.bench.specs.declared.types.Bench.{Bench}
-use Rattle.runs.specs.Turn.{evaluateOf, turned}
+use Rattle.runs.specs.JobMerit.{lensWith, evaluateOf}
+use Rattle.runs.specs.Turn.{turned}
 use Rattle.bench.specs.Book.{Call, admit, turn, fetch, release, listing, Answer, number, fetched, listed, fetchedUnless, Entry, empty, holds, Book, emptyBook, entryAt, isEmpty, isFinished, resultOf, runAfter, leftBy, answersBy, bookAnswer, bookStep, bookAfter}
 use Rattle.bench.specs.Book as Book
 use Rattle.bench.specs.Benches.{zeroRow, noRow, emptyBench, rowAt, withRow}
@@ -42,9 +51,9 @@ use Rattle.bench.specs.Calls as Calls
 use Rattle.bench.specs.CallLaws.{stays}
 use Rattle.bench.specs.Pairs.{Pairs, none, both, pair-getD, pair-map}
 use Rattle.bench.specs.Admission.{Admissible}
-use Rattle.bench.specs.Places.{Kept, not-vacant, zero-vacant}
+use Rattle.bench.specs.Places.{Kept, not-vacant, undamaged, zero-vacant}
 use Rattle.bench.specs.Agreement.{Agree, kept-at, listed-same, same-answer, agree-step}
-use Rattle.bench.specs.Results.{returned}
+use Rattle.bench.specs.Results.{evaluable, returned}
 use Rattle.bench.specs.Theorem.{benchAfter, SameAnswer, equal, SameBench, RowHolds, SamePlace, Returned, ReturnedBy, Demand3}
 
 -- ---- lists of calls
@@ -65,6 +74,16 @@ same-answers [] b k a = none
 same-answers (c ∷ cs) b k a = both (equal (same-answer b k a c)) (same-answers cs (benchStep b c) (bookStep k c) (agree-step b k a c))
 
 -- ---- a place
+-- turns leave the record that admission made
+record-after : (job : Job) → Admissible job → (count : ℕ) → CleanRecord (rowAfter (evaluateOf job) count job .kind) (rowAfter (evaluateOf job) count job .job)
+unfolding Rows.admitted Rows.advance
+record-after job a count = reached (evaluateOf job) (λ (r : Row). CleanRecord (r .kind) (r .job)) job (a .clean) (λ r u h. h) count
+
+pending-evaluable : (job : Job) → Admissible job → (count : ℕ) → Rows.isFinished (rowAfter (evaluateOf job) count job) ≡ false → evaluateNumber (lensWith job (pendingSurfaces (rowAfter (evaluateOf job) count job))) (job .«merit_function») ≡ 0
+pending-evaluable job a count u =
+    let r = rowAfter (evaluateOf job) count job in
+    evaluable job a (pendingSurfaces r) (subst (λ (j : Job). T (surfacesTaken (pendingSurfaces r) (j .prescription .«surface_count»))) (job-after (evaluateOf job) job (a .back) count) (pending-checked r (undamaged job a count) u))
+
 said : (r : Row) (e : Entry) → Kept r e → SamePlace r e
 said r empty h = h
 said r (holds job count) h =
@@ -75,6 +94,9 @@ said r (holds job count) h =
       turns = h .turns;
       resumes = ap resumption (h .row) ∙ row-stands (evaluateOf job) job (a .back) count;
       row = h .row;
+      recordClean = subst (λ (r : Row). CleanRecord (r .kind) (r .job)) (sym (h .row)) (record-after job a count);
+      stateClean = subst (λ (r : Row). ZeroEntries job (stateOf r)) (sym (h .row)) (zero-entries (evaluateOf job) job (a .back) (a .kept) (evaluation-clean job) count);
+      evaluable = subst (λ (r : Row). Rows.isFinished r ≡ false → evaluateNumber (lensWith job (pendingSurfaces r)) (job .«merit_function») ≡ 0) (sym (h .row)) (pending-evaluable job a count);
     }
 
 same-place : (calls : List Call) (place : ℕ) → place < 4 → SamePlace (rowAt (benchAfter calls) place) (entryAt (bookAfter calls) place)
@@ -110,7 +132,7 @@ module _ (some others : List Call) where
 -- ---- jobs
 same-jobs : (a b : JobRequest) → firstRefusal (admissionRefusals a) ≡ 0 → (jobFrom a ≡ jobFrom b) ↔ SameJob a b
 same-jobs a b e =
-    same-exactly a b (not-false (countsTaken (filled a)) (not-refused (filled a) .0 e .0))
+    same-exactly a b (not-false (countsTaken (filled a)) (none-of (admissionRefusals a) 1 (not-refused (filled a) .0 e)))
 
 -- ---- one call on any bench
 one-merit : (b : Bench) (place n : ℕ) → turnNumber b place n ≡ 0 → benchStep b (turn place n) ≡ withRow b place (Rows.advance (rowAt b place) (evaluateOf (jobOfRow (rowAt b place)) (pendingSurfaces (rowAt b place))))
@@ -194,7 +216,7 @@ fetched-returned calls place r e =
     let k = bookAfter calls in
     let p = fetched-is (Book.fetchNumber k place) (resultOf (entryAt k place)) r (sym (same-answer (benchAfter calls) k (agree-after calls) (fetch place)) ∙ e) in
     let n = answers-none (Book.fetchRefusals k place) tt .0 (p .0) in
-    returned-by (entryAt k place) r (n .1 .0) (bounded-at calls place) (p .1)
+    returned-by (entryAt k place) r (none-of (Book.fetchRefusals k place) 11 n) (bounded-at calls place) (p .1)
 
 -- ---- THE THEOREM
 pub demand3 : Demand3

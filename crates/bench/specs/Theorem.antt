@@ -21,9 +21,13 @@ use Rattle.jobs.specs.declared.types.Method.the-variants.{Damped, MultiStart, A
 use Rattle.jobs.specs.Checks.{admissionRefusals}
 use Rattle.jobs.specs.Kept.{jobFrom}
 use Rattle.jobs.specs.Same.{SameJob}
+use Rattle.jobs.specs.Unused.{CleanRecord}
 use Rattle.runs.specs.Run.{done, ask, isDone, value}
 use Rattle.runs.specs.RunEnds.{Evaluated, Descended}
-use Rattle.runs.specs.JobRun.{Result, baseOf, run}
+use Rattle.runs.specs.JobRun.{Result, baseOf, operandCountOf, run}
+use Rattle.runs.specs.State.{stateOf}
+use Rattle.runs.specs.Unused.{CleanResult}
+use Rattle.runs.specs.ZeroEntries.{ZeroEntries}
 use Rattle.runs.specs.Rows.{jobOfRow, admitted, pendingSurfaces, advance, bound}
 use Rattle.runs.specs.Rows as Rows
 use Rattle.runs.specs.Resumption.{resumption}
@@ -31,7 +35,7 @@ use Rattle.runs.specs.Turned.{rowAfter}
 use Rattle.runs.specs.declared.types.Row.{Row}
 use Rattle.bench.specs.declared.types.Bench.{Bench}
 use Rattle.bench.specs.declared.types.Finished.{Finished}
-use Rattle.runs.specs.Turn.{lensWith, evaluateOf}
+use Rattle.runs.specs.JobMerit.{lensWith, evaluateOf}
 use Rattle.bench.specs.Book.{Call, turn, fetch, Answer, number, fetched, listed, Entry, empty, holds, entryAt, runAfter, leftBy, answersBy, bookAfter, bookAnswers}
 use Rattle.bench.specs.Book as Book
 use Rattle.bench.specs.Benches.{zeroRow, emptyBench, rowAt, withRow}
@@ -60,6 +64,11 @@ pub record RowHolds (r : Row) (job : Job) (count : ℕ) : Type 0 where
   pub resumes : resumption r ≡ runAfter job count
   -- job and count decide every entry: it is the row as admitted, turned as often
   pub row : r ≡ rowAfter (evaluateOf job) count job
+  -- "unused entries .. are zero": in the job's record, and in the run's state
+  pub recordClean : CleanRecord (r .kind) (r .job)
+  pub stateClean : ZeroEntries job (stateOf r)
+  -- "A turn works out one merit": the surfaces whose merit comes next are surfaces that `evaluate` takes
+  pub evaluable : Rows.isFinished r ≡ false → evaluateNumber (lensWith job (pendingSurfaces r)) (job .«merit_function») ≡ 0
 
 -- "after the list each place is empty where the book's is", and then all zero, "and else holds the book's job"
 abbrev pub SamePlace : Row → Entry → Type 0
@@ -76,7 +85,9 @@ pub record Returned (job : Job) (r : Result) : Type 0 where
   pub result : r ≡ value (evaluateOf job) (run job)
   -- "the surfaces handed back have the merit printed beside them", and each operand's value and residual
   pub evaluated : Evaluated (evaluateOf job) r
-  -- they pass check 3, and `evaluate` takes them
+  -- "zero past the counts": surfaces, values and residuals
+  pub clean : CleanResult (job .prescription .«surface_count») (numActive (job .variables)) (operandCountOf job) r
+  -- the surfaces pass check 3, and `evaluate` takes them
   pub checked : T (surfacesTaken (r .surfaces) (job .prescription .«surface_count»))
   pub evaluable : evaluateNumber (lensWith job (r .surfaces)) (job .«merit_function») ≡ 0
   -- a damped run's "final merit finite, not above its first"; the first is the merit of the job's surfaces

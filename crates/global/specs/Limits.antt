@@ -2,7 +2,8 @@
 use mathlib.Core.Path.{_≡_}
 use mathlib.Core.Bool.{Bool, true, _&&_, and-eq-true-iff}
 use Prim.Native.Nat.{_≤_}
-use borrow.Author.Tests.{eqb-true, leb-true, not-false}
+use lib.Ieee.Bits.{is-true}
+use borrow.Author.Tests.{leb-true}
 use Rattle.floats.specs.Basic.{finiteOf}
 use Rattle.floats.specs.Constants.{one64}
 use Rattle.jobs.specs.declared.types.DlsConfig.{DlsConfig}
@@ -10,8 +11,7 @@ use Rattle.jobs.specs.declared.types.Job.{Job}
 use Rattle.jobs.specs.declared.types.Method.{Method}
 use Rattle.jobs.specs.declared.types.Method.the-variants.{Damped, MultiStart, Annealing}
 use Rattle.jobs.specs.Checks.{fromZeroTo, greatestDamping, countTaken, dlsTaken, multiStartTaken, annealingTaken, settingsTaken, jobTaken}
-use Rattle.jobs.specs.RefusalLaws.{not-refused}
-use Rattle.jobs.specs.CheckLaws.{taken-counts}
+use Rattle.jobs.specs.Passed.{passed}
 
 -- "a count of iterations, trials, cycles or steps above 1,000" is refused
 abbrev pub CountsWithin : Method → Type 0
@@ -47,9 +47,9 @@ counts-within (Annealing c) e =
 
 pub taken-within : (job : Job) → jobTaken job ≡ true → Within job
 taken-within job e =
-    let n = taken-counts job e in
+    let n = passed job e in
     record {
-      surfaces = n .surfaces;
-      variables = n .variables;
-      counts = counts-within (job .method) (not-false (settingsTaken (job .method)) (not-refused job .0 (eqb-true _ 0 e) .1 .1 .1 .1 .0));
+      surfaces = n .counted .surfaces;
+      variables = n .counted .variables;
+      counts = counts-within (job .method) (is-true (settingsTaken (job .method)) (n .settings));
     }

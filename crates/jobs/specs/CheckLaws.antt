@@ -5,9 +5,10 @@ use mathlib.Core.List.{[], _∷_, _++_}
 use Prim.Native.Nat.{ℕ, zero, suc, _≤_, _<_}
 use native.Mathlib.Nat.{le-refl}
 use native.Mathlib.Omega.{arith}
-use lib.Dec.{T, eqb}
+use lib.Dec.{eqb}
+use lib.Ieee.Bits.{is-true}
 use lib.ListN.{length}
-use borrow.Author.Tests.{lt-ltb, not-false, eqb-true}
+use borrow.Author.Tests.{lt-ltb}
 use Rattle.lists.specs.All.{all-same}
 use Rattle.lists.specs.Kept.{below, kept-used}
 use Rattle.lists.specs.Refusals.{refusal, firstRefusal}
@@ -26,11 +27,7 @@ use Rattle.jobs.specs.Counts.{Counts, counts}
 use Rattle.jobs.specs.Checks.{countsTaken, countsWrong, settingsRefused, noOperand, jobRefusals, admissionRefusals, jobTaken, recordTaken}
 use Rattle.jobs.specs.Records.{kindOf, recordOf, jobOf, knownKinds}
 use Rattle.jobs.specs.RecordLaws.{request-back, record-known}
-use Rattle.jobs.specs.RefusalLaws.{not-refused}
-
--- ---- a job that is taken has them
-pub taken-counts : (j : Job) → jobTaken j ≡ true → Counts j
-taken-counts j e = counts j (not-false (countsTaken j) (not-refused j .0 (eqb-true _ 0 e) .0))
+use Rattle.jobs.specs.Passed.{passed}
 
 -- ---- variables and operands in use are those asked for
 variable-kept : (v : VariableSet) (i : ℕ) → v .«variable_count» ≤ 8 → i < v .«variable_count» → variableAt (keptVariables v) i ≡ variableAt v i
@@ -86,10 +83,6 @@ one-answer a b e = sym (kept-refused (filled a)) ∙ ap (λ (j : Job). firstRefu
 -- Its row's record is taken too.
 pub admitted-record : (r : JobRequest) → firstRefusal (admissionRefusals r) ≡ 0 → recordTaken (kindOf (jobFrom r)) (recordOf (jobFrom r)) ≡ true
 admitted-record r e =
-    let n : Counts (filled r) = counts (filled r) (not-false (countsTaken (filled r)) (not-refused (filled r) .0 e .0)) in
+    let n = passed (filled r) (rw e) .counted in
     and-eq-true-iff (jobTaken (jobOf (kindOf (jobFrom r)) (recordOf (jobFrom r)))) (knownKinds (recordOf (jobFrom r))) .1
-    (ap jobTaken (request-back r) ∙ admitted-taken r e, T-true _ (record-known (jobFrom r) (n .variables) (n .operands)))
-  where
-    T-true : (b : Bool) → T b → b ≡ true
-    T-true true t = refl
-    T-true false t = absurd t
+    (ap jobTaken (request-back r) ∙ admitted-taken r e, is-true _ (record-known (jobFrom r) (n .variables) (n .operands)))

@@ -7,9 +7,12 @@ pub mod Entries
 pub mod Records
 pub mod Checks
 pub mod Same
--- Laws: one job exactly for the same request; record and job are one to one; each number has its cause; unused entries change no answer.
+pub mod Unused
+-- Laws: one job exactly for the same request; record and job are one to one; each number has its cause; unused entries are zero, and change no answer.
 pub mod Counts
 pub mod SameLaws
 pub mod RecordLaws
 pub mod RefusalLaws
+pub mod Passed
+pub mod UnusedLaws
 pub mod CheckLaws

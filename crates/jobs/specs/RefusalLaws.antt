@@ -2,9 +2,7 @@
 use mathlib.Core.Path.{_≡_}
 use mathlib.Core.Bool.{true}
 use mathlib.Core.Logic.{_↔_}
-use lib.Dec.{lit<}
-use lib.ListN.{take}
-use Rattle.lists.specs.Refusals.{firstRefusal, NoneOf, answers, answers-none}
+use Rattle.lists.specs.Refusals.{firstRefusal, NoneOf, before, answers, answers-none}
 use Rattle.jobs.specs.declared.types.Job.{Job}
 use Rattle.jobs.specs.Checks.{countsWrong, lensRefused, variablesRefused, operandsRefused, settingsRefused, noActiveVariable, noOperand, jobRefusals}
 
@@ -12,23 +10,23 @@ module _ (j : Job) where
   pub not-refused : (firstRefusal (jobRefusals j) ≡ 0) ↔ NoneOf (jobRefusals j)
   not-refused = answers-none (jobRefusals j) tt
 
-  pub refused-1 : (firstRefusal (jobRefusals j) ≡ 1) ↔ ((countsWrong j ≡ true) × NoneOf (take 0 (jobRefusals j)))
-  refused-1 = answers (jobRefusals j) 0 (lit< tt) tt
+  pub refused-1 : (firstRefusal (jobRefusals j) ≡ 1) ↔ ((countsWrong j ≡ true) × NoneOf (before 1 (jobRefusals j)))
+  refused-1 = answers (jobRefusals j) 1 tt tt
 
-  pub refused-3 : (firstRefusal (jobRefusals j) ≡ 3) ↔ ((lensRefused j ≡ true) × NoneOf (take 1 (jobRefusals j)))
-  refused-3 = answers (jobRefusals j) 1 (lit< tt) tt
+  pub refused-3 : (firstRefusal (jobRefusals j) ≡ 3) ↔ ((lensRefused j ≡ true) × NoneOf (before 3 (jobRefusals j)))
+  refused-3 = answers (jobRefusals j) 3 tt tt
 
-  pub refused-4 : (firstRefusal (jobRefusals j) ≡ 4) ↔ ((variablesRefused j ≡ true) × NoneOf (take 2 (jobRefusals j)))
-  refused-4 = answers (jobRefusals j) 2 (lit< tt) tt
+  pub refused-4 : (firstRefusal (jobRefusals j) ≡ 4) ↔ ((variablesRefused j ≡ true) × NoneOf (before 4 (jobRefusals j)))
+  refused-4 = answers (jobRefusals j) 4 tt tt
 
-  pub refused-5 : (firstRefusal (jobRefusals j) ≡ 5) ↔ ((operandsRefused j ≡ true) × NoneOf (take 3 (jobRefusals j)))
-  refused-5 = answers (jobRefusals j) 3 (lit< tt) tt
+  pub refused-5 : (firstRefusal (jobRefusals j) ≡ 5) ↔ ((operandsRefused j ≡ true) × NoneOf (before 5 (jobRefusals j)))
+  refused-5 = answers (jobRefusals j) 5 tt tt
 
-  pub refused-6 : (firstRefusal (jobRefusals j) ≡ 6) ↔ ((settingsRefused j ≡ true) × NoneOf (take 4 (jobRefusals j)))
-  refused-6 = answers (jobRefusals j) 4 (lit< tt) tt
+  pub refused-6 : (firstRefusal (jobRefusals j) ≡ 6) ↔ ((settingsRefused j ≡ true) × NoneOf (before 6 (jobRefusals j)))
+  refused-6 = answers (jobRefusals j) 6 tt tt
 
-  pub refused-7 : (firstRefusal (jobRefusals j) ≡ 7) ↔ ((noActiveVariable j ≡ true) × NoneOf (take 5 (jobRefusals j)))
-  refused-7 = answers (jobRefusals j) 5 (lit< tt) tt
+  pub refused-7 : (firstRefusal (jobRefusals j) ≡ 7) ↔ ((noActiveVariable j ≡ true) × NoneOf (before 7 (jobRefusals j)))
+  refused-7 = answers (jobRefusals j) 7 tt tt
 
-  pub refused-8 : (firstRefusal (jobRefusals j) ≡ 8) ↔ ((noOperand j ≡ true) × NoneOf (take 6 (jobRefusals j)))
-  refused-8 = answers (jobRefusals j) 6 (lit< tt) tt
+  pub refused-8 : (firstRefusal (jobRefusals j) ≡ 8) ↔ ((noOperand j ≡ true) × NoneOf (before 8 (jobRefusals j)))
+  refused-8 = answers (jobRefusals j) 8 tt tt

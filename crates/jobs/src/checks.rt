@@ -1,9 +1,9 @@
 // What is checked of a job on admission, but for the place.
-ghost use Prim.Native.Nat.{ℕ};
 ghost use mathlib.Core.Path.{_≡_};
+ghost use mathlib.Core.Bool.{_&&_};
 ghost use Rattle.lists.specs.Refusals.{firstRefusal};
-ghost use Rattle.jobs.specs.Checks.{fromZeroTo, dlsTaken, multiStartTaken, annealingTaken, settingsTaken, countsTaken, jobRefusals, admissionRefusals, jobTaken, recordTaken};
-ghost use Rattle.jobs.specs.Records.{jobOf};
+ghost use Rattle.jobs.specs.Checks.{fromZeroTo, dlsTaken, multiStartTaken, annealingTaken, settingsTaken, countsTaken, jobRefusals, admissionRefusals, jobTaken};
+ghost use Rattle.jobs.specs.Records.{knownKinds};
 use crate::filled;
 use crate::records;
 use crate::types::DlsConfig;
@@ -133,11 +133,10 @@ fn job_taken(job: Job) -> bool
     job_refusal(job) == 0
 }
 
-// A row's job is taken: it would be admitted to an empty place, and holds no number that is no kind.
-// Whether a row's job is taken; `job` is what `held` reads as, under any kind.
+// Whether a row's job is taken: `job`, which `held` reads as, would be admitted to an empty place, and `held` has no number that is no kind.
 pub fn read_taken(job: Job, held: JobRecord) -> bool
     requires { ⌜ (job .variables .«variable_count» ≡ held .«variable_count») × (job .«merit_function» .«operand_count» ≡ held .«operand_count») ⌝ }
-    ensures { λ r. ⌜ ((kind : ℕ) → job ≡ jobOf kind held → r ≡ recordTaken kind held) ⌝ }
+    ensures { λ r. ⌜ r ≡ jobTaken job && knownKinds held ⌝ }
 {
     if !job_taken(job) {
         return false;

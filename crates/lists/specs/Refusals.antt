@@ -1,15 +1,13 @@
--- Refusals: "The lowest number that applies is returned". A call has a list of them, in the order of its checks. Assumes nothing.
-use mathlib.Core.Path.{_≡_, refl, sym}
-use mathlib.Core.Bool.{Bool, true, false, not, cond, _&&_, false≢true}
-use mathlib.Core.List.{List, [], _∷_}
+-- Refusals: "The lowest number that applies is returned". A call has a list of them, in the order of its checks; a refusal is spoken of by its number, never by
+-- its place in the list. Assumes nothing.
+use mathlib.Core.Path.{_≡_, refl, sym, _∙_}
+use mathlib.Core.Bool.{Bool, true, false, not, cond, _&&_, _||_, false≢true}
+use mathlib.Core.List.{List, [], _∷_, _++_}
 use mathlib.Core.Logic.{_↔_}
-use Prim.Native.Nat.{ℕ, zero, suc, _<_}
-use native.Mathlib.Nat.{le-of-suc-le-suc}
-use native.Mathlib.Omega.{arith}
+use Prim.Native.Nat.{ℕ}
 use lib.Dec.{T, eqb}
 use lib.Ieee.Fits.{and-l, and-r}
-use lib.ListN.{length, getD, take}
-use borrow.Author.Tests.{eq-eqb}
+use borrow.Author.Tests.{eq-eqb, eqb-true, eqb-false}
 
 -- a number of the paper, and whether its cause holds
 pub record Refusal : Type 0 where
@@ -29,7 +27,32 @@ abbrev pub NoneOf : List Refusal → Type 0
 NoneOf [] = Unit
 NoneOf (r ∷ rs) = (r .cause ≡ false) × NoneOf rs
 
--- n is none of the numbers
+-- the cause of number n; the refusals in front of it; those behind it
+abbrev pub causeOf : ℕ → List Refusal → Bool
+causeOf n [] = false
+causeOf n (r ∷ rs) = cond (eqb (r .number) n) (r .cause) (causeOf n rs)
+
+abbrev pub before : ℕ → List Refusal → List Refusal
+before n [] = []
+before n (r ∷ rs) = cond (eqb (r .number) n) [] (r ∷ before n rs)
+
+abbrev pub behind : ℕ → List Refusal → List Refusal
+behind n [] = []
+behind n (r ∷ rs) = cond (eqb (r .number) n) rs (behind n rs)
+
+-- the number that comes next to n; 0 behind the last
+abbrev firstNumber : List Refusal → ℕ
+firstNumber [] = 0
+firstNumber (r ∷ rs) = r .number
+
+abbrev pub nextTo : ℕ → List Refusal → ℕ
+nextTo n rs = firstNumber (behind n rs)
+
+-- n is one of the numbers; it is none of them
+abbrev pub has : ℕ → List Refusal → Bool
+has n [] = false
+has n (r ∷ rs) = eqb (r .number) n || has n rs
+
 abbrev pub absent : ℕ → List Refusal → Bool
 absent n [] = true
 absent n (r ∷ rs) = not (eqb (r .number) n) && absent n rs
@@ -38,9 +61,6 @@ absent n (r ∷ rs) = not (eqb (r .number) n) && absent n rs
 abbrev pub distinct : List Refusal → Bool
 distinct [] = true
 distinct (r ∷ rs) = not (eqb 0 (r .number)) && absent (r .number) rs && distinct rs
-
-abbrev pub refusalAt : List Refusal → ℕ → Refusal
-refusalAt rs k = getD rs k (refusal 0 false)
 
 other : (m n : ℕ) → T (not (eqb m n)) → m ≡ n → ⊥
 other m n t e = no (eqb m n) (eq-eqb m n e) t
@@ -59,14 +79,6 @@ not-answered n [] z a e = other 0 n z e
 not-answered n (r ∷ rs) z a e =
     not-answered n rs z (and-r (not (eqb (r .number) n)) (absent n rs) a) (passed (r .cause) (r .number) n (firstRefusal rs) (other (r .number) n (and-l (not (eqb (r .number) n)) (absent n rs) a)) e .1)
 
-not-at : (n : ℕ) (rs : List Refusal) (k : ℕ) → k < length rs → T (absent n rs) → refusalAt rs k .number ≡ n → ⊥
-not-at n [] k h a e = absurd (no k h)
-  where
-    no : (k : ℕ) → k < 0 → ⊥
-    no k h = omega arith
-not-at n (r ∷ rs) zero h a e = other (r .number) n (and-l (not (eqb (r .number) n)) (absent n rs) a) e
-not-at n (r ∷ rs) (suc k) h a e = not-at n rs k (le-of-suc-le-suc h) (and-r (not (eqb (r .number) n)) (absent n rs) a) e
-
 module _ (r : Refusal) (rs : List Refusal) (t : T (distinct (r ∷ rs))) where
   nonzero : T (not (eqb 0 (r .number)))
   nonzero = and-l (not (eqb 0 (r .number))) (absent (r .number) rs) (and-l (not (eqb 0 (r .number)) && absent (r .number) rs) (distinct rs) t)
@@ -81,28 +93,32 @@ module _ (r : Refusal) (rs : List Refusal) (t : T (distinct (r ∷ rs))) where
   first-holds true e = refl
   first-holds false e = absurd (not-answered (r .number) rs nonzero unlike e)
 
-holds : (rs : List Refusal) (k : ℕ) → k < length rs → T (distinct rs) → firstRefusal rs ≡ refusalAt rs k .number → (refusalAt rs k .cause ≡ true) × NoneOf (take k rs)
-holds [] k h t e = absurd (no k h)
-  where
-    no : (k : ℕ) → k < 0 → ⊥
-    no k h = omega arith
-holds (r ∷ rs) zero h t e = (first-holds r rs t (r .cause) e, tt)
-holds (r ∷ rs) (suc k) h t e =
-    let p = passed (r .cause) (r .number) (refusalAt rs k .number) (firstRefusal rs) (λ q. not-at (r .number) rs k (le-of-suc-le-suc h) (unlike r rs t) (sym q)) e in
-    let q = holds rs k (le-of-suc-le-suc h) (rest-distinct r rs t) (p .1) in
-    (q .0, (p .0, q .1))
+abbrev Answering : ℕ → List Refusal → Type 0
+Answering n rs = (causeOf n rs ≡ true) × NoneOf (before n rs)
 
-answering : (rs : List Refusal) (k : ℕ) → k < length rs → (refusalAt rs k .cause ≡ true) × NoneOf (take k rs) → firstRefusal rs ≡ refusalAt rs k .number
-answering [] k h p = absurd (no k h)
+holds : (rs : List Refusal) (n : ℕ) → T (has n rs) → T (distinct rs) → firstRefusal rs ≡ n → Answering n rs
+holds [] n h t e = absurd h
+holds (r ∷ rs) n h t e = go (eqb (r .number) n) refl h (λ h q. holds rs n h (rest-distinct r rs t) q)
   where
-    no : (k : ℕ) → k < 0 → ⊥
-    no k h = omega arith
-answering (r ∷ rs) zero h p = rw (p .0)
-answering (r ∷ rs) (suc k) h p = rw (p .1 .0) (answering rs k (le-of-suc-le-suc h) (p .0, p .1 .1))
+    go : (b : Bool) → eqb (r .number) n ≡ b → T (b || has n rs) → (T (has n rs) → firstRefusal rs ≡ n → Answering n rs) → (cond b (r .cause) (causeOf n rs) ≡ true) × NoneOf (cond b [] (r ∷ before n rs))
+    go true q h later = (first-holds r rs t (r .cause) (e ∙ sym (eqb-true (r .number) n q)), tt)
+    go false q h later =
+        let p = passed (r .cause) (r .number) n (firstRefusal rs) (eqb-false (r .number) n q) e in
+        let s = later h (p .1) in
+        (s .0, (p .0, s .1))
+
+answering : (rs : List Refusal) (n : ℕ) → T (has n rs) → Answering n rs → firstRefusal rs ≡ n
+answering [] n h p = absurd h
+answering (r ∷ rs) n h p = go (eqb (r .number) n) refl h p (answering rs n)
+  where
+    go : (b : Bool) → eqb (r .number) n ≡ b → T (b || has n rs) → (cond b (r .cause) (causeOf n rs) ≡ true) × NoneOf (cond b [] (r ∷ before n rs)) →
+        (T (has n rs) → Answering n rs → firstRefusal rs ≡ n) → cond (r .cause) (r .number) (firstRefusal rs) ≡ n
+    go true q h p later = rw (p .0) (eqb-true (r .number) n q)
+    go false q h p later = rw (p .1 .0) (later h (p .0, p .1 .1))
 
 -- A number is answered exactly when its cause holds and none in front of it does.
-pub answers : (rs : List Refusal) (k : ℕ) → k < length rs → T (distinct rs) → (firstRefusal rs ≡ refusalAt rs k .number) ↔ ((refusalAt rs k .cause ≡ true) × NoneOf (take k rs))
-answers rs k h t = (holds rs k h t, answering rs k h)
+pub answers : (rs : List Refusal) (n : ℕ) → T (has n rs) → T (distinct rs) → (firstRefusal rs ≡ n) ↔ ((causeOf n rs ≡ true) × NoneOf (before n rs))
+answers rs n h t = (holds rs n h t, answering rs n h)
 
 -- 0 is answered exactly when no cause holds.
 pub answers-none : (rs : List Refusal) → T (distinct rs) → (firstRefusal rs ≡ 0) ↔ NoneOf rs
@@ -118,8 +134,39 @@ answers-none rs t = (to rs t, from rs)
     from [] h = refl
     from (r ∷ l) h = rw (h .0) (from l (h .1))
 
+-- where no cause holds, that of a number does not
+either-false : (b c d : Bool) → c ≡ false → d ≡ false → cond b c d ≡ false
+either-false true c d h k = h
+either-false false c d h k = k
+
+pub none-of : (rs : List Refusal) (n : ℕ) → NoneOf rs → causeOf n rs ≡ false
+none-of [] n h = refl
+none-of (r ∷ rs) n h = either-false (eqb (r .number) n) (r .cause) (causeOf n rs) (h .0) (none-of rs n (h .1))
+
+-- nor do those of a beginning of the list
+pub none-front : (rs more : List Refusal) → NoneOf (rs ++ more) → NoneOf rs
+none-front [] more h = tt
+none-front (r ∷ rs) more h = (h .0, none-front rs more (h .1))
+
+-- nothing stands in front of the first
+none-first : (rs : List Refusal) → NoneOf (before (firstNumber rs) rs)
+none-first [] = tt
+none-first (r ∷ rs) = go (eqb (r .number) (r .number)) (eq-eqb (r .number) (r .number) refl)
+  where
+    go : (b : Bool) → b ≡ true → NoneOf (cond b [] (r ∷ before (r .number) rs))
+    go true q = tt
+    go false q = absurd (false≢true q)
+
 -- one more of them does not hold
-pub none-more : (rs : List Refusal) (k : ℕ) → k < length rs → NoneOf (take k rs) → refusalAt rs k .cause ≡ false → NoneOf (take (suc k) rs)
-none-more [] k h n e = tt
-none-more (r ∷ rs) zero h n e = (e, tt)
-none-more (r ∷ rs) (suc k) h n e = (n .0, none-more rs k (le-of-suc-le-suc h) (n .1) e)
+pub none-next : (rs : List Refusal) (n : ℕ) → NoneOf (before n rs) → causeOf n rs ≡ false → NoneOf (before (nextTo n rs) rs)
+none-next [] n h e = tt
+none-next (r ∷ rs) n h e = go (eqb (r .number) n) h e (none-next rs n)
+  where
+    in-front : (m : ℕ) (b : Bool) → r .cause ≡ false → NoneOf (before m rs) → NoneOf (cond b [] (r ∷ before m rs))
+    in-front m true c k = tt
+    in-front m false c k = (c, k)
+
+    go : (b : Bool) → NoneOf (cond b [] (r ∷ before n rs)) → cond b (r .cause) (causeOf n rs) ≡ false → (NoneOf (before n rs) → causeOf n rs ≡ false → NoneOf (before (nextTo n rs) rs)) →
+        NoneOf (before (firstNumber (cond b rs (behind n rs))) (r ∷ rs))
+    go true h e later = in-front (firstNumber rs) (eqb (r .number) (firstNumber rs)) e (none-first rs)
+    go false h e later = in-front (nextTo n rs) (eqb (r .number) (nextTo n rs)) (h .0) (later (h .1) e)

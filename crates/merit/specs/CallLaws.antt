@@ -1,17 +1,17 @@
 -- What callers may use of the calls' refusals: each number is answered exactly when its cause holds and no cause in front of it does. Assumes nothing.
-use mathlib.Core.Path.{_≡_, refl, subst}
-use mathlib.Core.Bool.{Bool, true, false, not, _&&_, true≢false}
+use mathlib.Core.Path.{_≡_, refl, sym, _∙_, subst}
+use mathlib.Core.Bool.{Bool, true, false, not, cond, _&&_, true≢false}
 use mathlib.Core.Logic.{_↔_}
 use Prim.Native.Nat.{ℕ, zero, suc, _≤_, _<_}
 use native.Mathlib.Omega.{arith}
 use lib.Dec.{T, leb, ltb, eqb, leb→le, ltb→lt, eqb→eq}
 use lib.Ieee.Fits.{and-l, and-r}
-use Rattle.lists.specs.Refusals.{answers, answers-none}
+use Rattle.lists.specs.Refusals.{NoneOf, before, answers, answers-none, none-of}
 use Rattle.optics.specs.Kept.{lensCountsTaken}
 use Rattle.optics.specs.Check.{lensTaken}
 use Rattle.optics.specs.declared.types.OpticalPrescription.{OpticalPrescription}
 use Rattle.merit.specs.Check.{operandsTaken}
-use Rattle.merit.specs.Calls.{evaluateRefusals, evaluateNumber, traceRefusals, traceNumber, answerOf, traceAnswer}
+use Rattle.merit.specs.Calls.{evaluateRefusals, evaluateNumber, traceRefusals, traceNumber, answerOf, tracedNumber, traceAnswer}
 use Rattle.merit.specs.declared.types.MeritFunction.{MeritFunction}
 use Rattle.merit.specs.declared.types.Traced.{Traced}
 use Rattle.merit.specs.declared.types.Traced.the-variants.{Done, Failed, Refused}
@@ -36,19 +36,19 @@ module _ (p : OpticalPrescription) (f : MeritFunction) where
   abbrev counted : Bool
   counted = lensCountsTaken (p .«surface_count») (p .«slot_count») && leb (f .«operand_count») 12
 
-  pub evaluate-1 : (evaluateNumber p f ≡ 1) ↔ ((not counted ≡ true) × Unit {0})
+  pub evaluate-1 : (evaluateNumber p f ≡ 1) ↔ ((not counted ≡ true) × NoneOf (before 1 (evaluateRefusals p f)))
   unfolding evaluateNumber
-  evaluate-1 = answers (evaluateRefusals p f) 0 (omega arith) tt
+  evaluate-1 = answers (evaluateRefusals p f) 1 tt tt
 
-  pub evaluate-3 : (evaluateNumber p f ≡ 3) ↔ ((not (lensTaken p) ≡ true) × ((not counted ≡ false) × Unit {0}))
+  pub evaluate-3 : (evaluateNumber p f ≡ 3) ↔ ((not (lensTaken p) ≡ true) × NoneOf (before 3 (evaluateRefusals p f)))
   unfolding evaluateNumber
-  evaluate-3 = answers (evaluateRefusals p f) 1 (omega arith) tt
+  evaluate-3 = answers (evaluateRefusals p f) 3 tt tt
 
-  pub evaluate-5 : (evaluateNumber p f ≡ 5) ↔ ((not (operandsTaken (p .«slot_count») f) ≡ true) × ((not counted ≡ false) × ((not (lensTaken p) ≡ false) × Unit {0})))
+  pub evaluate-5 : (evaluateNumber p f ≡ 5) ↔ ((not (operandsTaken (p .«slot_count») f) ≡ true) × NoneOf (before 5 (evaluateRefusals p f)))
   unfolding evaluateNumber
-  evaluate-5 = answers (evaluateRefusals p f) 2 (omega arith) tt
+  evaluate-5 = answers (evaluateRefusals p f) 5 tt tt
 
-  pub evaluate-0 : (evaluateNumber p f ≡ 0) ↔ ((not counted ≡ false) × ((not (lensTaken p) ≡ false) × ((not (operandsTaken (p .«slot_count») f) ≡ false) × Unit {0})))
+  pub evaluate-0 : (evaluateNumber p f ≡ 0) ↔ NoneOf (evaluateRefusals p f)
   unfolding evaluateNumber
   evaluate-0 = answers-none (evaluateRefusals p f) tt
 
@@ -63,14 +63,14 @@ module _ (p : OpticalPrescription) (f : MeritFunction) where
   pub evaluable : evaluateNumber p f ≡ 0 → Evaluable
   evaluable e =
       let h = evaluate-0 .0 e in
-      let c = passed counted (h .0) in
+      let c = passed counted (none-of (evaluateRefusals p f) 1 h) in
       let k = counts-parts (p .«surface_count») (p .«slot_count») (and-l (lensCountsTaken (p .«surface_count») (p .«slot_count»)) (leb (f .«operand_count») 12) c) in
       record {
         surfaces = k .0;
         slots = k .2;
         operands = leb→le (f .«operand_count») 12 (and-r (lensCountsTaken (p .«surface_count») (p .«slot_count»)) (leb (f .«operand_count») 12) c);
-        lens = passed (lensTaken p) (h .1 .0);
-        taken = passed (operandsTaken (p .«slot_count») f) (h .1 .1 .0);
+        lens = passed (lensTaken p) (none-of (evaluateRefusals p f) 3 h);
+        taken = passed (operandsTaken (p .«slot_count») f) (none-of (evaluateRefusals p f) 5 h);
       }
 
 -- ---- trace
@@ -83,21 +83,37 @@ module _ (p : OpticalPrescription) (slot rows : ℕ) where
   abbrev fitting : Bool
   fitting = lensCountsTaken (p .«surface_count») (p .«slot_count») && eqb rows (p .«surface_count»)
 
-  pub trace-1 : (traceNumber p slot rows ≡ 1) ↔ ((not fitting ≡ true) × Unit {0})
-  unfolding traceNumber
-  trace-1 = answers (traceRefusals p slot rows) 0 (omega arith) tt
+  -- an answer's number is the list's
+  number-of : (n count : ℕ) → tracedNumber (answerOf n count) ≡ n
+  number-of zero count = go (ltb count 2)
+    where
+      go : (b : Bool) → tracedNumber (cond b Failed Done) ≡ 0
+      go true = refl
+      go false = refl
+  number-of (suc n) count = refl
 
-  pub trace-3 : (traceNumber p slot rows ≡ 3) ↔ ((not (lensTaken p) ≡ true) × ((not fitting ≡ false) × Unit {0}))
-  unfolding traceNumber
-  trace-3 = answers (traceRefusals p slot rows) 1 (omega arith) tt
+  pub traced-number : tracedNumber (traceAnswer p slot rows) ≡ traceNumber p slot rows
+  unfolding traceAnswer
+  traced-number = number-of (traceNumber p slot rows) (p .«surface_count»)
 
-  pub trace-5 : (traceNumber p slot rows ≡ 5) ↔ ((not (ltb slot (p .«slot_count»)) ≡ true) × ((not fitting ≡ false) × ((not (lensTaken p) ≡ false) × Unit {0})))
-  unfolding traceNumber
-  trace-5 = answers (traceRefusals p slot rows) 2 (omega arith) tt
+  by-answer : {n : ℕ} {C : Type 0} → (traceNumber p slot rows ≡ n) ↔ C → (tracedNumber (traceAnswer p slot rows) ≡ n) ↔ C
+  by-answer h = (λ e. h .0 (sym traced-number ∙ e), λ c. traced-number ∙ h .1 c)
 
-  pub trace-0 : (traceNumber p slot rows ≡ 0) ↔ ((not fitting ≡ false) × ((not (lensTaken p) ≡ false) × ((not (ltb slot (p .«slot_count»)) ≡ false) × Unit {0})))
+  pub trace-1 : (tracedNumber (traceAnswer p slot rows) ≡ 1) ↔ ((not fitting ≡ true) × NoneOf (before 1 (traceRefusals p slot rows)))
   unfolding traceNumber
-  trace-0 = answers-none (traceRefusals p slot rows) tt
+  trace-1 = by-answer (answers (traceRefusals p slot rows) 1 tt tt)
+
+  pub trace-3 : (tracedNumber (traceAnswer p slot rows) ≡ 3) ↔ ((not (lensTaken p) ≡ true) × NoneOf (before 3 (traceRefusals p slot rows)))
+  unfolding traceNumber
+  trace-3 = by-answer (answers (traceRefusals p slot rows) 3 tt tt)
+
+  pub trace-5 : (tracedNumber (traceAnswer p slot rows) ≡ 5) ↔ ((not (ltb slot (p .«slot_count»)) ≡ true) × NoneOf (before 5 (traceRefusals p slot rows)))
+  unfolding traceNumber
+  trace-5 = by-answer (answers (traceRefusals p slot rows) 5 tt tt)
+
+  pub trace-0 : (tracedNumber (traceAnswer p slot rows) ≡ 0) ↔ NoneOf (traceRefusals p slot rows)
+  unfolding traceNumber
+  trace-0 = by-answer (answers-none (traceRefusals p slot rows) tt)
 
   -- what a trace that is not refused has passed
   pub record Traceable : Type 0 where
@@ -109,14 +125,14 @@ module _ (p : OpticalPrescription) (slot rows : ℕ) where
 
   pub traceable : traceNumber p slot rows ≡ 0 → Traceable
   traceable e =
-      let h = trace-0 .0 e in
-      let c = passed fitting (h .0) in
+      let h = trace-0 .0 (traced-number ∙ e) in
+      let c = passed fitting (none-of (traceRefusals p slot rows) 1 h) in
       let k = counts-parts (p .«surface_count») (p .«slot_count») (and-l (lensCountsTaken (p .«surface_count») (p .«slot_count»)) (eqb rows (p .«surface_count»)) c) in
-      let l : slot < p .«slot_count» = ltb→lt slot (p .«slot_count») (passed (ltb slot (p .«slot_count»)) (h .1 .1 .0)) in
+      let l : slot < p .«slot_count» = ltb→lt slot (p .«slot_count») (passed (ltb slot (p .«slot_count»)) (none-of (traceRefusals p slot rows) 5 h)) in
       record {
         surfaces = k .0;
         row = eqb→eq rows (p .«surface_count») (and-r (lensCountsTaken (p .«surface_count») (p .«slot_count»)) (eqb rows (p .«surface_count»)) c);
-        lens = passed (lensTaken p) (h .1 .0);
+        lens = passed (lensTaken p) (none-of (traceRefusals p slot rows) 3 h);
         there = l;
         below = omega (arith, k .2);
       }

@@ -36,7 +36,7 @@ pub struct MeritEvaluation {
     pub total_merit: f64,
 }
 
-// An evaluation by value, all zero where it is refused, and the refusal's number, 0 where there is none.
+// An evaluation and the refusal's number, 0 where there is none. Where it is refused, the function that answers it says what the evaluation is.
 pub struct Evaluated {
     pub evaluation: MeritEvaluation,
     pub number: u32,

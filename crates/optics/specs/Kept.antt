@@ -1,4 +1,5 @@
--- A prescription as it is handed in becomes one as it is kept: "unused entries .. are zero". Admitting, evaluating and tracing start here. Definitions only.
+-- A prescription as it is handed in becomes one as it is kept: "unused entries .. are zero". Admission keeps it so; `evaluate` and `trace` take a lens as it is
+-- handed in, and look at no unused entry. Definitions only.
 use Prim.Native.Nat.{ℕ, _/_, _%_}
 use mathlib.Core.Bool.{Bool, _&&_}
 use mathlib.Core.List.{List}

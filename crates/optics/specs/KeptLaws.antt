@@ -1,11 +1,13 @@
 -- The entries in use of a prescription as it is kept are those that were handed in; refusal 3 looks at no others. Assumes nothing.
-use mathlib.Core.Path.{_≡_, ap}
-use mathlib.Core.Bool.{true, _&&_}
+use mathlib.Core.Path.{_≡_, refl, ap}
+use mathlib.Core.Bool.{Bool, true, false, _&&_}
+use mathlib.Core.Logic.{_⊎_, inl, inr}
 use Prim.Native.Nat.{ℕ, _+_, _*_, _/_, _%_, _≤_, _<_}
 use native.Mathlib.Omega.{arith}
 use lib.Ieee.{nan}
 use lib.ListN.{getD}
-use borrow.Author.Tests.{lt-ltb}
+use lib.Dec.{ltb}
+use borrow.Author.Tests.{lt-ltb, le-ltb}
 use Rattle.floats.specs.Constants.{zero64}
 use Rattle.lists.specs.All.{all-same}
 use Rattle.lists.specs.Kept.{below, kept-used}
@@ -26,6 +28,14 @@ slot-at i w h = omega arith
 
 pub index-used : (count slots i w : ℕ) → slots ≤ 4 → i < count → w < slots → indexUsed count slots (i * 4 + w) ≡ true
 index-used count slots i w n h l = rw (surface-at i w (omega arith), slot-at i w (omega arith), lt-ltb i count h) (lt-ltb w slots l)
+
+pub index-unused : (count slots i w : ℕ) → w < 4 → (count ≤ i) ⊎ (slots ≤ w) → indexUsed count slots (i * 4 + w) ≡ false
+index-unused count slots i w b (inl h) = rw (surface-at i w b, le-ltb i count h)
+index-unused count slots i w b (inr h) = rw (surface-at i w b, slot-at i w b, le-ltb w slots h) (no (ltb i count))
+  where
+    no : (c : Bool) → c && false ≡ false
+    no true = refl
+    no false = refl
 
 module _ (p : OpticalPrescription) (m : p .«surface_count» ≤ 16) where
   pub surface-kept : (i : ℕ) → i < p .«surface_count» → surfaceAt (keptPrescription p .surfaces) i ≡ surfaceAt (p .surfaces) i

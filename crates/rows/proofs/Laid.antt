@@ -17,7 +17,7 @@ use Rattle.merit.specs.Check.{operandsTaken}
 use Rattle.merit.specs.CheckLaws.{slots-known}
 use Rattle.jobs.specs.declared.types.Job.{Job}
 use Rattle.jobs.specs.Checks.{jobTaken}
-use Rattle.jobs.specs.CheckLaws.{taken-counts}
+use Rattle.jobs.specs.Passed.{passed}
 use Rattle.jobs.specs.RefusalLaws.{not-refused}
 use Rattle.dls.specs.DampedSteps.{ScratchKept}
 
@@ -44,4 +44,4 @@ pub operands-known : (job : Job) → jobTaken job ≡ true → SlotsKnown (job .
 operands-known job e =
     let slots = job .prescription .«slot_count» in
     let f = job .«merit_function» in
-    slots-known slots (taken-counts job e .slots) f (rw (not-false (operandsTaken slots f) (not-refused job .0 (eqb-true _ 0 e) .1 .1 .1 .0)) tt)
+    slots-known slots (passed job e .counted .slots) f (passed job e .operands)

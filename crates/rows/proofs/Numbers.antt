@@ -6,7 +6,7 @@ use Prim.Native.Nat.{ℕ, _≤_, _<_}
 use native.Mathlib.Omega.{arith}
 use lib.Dec.{eqb}
 use borrow.Author.Tests.{ltb-false}
-use Rattle.lists.specs.Refusals.{Refusal, firstRefusal, NoneOf, answers-none}
+use Rattle.lists.specs.Refusals.{Refusal, firstRefusal, NoneOf, answers-none, none-of}
 use Rattle.merit.proofs.Answers.{none, stays}
 use Rattle.merit.specs.Calls.{unlessRefused}
 use Rattle.normal.specs.Layout.{scratchLength}
@@ -71,11 +71,12 @@ pub turnable : (n length : ℕ) (r : Row) → n ≡ turnRowNumber length r → n
 unfolding turnRowNumber
 turnable n length r e l =
     let h = answers-none (rowTurnRefusals length r) tt .0 (sym e ∙ none n l) in
-    record { long = ltb-false length scratchLength (h .0); sound = h .1 .1 .0; going = h .1 .1 .1 .0 }
+    let rs = rowTurnRefusals length r in
+    record { long = ltb-false length scratchLength (none-of rs 9 h); sound = none-of rs 12 h; going = none-of rs 13 h }
 
 pub fetchable : (n : ℕ) (r : Row) → n ≡ fetchRowNumber r → n ≤ 0 → damaged r ≡ false
 unfolding fetchRowNumber
-fetchable n r e l = answers-none (rowFetchRefusals r) tt .0 (sym e ∙ none n l) .1 .0
+fetchable n r e l = none-of (rowFetchRefusals r) 12 (answers-none (rowFetchRefusals r) tt .0 (sym e ∙ none n l))
 
 pub listed : (vacant harmed finished : Bool) → eqb (cond vacant 11 (cond harmed 12 (cond (not finished) 14 0))) 0 ≡ not vacant && not harmed && finished
 listed true h f = refl

@@ -12,7 +12,7 @@ use Rattle.variables.specs.CallerLaws.{active-le}
 use Rattle.jobs.specs.declared.types.Method.{Method}
 use Rattle.jobs.specs.declared.types.Method.the-variants.{Damped, MultiStart, Annealing}
 use Rattle.jobs.specs.Checks.{jobTaken, recordTaken}
-use Rattle.jobs.specs.CheckLaws.{taken-counts}
+use Rattle.jobs.specs.Passed.{passed}
 use Rattle.jobs.specs.Records.{knownKinds}
 use Rattle.runs.specs.declared.types.Row.{Row}
 use Rattle.runs.specs.State.{stateOf}
@@ -56,7 +56,7 @@ module _ (r : Row) (ok : damaged r ≡ false) where
   sound = sound-from (jobOfRow r .method) (jobOfRow r) (stateOf r) (parts r ok .1)
 
   pub turn-counts : TurnCounts (jobOfRow r) r
-  turn-counts = let n = taken-counts (jobOfRow r) job-taken in record { variables = n .variables; operands = n .operands; column = sound .columnBelow }
+  turn-counts = let n = passed (jobOfRow r) job-taken .counted in record { variables = n .variables; operands = n .operands; column = sound .columnBelow }
 
   pub result-within : CountsWithin (jobOfRow r .method) × (r .damped .iteration ≤ 1000)
   result-within = (within .counts, omega (arith, sound .iterationUpTo, limit-le (jobOfRow r .method) (within .counts)))

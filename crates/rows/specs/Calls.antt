@@ -14,7 +14,8 @@ use Rattle.runs.specs.declared.types.Row.{Row}
 use Rattle.runs.specs.JobRun.{Result}
 use Rattle.runs.specs.Damage.{damaged}
 use Rattle.runs.specs.Rows.{jobOfRow, admitted, pendingSurfaces, resultOf}
-use Rattle.runs.specs.Turn.{evaluateOf, turned}
+use Rattle.runs.specs.JobMerit.{evaluateOf}
+use Rattle.runs.specs.Turn.{turned}
 use Rattle.runs.specs.Zeros.{zeroSurfaces}
 use Rattle.runs.specs.Cleared.{cleared}
 use Rattle.bench.specs.Benches.{zeroRow}

@@ -9,7 +9,7 @@ ghost use Rattle.runs.specs.State.{stateOf};
 ghost use Rattle.runs.specs.AnnealingRun.{Annealer};
 ghost use Rattle.runs.specs.AnnealingRow as Annealing;
 ghost use Rattle.runs.specs.Rows.{pendingBy};
-ghost use Rattle.runs.specs.Turn.{evaluateOf};
+ghost use Rattle.runs.specs.JobMerit.{evaluateOf};
 ghost use Rattle.dls.specs.DampedSteps.{ScratchKept};
 ghost use Rattle.global.specs.Parts.{ForAnnealer};
 ghost use Rattle.rows.specs.Steps.{TurnCounts};

@@ -4,33 +4,28 @@ use mathlib.Core.Bool.{true, false}
 use mathlib.Core.List.{List}
 use mathlib.Core.Logic.{_≢_}
 use Prim.Native.Nat.{ℕ, zero, suc, _≤_, _<_}
-use native.Mathlib.Nat.{zero-lt-suc}
 use native.Mathlib.Omega.{arith}
 use lib.Dec.{T}
 use lib.Seq.{getD-set-other}
 use lib.Ieee.{Float}
-use borrow.Author.Tests.{not-false, eqb-true, eqb-false, le-ltb}
-use Rattle.lists.specs.All.{all-at, all-from}
+use borrow.Author.Tests.{le-ltb}
 use Rattle.lists.specs.Kept.{below, kept-unused}
-use Rattle.lists.specs.Refusals.{firstRefusal, NoneOf}
+use Rattle.lists.specs.Refusals.{firstRefusal}
 use Rattle.optics.specs.Types.{surfaceAt, noSurface, zeroSurface}
-use Rattle.optics.specs.Check.{surfaceTaken, surfacesTaken, lensTaken}
-use Rattle.optics.specs.CheckLaws.{lens-parts}
+use Rattle.optics.specs.Check.{surfacesTaken}
 use Rattle.variables.specs.declared.types.VariableSet.{VariableSet}
 use Rattle.variables.specs.Active.{numActive, activeAt}
 use Rattle.variables.specs.Kinds.{surfaceIndex}
 use Rattle.variables.specs.Values.{appliedTo, applied}
-use Rattle.variables.specs.Taken.{variablesTaken}
 use Rattle.variables.specs.TakenLaws.{active-taken}
-use Rattle.variables.specs.Keeps.{applied-taken}
 use Rattle.jobs.specs.declared.types.Job.{Job}
 use Rattle.jobs.specs.declared.types.JobRequest.{JobRequest}
-use Rattle.jobs.specs.Checks.{jobRefusals, admissionRefusals, jobTaken}
-use Rattle.jobs.specs.CheckLaws.{taken-counts, admitted-taken, admitted-record}
+use Rattle.jobs.specs.Checks.{admissionRefusals, jobTaken}
+use Rattle.jobs.specs.CheckLaws.{admitted-taken, admitted-record}
+use Rattle.jobs.specs.Passed.{passed}
 use Rattle.jobs.specs.Filled.{filled}
 use Rattle.jobs.specs.Kept.{keptJob, jobFrom}
 use Rattle.jobs.specs.RecordLaws.{request-back}
-use Rattle.jobs.specs.RefusalLaws.{not-refused}
 use Rattle.runs.specs.Run.{Surfaces, afterMerits, value}
 use Rattle.runs.specs.JobRun.{baseOf, run}
 use Rattle.runs.specs.State.{stateOf}
@@ -40,13 +35,16 @@ use Rattle.runs.specs.Damage.{damaged}
 use Rattle.runs.specs.RowLaws.{ReadBack}
 use Rattle.runs.specs.RunEnds.{Evaluated}
 use Rattle.runs.specs.Turned.{rowAfter, row-stands, finished-at-bound}
-use Rattle.runs.specs.Turn.{evaluateOf}
+use Rattle.runs.specs.JobMerit.{evaluateOf}
 use Rattle.runs.specs.TurnLaws.{evaluation-clean, row-result, result-evaluated}
-use Rattle.runs.specs.DamageLaws.{Usable, never-damaged}
-use Rattle.runs.specs.Unused.{ZeroSurfaces, Clean}
-use Rattle.runs.specs.UnusedLaws.{Kept, unused-zero}
+use Rattle.runs.specs.Usable.{Usable, usable}
+use Rattle.runs.specs.DamageLaws.{never-damaged}
+use Rattle.runs.specs.Unused.{ZeroSurfaces}
+use Rattle.runs.specs.UnusedLaws.{Kept}
+use Rattle.runs.specs.ZeroEntries.{ZeroEntries}
+use Rattle.runs.specs.ZeroEntryLaws.{zero-entries}
 
--- ---- a job that is taken is usable
+-- ---- a job that is taken
 module _ (job : Job) (taken : jobTaken job ≡ true) where
   abbrev count : ℕ
   count = job .prescription .«surface_count»
@@ -54,32 +52,12 @@ module _ (job : Job) (taken : jobTaken job ≡ true) where
   abbrev v : VariableSet
   v = job .variables
 
-  none : NoneOf (jobRefusals job)
-  none = not-refused job .0 (eqb-true (firstRefusal (jobRefusals job)) 0 taken)
-
-  lens : T (lensTaken (job .prescription))
-  lens = subst T (sym (not-false (lensTaken (job .prescription)) (none .1 .0))) tt
-
-  variables : T (variablesTaken count v)
-  variables = subst T (sym (not-false (variablesTaken count v) (none .1 .1 .0))) tt
-
-  positive : (n : ℕ) → (n ≡ 0 → ⊥) → 0 < n
-  positive zero h = absurd (h refl)
-  positive (suc n) h = zero-lt-suc n
-
-  pub usable : Usable job
-  usable = record {
-    applies = λ values x h. all-from (λ (i : ℕ). surfaceTaken (surfaceAt (applied v values x) i)) count (λ i l. applied-taken count v variables values x i (all-at (λ (i : ℕ). surfaceTaken (surfaceAt x i)) count i h l));
-    based = all-from (λ (i : ℕ). surfaceTaken (surfaceAt (baseOf job) i)) count (lens-parts (job .prescription) lens .surfaces);
-    enabled = positive (numActive v) (eqb-false (numActive v) 0 (none .1 .1 .1 .1 .1 .0));
-  }
-
   -- applying keeps to the job's surfaces
   applied-to-rest : (values : List Float) (x : Surfaces) (i n : ℕ) → n ≤ numActive v → count ≤ i → surfaceAt (appliedTo v values x n) i ≡ surfaceAt x i
   unfolding appliedTo
   applied-to-rest values x i zero h l = refl
   applied-to-rest values x i (suc n) h l =
-      getD-set-other (appliedTo v values x n) (surfaceIndex (activeAt v n .«var_type»)) i _ noSurface (apart (surfaceIndex (activeAt v n .«var_type»)) (active-taken count v variables n h .present))
+      getD-set-other (appliedTo v values x n) (surfaceIndex (activeAt v n .«var_type»)) i _ noSurface (apart (surfaceIndex (activeAt v n .«var_type»)) (active-taken count v (passed job taken .variables) n h .present))
       ∙ applied-to-rest values x i n (omega arith) l
     where
       apart : (k : ℕ) → k < count → i ≢ k
@@ -97,7 +75,7 @@ pub kept-job : (j : Job) → jobTaken (keptJob j) ≡ true → Kept (keptJob j)
 kept-job j taken = record {
   applies = λ values x h i l b. applied-rest (keptJob j) taken values x i l ∙ h i l b;
   based = kept-surfaces j;
-  fits = taken-counts (keptJob j) taken .operands;
+  fits = passed (keptJob j) taken .counted .operands;
 }
 
 -- ---- a request that is not refused
@@ -125,8 +103,8 @@ module _ (r : JobRequest) (admissible : firstRefusal (admissionRefusals r) ≡ 0
   pub request-undamaged : (k : ℕ) → damaged (rowAfter (evaluateOf (jobFrom r)) k (jobFrom r)) ≡ false
   request-undamaged k = never-damaged (evaluateOf (jobFrom r)) (jobFrom r) reads-back request-usable (subst T (sym (admitted-record r admissible)) tt) k
 
-  pub request-clean : (k : ℕ) → Clean (jobFrom r) (stateOf (rowAfter (evaluateOf (jobFrom r)) k (jobFrom r)))
-  request-clean k = unused-zero (evaluateOf (jobFrom r)) (jobFrom r) reads-back request-kept (evaluation-clean (jobFrom r)) k
+  pub request-clean : (k : ℕ) → ZeroEntries (jobFrom r) (stateOf (rowAfter (evaluateOf (jobFrom r)) k (jobFrom r)))
+  request-clean k = zero-entries (evaluateOf (jobFrom r)) (jobFrom r) reads-back request-kept (evaluation-clean (jobFrom r)) k
 
   -- its result has the merit printed beside it, at surfaces that pass check 3
   pub request-evaluated : Evaluated (evaluateOf (jobFrom r)) (value (evaluateOf (jobFrom r)) (run (jobFrom r))) × T (surfacesTaken (value (evaluateOf (jobFrom r)) (run (jobFrom r)) .surfaces) (jobFrom r .prescription .«surface_count»))

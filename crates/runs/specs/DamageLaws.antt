@@ -2,25 +2,21 @@
 -- admission are never damaged. Assumes nothing but what is named.
 use mathlib.Core.Path.{_≡_, refl, sym, _∙_, subst}
 use mathlib.Core.Bool.{Bool, true, false, not, _&&_, _||_, true≢false}
-use mathlib.Core.List.{List}
 use Prim.Native.Nat.{ℕ, max, _<_}
 use native.Mathlib.Nat.{le-max-right}
 use native.Mathlib.Omega.{arith}
 use lib.Dec.{T, ltb, lt→ltb}
-use lib.Ieee.{Float}
+use lib.Ieee.Bits.{is-true}
 use lib.Ieee.Fits.{and-i, and-l, and-r}
-use Rattle.variables.specs.Active.{numActive}
-use Rattle.variables.specs.Values.{applied}
-use Rattle.optics.specs.Check.{surfacesTaken}
 use Rattle.merit.specs.declared.types.MeritEvaluation.{MeritEvaluation}
 use Rattle.jobs.specs.declared.types.Job.{Job}
 use Rattle.jobs.specs.declared.types.Method.{Method}
 use Rattle.jobs.specs.declared.types.Method.the-variants.{Damped, MultiStart, Annealing}
-use Rattle.jobs.specs.Records.{recordOf, kindOf}
-use Rattle.jobs.specs.Checks.{recordTaken}
+use Rattle.jobs.specs.Records.{recordOf, kindOf, knownKinds}
+use Rattle.jobs.specs.Checks.{jobTaken, recordTaken}
 use Rattle.runs.specs.declared.types.Row.{Row}
 use Rattle.runs.specs.Run.{Surfaces}
-use Rattle.runs.specs.JobRun.{baseOf}
+use Rattle.runs.specs.Usable.{Usable, usable}
 use Rattle.runs.specs.State.{State, stateOf}
 use Rattle.runs.specs.DampedRow as DampedRow
 use Rattle.runs.specs.Rows.{jobOfRow, began, admitted, pendingSurfaces, advanceBy, advance, finishedBy, isFinished, bound}
@@ -30,12 +26,6 @@ use Rattle.runs.specs.KindsSound.{damped-sound, multi-sound}
 use Rattle.runs.specs.AnnealingSound.{annealing-sound}
 use Rattle.runs.specs.RowLaws.{ReadBack, job-advance}
 use Rattle.runs.specs.Turned.{turned, rowAfter, reached, unfinished-below, turns-after, job-after}
-
--- what a job that would be admitted has: applying its variables keeps check 3, its surfaces pass it, and a variable is enabled
-pub record Usable (job : Job) : Type 0 where
-  pub applies : (values : List Float) (x : Surfaces) → T (surfacesTaken x (job .prescription .«surface_count»)) → T (surfacesTaken (applied (job .variables) values x) (job .prescription .«surface_count»))
-  pub based : T (surfacesTaken (baseOf job) (job .prescription .«surface_count»))
-  pub enabled : 0 < numActive (job .variables)
 
 -- ---- a turn
 sound-by : (m : Method) (job : Job) → Usable job → (s : State) (e : MeritEvaluation) → finishedBy m s ≡ false → Sound m job s → Sound m job (advanceBy m job s e)
@@ -47,12 +37,19 @@ sound-by (Annealing config) job k s e u h = annealing-sound job (k .applies) con
 abbrev pub SoundRow : Row → Type 0
 SoundRow r = T (jobSound r) × T (stateSound (jobOfRow r .method) (jobOfRow r) (stateOf r))
 
-advance-sound : (r : Row) (e : MeritEvaluation) → Usable (jobOfRow r) → isFinished r ≡ false → SoundRow r → SoundRow (advance r e)
+-- the job of an undamaged row would be admitted
+pub undamaged-usable : (r : Row) → SoundRow r → Usable (jobOfRow r)
+unfolding jobSound
+undamaged-usable r h =
+    let taken = jobTaken (jobOfRow r) in
+    usable (jobOfRow r) (is-true taken (and-l taken (knownKinds (r .job)) (and-r (isKind (r .kind)) (recordTaken (r .kind) (r .job)) (h .0))))
+
+advance-sound : (r : Row) (e : MeritEvaluation) → isFinished r ≡ false → SoundRow r → SoundRow (advance r e)
 unfolding isFinished advance jobSound
-advance-sound r e k u h =
+advance-sound r e u h =
     let m = jobOfRow r .method in
     let job = jobOfRow r in
-    (h .0, sound-to m job (advanceBy m job (stateOf r) e) (sound-by m job k (stateOf r) e u (sound-from m job (stateOf r) (h .1))))
+    (h .0, sound-to m job (advanceBy m job (stateOf r) e) (sound-by m job (undamaged-usable r h) (stateOf r) e u (sound-from m job (stateOf r) (h .1))))
 
 not-false : (b : Bool) → not b ≡ false → T b
 not-false true h = tt
@@ -84,8 +81,8 @@ whole r h t =
     let s = stateSound (jobOfRow r .method) (jobOfRow r) (stateOf r) in
     is-false (j && s && turnsSound r) (and-i (j && s) (turnsSound r) (and-i j s (h .0) (h .1)) t)
 
-pub undamaged-advance : (r : Row) (e : MeritEvaluation) → Usable (jobOfRow r) → damaged r ≡ false → isFinished r ≡ false → T (turnsSound (advance r e)) → damaged (advance r e) ≡ false
-undamaged-advance r e k h u t = whole (advance r e) (advance-sound r e k u (parts r h)) t
+pub undamaged-advance : (r : Row) (e : MeritEvaluation) → damaged r ≡ false → isFinished r ≡ false → T (turnsSound (advance r e)) → damaged (advance r e) ≡ false
+undamaged-advance r e h u t = whole (advance r e) (advance-sound r e u (parts r h)) t
 
 -- ---- admission
 zero-below : (n : ℕ) → 0 < max n 1
@@ -121,7 +118,7 @@ module _ (f : Surfaces → MeritEvaluation) (job : Job) (back : ReadBack job) (k
       back′ = Rattle.runs.specs.RowLaws.job-admitted job back
 
       next : (r : Row) → isFinished r ≡ false → (jobOfRow r ≡ job) × SoundRow r → (jobOfRow (turned f r) ≡ job) × SoundRow (turned f r)
-      next r u h = (job-advance r (f (pendingSurfaces r)) ∙ h .0, advance-sound r (f (pendingSurfaces r)) (subst Usable (sym (h .0)) k) u (h .1))
+      next r u h = (job-advance r (f (pendingSurfaces r)) ∙ h .0, advance-sound r (f (pendingSurfaces r)) u (h .1))
 
   turns-sound : (n : ℕ) → T (turnsSound (rowAfter f n job))
   unfolding turnsSound

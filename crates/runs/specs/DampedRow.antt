@@ -59,7 +59,7 @@ abbrev pub atFirst : Surfaces → DampedState
 atFirst initial = holding 0 initial zeroParams zeroParams
 
 -- in the loops, with the entries that differ from phase to phase
-abbrev within : (phase : ℕ) → Current → (jMat plusResiduals candidate : List Float) (column attempt : ℕ) → DampedState
+abbrev pub within : (phase : ℕ) → Current → (jMat plusResiduals candidate : List Float) (column attempt : ℕ) → DampedState
 within n s jMat plusResiduals c q k = record {
   surfaces = s .surfaces;
   jacobian = jMat;

@@ -12,8 +12,8 @@ use Rattle.variables.specs.Values.{applied}
 use Rattle.merit.specs.declared.types.MeritEvaluation.{MeritEvaluation}
 use Rattle.runs.specs.declared.types.DampedState.{DampedState}
 use Rattle.runs.specs.Run.{Surfaces}
-use Rattle.runs.specs.DampedRun.{Optimizer, Current, testPresc}
-use Rattle.runs.specs.DampedRow.{Phase, first, plus, minus, candidate, finished, phaseOf, atFirst, advance, isFinished}
+use Rattle.runs.specs.DampedRun.{Optimizer, Current, prescPlus, prescMinus, testPresc}
+use Rattle.runs.specs.DampedRow.{Phase, first, plus, minus, candidate, finished, phaseOf, atFirst, pendingAt, pending, advance, isFinished}
 use Rattle.runs.specs.DampedInvariant.{Invariant, Before, keeps}
 
 module _ (o : Optimizer) (Taken : Surfaces → Type 0) (applies : (values : List Float) (x : Surfaces) → Taken x → Taken (applied (o .variables) values x)) where
@@ -70,6 +70,19 @@ module _ (o : Optimizer) (Taken : Surfaces → Type 0) (applies : (values : List
   before minus d pos h = ((h .taken, h .iterationUpTo), h .columnBelow, tt)
   before candidate d pos h = ((h .taken, h .iterationUpTo), tt, tt)
   before finished d pos h = tt
+
+  -- what is pending is the current surfaces, or these with the variables applied
+  pending-at : (f : Phase) (d : DampedState) → Taken (d .surfaces) → Taken (pendingAt o f d)
+  unfolding pendingAt prescPlus prescMinus testPresc
+  pending-at first d h = h
+  pending-at plus d h = applies _ (d .surfaces) h
+  pending-at minus d h = applies _ (d .surfaces) h
+  pending-at candidate d h = applies _ (d .surfaces) h
+  pending-at finished d h = h
+
+  pub pending-taken : (d : DampedState) → Taken (d .surfaces) → Taken (pending o d)
+  unfolding pending
+  pending-taken d h = pending-at (phaseOf (d .phase)) d h
 
   pub sound-first : (x : Surfaces) → Taken x → 0 < p → Sound (atFirst x)
   sound-first x h pos = record { isPhase = omega arith; taken = h; columnBelow = pos; attemptUpTo = omega arith; iterationUpTo = omega arith }

@@ -15,7 +15,9 @@ pub mod Rows
 pub mod Resumption
 pub mod Damage
 pub mod Unused
+pub mod ZeroEntries
 pub mod Cleared
+pub mod JobMerit
 pub mod Turn
 -- Laws: a row stands where its job's run stands (1 to 4), also when it is turned again and again.
 pub mod DampedLaws
@@ -32,15 +34,18 @@ pub mod RunEnds
 pub mod MultiStartBase
 pub mod Prefix
 pub mod TurnLaws
--- Undamaged rows stay undamaged (5), the causes of damage, and unused entries are zero (6).
+-- Undamaged rows stay undamaged (5), the causes of damage, what is pending passes check 3, and unused entries are zero (6).
+pub mod Usable
 pub mod DampedInvariant
 pub mod DampedSound
 pub mod StateSound
 pub mod KindsSound
 pub mod AnnealingSound
 pub mod DamageLaws
+pub mod PendingTaken
 pub mod DamageCauses
 pub mod UnusedDamped
 pub mod UnusedLaws
+pub mod ZeroEntryLaws
 -- A request that is not refused makes a job for which they hold.
 pub mod Admitted

@@ -1,25 +1,7 @@
--- The evaluation that a turn works out, and a turn of a row: the only file of definitions here that calls on the evaluation. Definitions only.
-use Rattle.optics.specs.declared.types.OpticalPrescription.{OpticalPrescription}
-use Rattle.merit.specs.declared.types.MeritEvaluation.{MeritEvaluation}
-use Rattle.merit.specs.Calls.{lensEvaluation}
-use Rattle.jobs.specs.declared.types.Job.{Job}
+-- A turn of a row. Definitions only.
 use Rattle.runs.specs.declared.types.Row.{Row}
-use Rattle.runs.specs.Run.{Surfaces}
+use Rattle.runs.specs.JobMerit.{evaluateOf}
 use Rattle.runs.specs.Rows.{jobOfRow, pendingSurfaces, advance}
-
--- the job's lens with other surfaces: its indices, pupil and counts stay
-abbrev pub lensWith : Job → Surfaces → OpticalPrescription
-lensWith job s = record {
-  surfaces = s;
-  indices = job .prescription .indices;
-  «surface_count» = job .prescription .«surface_count»;
-  «slot_count» = job .prescription .«slot_count»;
-  «entrance_pupil_diameter_mm» = job .prescription .«entrance_pupil_diameter_mm»;
-}
-
--- "The merit of surfaces is evaluate's total under the job's indices, pupil and operands": what the call `evaluate` writes for that lens, by its contract
-unfoldable pub evaluateOf : Job → Surfaces → MeritEvaluation
-evaluateOf job s = lensEvaluation (lensWith job s) (job .«merit_function»)
 
 -- "A turn works out one merit and goes on to just before the next, or to the end."
 unfoldable pub turned : Row → Row

@@ -1,20 +1,22 @@
 -- What rows come to under the evaluation that a turn works out. Assumes nothing but what is named.
 use mathlib.Core.Path.{_≡_, refl, sym, ap, _∙_, subst}
-use mathlib.Core.Bool.{Bool, true, false, cond}
+use mathlib.Core.Bool.{true}
 use mathlib.Core.List.{List}
 use Prim.Native.Nat.{ℕ, _+_, _-_}
 use native.Mathlib.Omega.{arith}
 use lib.Dec.{T}
 use lib.ListN.{getD, length, replicate, getD-replicate}
 use lib.Seq.{getD-append-add}
-use lib.Ieee.{Float, nan, ofBits}
-use Rattle.floats.specs.Basic.{finiteOf}
+use lib.Ieee.{Float, nan}
 use Rattle.floats.specs.Constants.{zero64}
 use Rattle.lists.specs.Tab.{tab, length-tab}
+use Rattle.floatlaws.specs.CallerLaws.{test-finite}
 use Rattle.optics.specs.Check.{surfacesTaken}
+use Rattle.optics.specs.Types.{surfaceAt, slotIndex}
 use Rattle.variables.specs.Active.{numActive}
 use Rattle.variables.specs.Values.{applied}
-use Rattle.merit.specs.Evaluation.{entries, countedTotal, overflowMerit}
+use Rattle.merit.specs.Evaluation.{entries}
+use Rattle.merit.specs.EvaluationLaws.{total-finite}
 use Rattle.merit.specs.declared.types.MeritEvaluation.{MeritEvaluation}
 use Rattle.jobs.specs.declared.types.DlsConfig.{DlsConfig}
 use Rattle.jobs.specs.declared.types.Job.{Job}
@@ -25,23 +27,15 @@ use Rattle.runs.specs.Ends.{Ends-value}
 use Rattle.runs.specs.JobRun.{baseOf, operandCountOf, optimizerOf, runBy, run}
 use Rattle.runs.specs.Rows.{isFinished, resultOf}
 use Rattle.runs.specs.RowLaws.{ReadBack, resumption-done}
-use Rattle.runs.specs.RunEnds.{Evaluated, run-checked, Descended, damped-descends}
+use Rattle.runs.specs.RunEnds.{Evaluated, FiniteAnswer, run-checked, Descended, damped-descends}
 use Rattle.runs.specs.Turned.{rowAfter, row-stands}
-use Rattle.runs.specs.Turn.{evaluateOf}
+use Rattle.runs.specs.JobMerit.{evaluateOf}
 use Rattle.runs.specs.Unused.{ZeroFrom, CleanEvaluation}
 
 -- ---- every merit is finite
-counted-finite : (x : Float) → T (finiteOf (countedTotal x))
-unfolding countedTotal overflowMerit finiteOf ofBits
-counted-finite x = go (finiteOf x) refl
-  where
-    go : (b : Bool) → finiteOf x ≡ b → T (finiteOf (cond b x overflowMerit))
-    go true e = subst T (sym e) tt
-    go false e = tt
-
-pub merit-finite : (job : Job) (s : Surfaces) → T (finiteOf (evaluateOf job s .«total_merit»))
+pub merit-finite : (job : Job) (s : Surfaces) → FiniteAnswer s (evaluateOf job s)
 unfolding evaluateOf
-merit-finite job s = counted-finite _
+merit-finite job s = test-finite _ (total-finite (surfaceAt s) (slotIndex (job .prescription .indices)) (job .prescription .«entrance_pupil_diameter_mm») (job .prescription .«surface_count») (job .«merit_function»))
 
 -- ---- it is zero past the operands
 entries-zero : (g : ℕ → Float) (n : ℕ) → ZeroFrom n 12 (entries g n)

@@ -1,7 +1,7 @@
--- "unused entries and empty places are zero": what a row reached from admission looks like. Each state is one that its phase's builder makes (`DampedRow`,
--- `MultiStartRow`, `AnnealingRow`), where what the phase does not use is written as zero, and what it uses is zero past the job's counts. Definitions only.
+-- What the state of a row reached from admission looks like: it is one that its phase's builder makes (`DampedRow`, `MultiStartRow`, `AnnealingRow`), and what it
+-- uses is zero past the job's counts. It is kept by turns; what a reader relies on is `ZeroEntries`, entry by entry, which follows. Definitions only.
 use mathlib.Core.Path.{_≡_}
-use mathlib.Core.Bool.{Bool}
+use mathlib.Core.Bool.{Bool, false}
 use mathlib.Core.List.{List}
 use mathlib.Core.Logic.{_⊎_}
 use Prim.Native.Nat.{ℕ, suc, _≤_, _<_}
@@ -26,7 +26,7 @@ use Rattle.runs.specs.JobRun.{operandCountOf}
 use Rattle.runs.specs.State.{State, alone}
 use Rattle.runs.specs.DampedRun.{Current}
 use Rattle.runs.specs.AnnealingRun.{Walk}
-use Rattle.runs.specs.DampedRow.{atFirst, atPlus, atMinus, atCandidate, ended}
+use Rattle.runs.specs.DampedRow.{atFirst, atPlus, atMinus, atCandidate, ended, isFinished}
 use Rattle.runs.specs.MultiStartRow.{inTrial}
 use Rattle.runs.specs.MultiStartRow as MultiRow
 use Rattle.runs.specs.AnnealingRow.{atWalkFirst, atWalk, atPolish}
@@ -67,8 +67,8 @@ module _ (n p m : ℕ) where
   -- ---- the run's state, for each kind
   pub data CleanState : Method → State → Type 0 where
     inDamped : {config : DlsConfig} {d : DampedState} → CleanDamped d → CleanState (Damped config) (alone d)
-    inBase : {config : MultiStartConfig} {d : DampedState} {g : ℕ} → CleanDamped d → CleanState (MultiStart config) (inTrial d zeroResult g 0)
-    inTrials : {config : MultiStartConfig} {d : DampedState} {best : OptimizationResult} {g t : ℕ} → CleanDamped d → CleanResult best → CleanState (MultiStart config) (inTrial d best g (suc t))
+    inBase : {config : MultiStartConfig} {d : DampedState} {g : ℕ} → isFinished d ≡ false → CleanDamped d → CleanState (MultiStart config) (inTrial d zeroResult g 0)
+    inTrials : {config : MultiStartConfig} {d : DampedState} {best : OptimizationResult} {g t : ℕ} → isFinished d ≡ false → CleanDamped d → CleanResult best → CleanState (MultiStart config) (inTrial d best g (suc t))
     atEnd : {config : MultiStartConfig} {best : OptimizationResult} → CleanResult best → CleanState (MultiStart config) (MultiRow.ended best)
     isWalkFirst : {config : SimulatedAnnealingConfig} {base : Surfaces} → ZeroSurfaces n base → CleanState (Annealing config) (atWalkFirst base)
     isWalk : {config : SimulatedAnnealingConfig} {i : Float} {w : Walk} {trial : List Float} {c k : ℕ} → CleanWalk w → ZeroFrom p 8 trial → CleanState (Annealing config) (atWalk i w trial c k)

@@ -37,6 +37,9 @@ eight-zero v f rest h i l b = getD-tab (λ (q : ℕ). cond (ltb q (numActive v))
         no l′ = omega arith
     go false e = h i l b
 
+pub zero-jacobian : (m filled : ℕ) → ZeroJacobian m filled zeroJacobian
+zero-jacobian m filled i q a b h = getD-replicate 96 (jacobianPlace i q) zero64 nan (omega arith)
+
 module _ (o : Optimizer) (n : ℕ)
     (applies : (values : List Float) (x : Surfaces) → ZeroSurfaces n x → ZeroSurfaces n (applied (o .variables) values x))
     (fits : o .operandCount ≤ 12) where
@@ -45,9 +48,6 @@ module _ (o : Optimizer) (n : ℕ)
 
   abbrev m : ℕ
   m = o .operandCount
-
-  zero-jacobian : (filled : ℕ) → ZeroJacobian m filled zeroJacobian
-  zero-jacobian filled i q a b h = getD-replicate 96 (jacobianPlace i q) zero64 nan (omega arith)
 
   -- a column that is written leaves the rest as it was
   zero-differences : (s : Current) (q : ℕ) (jMat r r′ : List Float) → ZeroJacobian m q jMat → ZeroJacobian m (suc q) (withDifferences o s q jMat r r′)
@@ -100,8 +100,8 @@ module _ (o : Optimizer) (n : ℕ)
     raises = λ s h. h;
     counts = λ s h e. h;
     moves = λ c e s h g a. (applies c (s .surfaces) (h .0), g, a);
-    firstColumn = λ e. (ltb-true 0 p e, zero-jacobian 0);
-    noColumn = λ e. zero-jacobian p;
+    firstColumn = λ e. (ltb-true 0 p e, zero-jacobian m 0);
+    noColumn = λ e. zero-jacobian m p;
     nextColumn = λ s q j r r′ h a b c e. (ltb-true (suc q) p e, zero-differences s q j r r′ (a .1));
     lastColumn = λ s q j r r′ h a b c e. all-columns q (withDifferences o s q j r r′) (a .0) e (zero-differences s q j r r′ (a .1));
     solves = λ j s h f. zero-candidate j s (h .1);

@@ -1,4 +1,4 @@
--- Law 6: every row reached from admission has every entry that its kind and phase do not use equal to zero. Assumes nothing but what is named.
+-- Every row reached from admission is one that its phase's builder makes, zero past the job's counts. Assumes nothing but what is named.
 use mathlib.Core.Path.{_≡_, refl, ap, sym, _∙_, subst}
 use mathlib.Core.Bool.{Bool, true, false, cond, true≢false}
 use mathlib.Core.List.{List}
@@ -32,7 +32,7 @@ use Rattle.runs.specs.MultiStartRow.{inTrial, bestBefore, resumeTrials, 
 use Rattle.runs.specs.MultiStartRow as MultiRow
 use Rattle.runs.specs.AnnealingRow.{isCycle, resumeCycles, resumeSteps}
 use Rattle.runs.specs.AnnealingRow as AnnealingRow
-use Rattle.runs.specs.Rows.{jobOfRow, began, admitted, pendingSurfaces, advanceBy, advance, finishedBy, isFinished}
+use Rattle.runs.specs.Rows.{jobOfRow, began, admitted, pendingSurfaces, advanceBy, advance, finishedBy, isFinished, resultBy, resultOf}
 use Rattle.runs.specs.RowLaws.{ReadBack, job-admitted, job-advance}
 use Rattle.runs.specs.Turned.{rowAfter, reached}
 use Rattle.runs.specs.Unused.{ZeroFrom, ZeroSurfaces, CleanEvaluation, CleanResult, CleanWalk, CleanDamped, isFirst, isPlus, isMinus, isCandidate, isEnded, CleanState, inDamped, inBase, inTrials, atEnd, isWalkFirst, isWalk, inPolish, Clean}
@@ -72,8 +72,8 @@ module _ (job : Job) (k : Kept job) where
       go false = a
 
   trials-clean : (b : Bool) (config : MultiStartConfig) (best : OptimizationResult) (g t : ℕ) → CleanResult n p m best → CleanState n p m (MultiStart config) (resumeTrials (optimizerOf job (config .«local_dls_config»)) (baseOf job) (config .«num_trials») b best g t)
-  unfolding resumeTrials trialPresc
-  trials-clean true config best g t h = inTrials (isFirst (k .applies _ (baseOf job) (k .based))) h
+  unfolding resumeTrials trialPresc DampedRow.isFinished DampedRow.finishedAt DampedRow.phaseOf
+  trials-clean true config best g t h = inTrials refl (isFirst (k .applies _ (baseOf job) (k .based))) h
   trials-clean false config best g t h = atEnd h
 
   module _ (config : MultiStartConfig) where
@@ -83,13 +83,13 @@ module _ (job : Job) (k : Kept job) where
     resumed-base : (b : Bool) (d d′ : DampedState) (g : ℕ) → DampedRow.isFinished d′ ≡ b → CleanDamped n p m d′ → CleanState n p m (MultiStart config) (resumeDamped (optimizerOf job local) (baseOf job) (config .«num_trials») b (inTrial d zeroResult g 0) d′)
     unfolding resumeDamped merged bestBefore
     resumed-base true d d′ g e h = trials-clean (ltb 0 (config .«num_trials»)) config (DampedRow.resultOf d′) g 0 (result-clean h e)
-    resumed-base false d d′ g e h = inBase h
+    resumed-base false d d′ g e h = inBase e h
 
     resumed-trials : (b : Bool) (d d′ : DampedState) (best : OptimizationResult) (g t : ℕ) → DampedRow.isFinished d′ ≡ b → CleanDamped n p m d′ → CleanResult n p m best →
         CleanState n p m (MultiStart config) (resumeDamped (optimizerOf job local) (baseOf job) (config .«num_trials») b (inTrial d best g (suc t)) d′)
     unfolding resumeDamped bestBefore
     resumed-trials true d d′ best g t e h r = trials-clean (ltb (suc t) (config .«num_trials»)) config (merged (some best) (DampedRow.resultOf d′)) g (suc t) (merged-clean best (DampedRow.resultOf d′) r (result-clean h e))
-    resumed-trials false d d′ best g t e h r = inTrials h r
+    resumed-trials false d d′ best g t e h r = inTrials e h r
 
     abbrev next : DampedState → MeritEvaluation → DampedState
     next d e = DampedRow.advance (optimizerOf job local) d e
@@ -99,8 +99,8 @@ module _ (job : Job) (k : Kept job) where
 
     multi-clean : {s : State} (e : MeritEvaluation) → finishedBy (MultiStart config) s ≡ false → CleanEvaluation n p m e → CleanState n p m (MultiStart config) s → CleanState n p m (MultiStart config) (advanceBy (MultiStart config) job s e)
     unfolding finishedBy advanceBy MultiRow.advance
-    multi-clean e u a (inBase {d = d} {g = g} h) = resumed-base (DampedRow.isFinished (next d e)) d (next d e) g refl (next-clean d e u h a)
-    multi-clean e u a (inTrials {d = d} {best = best} {g = g} {t = t} h r) = resumed-trials (DampedRow.isFinished (next d e)) d (next d e) best g t refl (next-clean d e u h a) r
+    multi-clean e u a (inBase {d = d} {g = g} v h) = resumed-base (DampedRow.isFinished (next d e)) d (next d e) g refl (next-clean d e u h a)
+    multi-clean e u a (inTrials {d = d} {best = best} {g = g} {t = t} v h r) = resumed-trials (DampedRow.isFinished (next d e)) d (next d e) best g t refl (next-clean d e u h a) r
     multi-clean e u a (atEnd r) = absurd (true≢false (unfold DampedRow.isFinished DampedRow.finishedAt DampedRow.phaseOf in u))
 
   -- ---- annealing
@@ -184,12 +184,12 @@ module _ (job : Job) (k : Kept job) where
   clean-by (Annealing config) e u g h = annealing-clean config e u g h
 
   began-clean : (t : Method) → CleanState n p m t (began t job)
-  unfolding began
+  unfolding began DampedRow.isFinished DampedRow.finishedAt DampedRow.phaseOf
   began-clean (Damped config) = inDamped (isFirst (k .based))
-  began-clean (MultiStart config) = inBase (isFirst (k .based))
+  began-clean (MultiStart config) = inBase refl (isFirst (k .based))
   began-clean (Annealing config) = isWalkFirst (k .based)
 
-abbrev CleanAnswer : Job → MeritEvaluation → Type 0
+abbrev pub CleanAnswer : Job → MeritEvaluation → Type 0
 CleanAnswer job e = CleanEvaluation (job .prescription .«surface_count») (numActive (job .variables)) (operandCountOf job) e
 
 -- a turn
@@ -207,3 +207,27 @@ pub unused-zero : (f : Surfaces → MeritEvaluation) (job : Job) → ReadBack jo
 unused-zero f job back k zeros j =
     reached f (λ (r : Row). (jobOfRow r ≡ job) × Clean job (stateOf r)) job (job-admitted job back, admitted-clean job k)
     (λ r u h. (job-advance r (f (pendingSurfaces r)) ∙ h .0, advance-clean job k r (f (pendingSurfaces r)) (h .0) u (zeros (pendingSurfaces r)) (h .1))) j .1
+
+-- ---- "A result holds .. zero past the counts"
+module _ (job : Job) (k : Kept job) where
+  abbrev CleanOutcome : OptimizationResult → Type 0
+  CleanOutcome r = CleanResult (job .prescription .«surface_count») (numActive (job .variables)) (operandCountOf job) r
+
+  polished-clean : (config : SimulatedAnnealingConfig) (i : Float) (d : DampedState) → CleanDamped (job .prescription .«surface_count») (numActive (job .variables)) (operandCountOf job) d → AnnealingRow.isFinished (AnnealingRow.atPolish i d) ≡ true →
+      CleanOutcome (AnnealingRow.resultOf (annealerOf job config) (AnnealingRow.atPolish i d))
+  unfolding AnnealingRow.isFinished AnnealingRow.finishedAt
+  polished-clean config i d h e = result-clean job k h (sym (ap (λ (f : AnnealingRow.Phase). AnnealingRow.finishedAt f (AnnealingRow.atPolish i d)) (in-polish job k config h)) ∙ e)
+
+  outcome-clean : (t : Method) {s : State} → CleanState (job .prescription .«surface_count») (numActive (job .variables)) (operandCountOf job) t s → finishedBy t s ≡ true → CleanOutcome (resultBy t job s)
+  unfolding finishedBy resultBy AnnealingRow.isFinished AnnealingRow.finishedAt AnnealingRow.phaseOf
+  outcome-clean (Damped config) (inDamped h) e = result-clean job k h e
+  outcome-clean (MultiStart config) (inBase v h) e = absurd (true≢false (sym e ∙ v))
+  outcome-clean (MultiStart config) (inTrials v h r) e = absurd (true≢false (sym e ∙ v))
+  outcome-clean (MultiStart config) (atEnd r) e = r
+  outcome-clean (Annealing config) (isWalkFirst h) e = absurd (true≢false (sym e))
+  outcome-clean (Annealing config) (isWalk h t) e = absurd (true≢false (sym e))
+  outcome-clean (Annealing config) (inPolish {i = i} {d = d} h) e = polished-clean config i d h e
+
+  pub result-unused : (r : Row) → jobOfRow r ≡ job → Clean job (stateOf r) → isFinished r ≡ true → CleanOutcome (resultOf r)
+  unfolding isFinished resultOf
+  result-unused r q h e = subst (λ (j : Job). finishedBy (j .method) (stateOf r) ≡ true → CleanOutcome (resultBy (j .method) j (stateOf r))) (sym q) (outcome-clean (job .method) h) e

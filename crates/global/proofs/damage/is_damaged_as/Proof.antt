@@ -1,10 +1,10 @@
 -- `global::damage::is_damaged_as` meets its contract: a job that is taken has its counts within their limits. Assumes nothing.
-use mathlib.Core.Path.{_≡_, sym, ap, _∙_}
-use mathlib.Core.Bool.{true, and-eq-true-iff}
+use mathlib.Core.Path.{sym, ap, _∙_}
+use mathlib.Core.Bool.{_&&_, and-eq-true-iff}
 use borrow.Author.Needs.{needs}
 use Rattle.jobs.specs.declared.types.Job.{Job}
 use Rattle.jobs.specs.Checks.{jobTaken}
-use Rattle.jobs.specs.Records.{jobOf, knownKinds}
+use Rattle.jobs.specs.Records.{knownKinds}
 use Rattle.global.specs.Limits.{taken-within}
 use Rattle.global.proofs.damage.is_damaged_as.Statement.{statement}
 use Rattle.global.proofs.damage.is_damaged_as.Tie as tie
@@ -18,9 +18,9 @@ damage-of-requires : tie.Need-damage-of-requires
 damage-of-requires c κs =
     let r = c .before .before .args .row in
     let job = c .before .before .pre in
-    let said = c .read-taken .ensures (r .kind) job in
-    let taken : c .read-taken .result ≡ true → jobTaken (jobOf (r .kind) (r .job)) ≡ true = λ e. and-eq-true-iff (jobTaken (jobOf (r .kind) (r .job))) (knownKinds (r .job)) .0 (sym said ∙ e) .0 in
-    (job, said, λ e. taken-within _ (ap jobTaken job ∙ taken e))
+    let known = knownKinds (r .job) in
+    let said = c .read-taken .ensures in
+    (job, said ∙ ap (λ (j : Job). jobTaken j && known) job, λ e. taken-within _ (and-eq-true-iff (jobTaken _) known .0 (sym said ∙ e) .0))
 
 returns : tie.Need-returns
 returns c = search needs

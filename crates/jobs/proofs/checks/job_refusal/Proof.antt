@@ -1,10 +1,8 @@
 -- `jobs::checks::job_refusal` meets its contract: behind each test none of the causes so far holds, and each arm answers by the law of its number. Assumes nothing.
 use mathlib.Core.Path.{sym}
-use lib.Dec.{lit<}
-use lib.ListN.{take}
 use borrow.Author.Needs.{needs}
 use borrow.Author.Tests.{not-false, eq-eqb, ne-eqb}
-use Rattle.lists.specs.Refusals.{NoneOf, none-more}
+use Rattle.lists.specs.Refusals.{NoneOf, before, none-next}
 use Rattle.jobs.specs.declared.types.Job.{Job}
 use Rattle.jobs.specs.Checks.{jobRefusals, countsTaken}
 use Rattle.jobs.specs.Counts.{Counts, counts}
@@ -16,47 +14,47 @@ use Rattle.jobs.proofs.checks.job_refusal.Tie as tie
 abbrev job-1 : tie.Else1 → Job
 job-1 c = c .before .before .args .job
 
-passed-1 : (c : tie.Else1) → NoneOf (take 1 (jobRefusals (job-1 c)))
-passed-1 c = none-more (jobRefusals (job-1 c)) 0 (lit< tt) tt (rw (c .before .counts-taken .ensures) at (c .if1 .left))
+passed-1 : (c : tie.Else1) → NoneOf (before 3 (jobRefusals (job-1 c)))
+passed-1 c = none-next (jobRefusals (job-1 c)) 1 tt (rw (c .before .counts-taken .ensures) at (c .if1 .left))
 
 abbrev job-2 : tie.Else2 → Job
 job-2 c = job-1 (c .before .before .before .before .before)
 
-passed-2 : (c : tie.Else2) → NoneOf (take 2 (jobRefusals (job-2 c)))
-passed-2 c = none-more (jobRefusals (job-2 c)) 1 (lit< tt) (passed-1 (c .before .before .before .before .before)) (rw (c .before .lens-taken .ensures) at (c .if2 .left))
+passed-2 : (c : tie.Else2) → NoneOf (before 4 (jobRefusals (job-2 c)))
+passed-2 c = none-next (jobRefusals (job-2 c)) 3 (passed-1 (c .before .before .before .before .before)) (rw (c .before .lens-taken .ensures) at (c .if2 .left))
 
 abbrev job-3 : tie.Else3 → Job
 job-3 c = job-2 (c .before .before)
 
-passed-3 : (c : tie.Else3) → NoneOf (take 3 (jobRefusals (job-3 c)))
-passed-3 c = none-more (jobRefusals (job-3 c)) 2 (lit< tt) (passed-2 (c .before .before)) (rw (c .before .variables-taken .ensures) at (c .if3 .left))
+passed-3 : (c : tie.Else3) → NoneOf (before 5 (jobRefusals (job-3 c)))
+passed-3 c = none-next (jobRefusals (job-3 c)) 4 (passed-2 (c .before .before)) (rw (c .before .variables-taken .ensures) at (c .if3 .left))
 
 abbrev job-4 : tie.Else4 → Job
 job-4 c = job-3 (c .before .before)
 
-passed-4 : (c : tie.Else4) → NoneOf (take 4 (jobRefusals (job-4 c)))
-passed-4 c = none-more (jobRefusals (job-4 c)) 3 (lit< tt) (passed-3 (c .before .before)) (rw (c .before .operands-taken .ensures) at (c .if4 .left))
+passed-4 : (c : tie.Else4) → NoneOf (before 6 (jobRefusals (job-4 c)))
+passed-4 c = none-next (jobRefusals (job-4 c)) 5 (passed-3 (c .before .before)) (rw (c .before .operands-taken .ensures) at (c .if4 .left))
 
 abbrev job-5 : tie.Else5 → Job
 job-5 c = job-4 (c .before .before)
 
-passed-5 : (c : tie.Else5) → NoneOf (take 5 (jobRefusals (job-5 c)))
-passed-5 c = none-more (jobRefusals (job-5 c)) 4 (lit< tt) (passed-4 (c .before .before)) (rw (c .before .settings-taken .ensures) at (c .if5 .left))
+passed-5 : (c : tie.Else5) → NoneOf (before 7 (jobRefusals (job-5 c)))
+passed-5 c = none-next (jobRefusals (job-5 c)) 6 (passed-4 (c .before .before)) (rw (c .before .settings-taken .ensures) at (c .if5 .left))
 
 abbrev job-6 : tie.Else6 → Job
 job-6 c = job-5 (c .before .before)
 
-passed-6 : (c : tie.Else6) → NoneOf (take 6 (jobRefusals (job-6 c)))
-passed-6 c = none-more (jobRefusals (job-6 c)) 5 (lit< tt) (passed-5 (c .before .before)) (rw (c .before .num-active .ensures) at (ne-eqb _ _ (c .if6 .left)))
+passed-6 : (c : tie.Else6) → NoneOf (before 8 (jobRefusals (job-6 c)))
+passed-6 c = none-next (jobRefusals (job-6 c)) 7 (passed-5 (c .before .before)) (rw (c .before .num-active .ensures) at (ne-eqb _ _ (c .if6 .left)))
 
 abbrev job-7 : tie.Else7 → Job
 job-7 c = job-6 (c .before .before)
 
-passed-7 : (c : tie.Else7) → NoneOf (take 7 (jobRefusals (job-7 c)))
-passed-7 c = none-more (jobRefusals (job-7 c)) 6 (lit< tt) (passed-6 (c .before .before)) (ne-eqb _ _ (c .if7 .left))
+passed-7 : (c : tie.Else7) → NoneOf (before 0 (jobRefusals (job-7 c)))
+passed-7 c = none-next (jobRefusals (job-7 c)) 8 (passed-6 (c .before .before)) (ne-eqb _ _ (c .if7 .left))
 
 counted : (c : tie.Else1) → Counts (job-1 c)
-counted c = counts (job-1 c) (not-false (countsTaken (job-1 c)) (passed-1 c .0))
+counted c = counts (job-1 c) (not-false (countsTaken (job-1 c)) (rw (c .before .counts-taken .ensures) at (c .if1 .left)))
 
 counts-taken-requires : tie.Need-counts-taken-requires
 counts-taken-requires c κs = search needs

@@ -10,7 +10,7 @@ use Rattle.runs.specs.declared.types.Row.{Row}
 use Rattle.runs.specs.Run.{Surfaces}
 use Rattle.runs.specs.Rows.{jobOfRow, pendingBy, pendingSurfaces, advanceBy, advance}
 use Rattle.runs.specs.State.{stateOf, rowOf}
-use Rattle.runs.specs.Turn.{evaluateOf}
+use Rattle.runs.specs.JobMerit.{evaluateOf}
 use Rattle.dls.proofs.Kept.{kept-on}
 use Rattle.global.specs.Parts.{inState}
 use Prim.Native.Nat.{suc, _+_}

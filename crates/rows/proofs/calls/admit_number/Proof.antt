@@ -1,14 +1,14 @@
 -- `rows::calls::admit_number` meets its contract. Assumes nothing.
 use mathlib.Core.Path.{_≡_, refl, sym, ap, _∙_, subst}
 use mathlib.Core.Bool.{Bool, true, false, not, cond}
-use mathlib.Core.List.{List, [], _∷_}
+use mathlib.Core.List.{List}
 use Prim.Native.Nat.{ℕ, _<_, _≤_}
 use native.Mathlib.Omega.{arith}
 use borrow.Author.Tests.{lt-ltb, le-ltb}
-use Rattle.lists.specs.Refusals.{Refusal, refusal, firstRefusal}
+use Rattle.lists.specs.Refusals.{Refusal, refusal, firstRefusal, behind}
 use Rattle.merit.proofs.Answers.{none}
 use Rattle.jobs.specs.declared.types.Job.{Job}
-use Rattle.jobs.specs.Checks.{countsWrong, lensRefused, variablesRefused, operandsRefused, settingsRefused, noActiveVariable, noOperand, jobRefusals}
+use Rattle.jobs.specs.Checks.{countsWrong, jobRefusals}
 use Rattle.jobs.specs.Filled.{filled}
 use Rattle.jobs.specs.RefusalLaws.{not-refused, refused-1}
 use Rattle.bench.specs.Refusals.{noPlace}
@@ -17,9 +17,9 @@ use borrow.Author.Needs.{needs}
 use Rattle.rows.proofs.calls.admit_number.Statement.{statement}
 use Rattle.rows.proofs.calls.admit_number.Tie as tie
 
--- the causes after the first, which the place stands between
+-- the causes behind the counts, which the place stands between
 abbrev later : Job → List Refusal
-later j = refusal 3 (lensRefused j) ∷ refusal 4 (variablesRefused j) ∷ refusal 5 (operandsRefused j) ∷ refusal 6 (settingsRefused j) ∷ refusal 7 (noActiveVariable j) ∷ refusal 8 (noOperand j) ∷ []
+later j = behind 1 (jobRefusals j)
 
 not-one : (b : Bool) (rest : ℕ) → (cond b 1 rest ≡ 1 → ⊥) → b ≡ false
 not-one true rest h = absurd (h refl)

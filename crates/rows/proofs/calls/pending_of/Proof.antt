@@ -6,7 +6,7 @@ use Rattle.jobs.specs.declared.types.Job.{Job}
 use Rattle.jobs.specs.Checks.{jobTaken}
 use Rattle.runs.specs.Rows.{jobOfRow, pendingBy, pendingSurfaces}
 use Rattle.runs.specs.State.{stateOf}
-use Rattle.runs.specs.Turn.{evaluateOf}
+use Rattle.runs.specs.JobMerit.{evaluateOf}
 use Rattle.runs.specs.Zeros.{zeroSurfaces}
 use Rattle.merit.specs.declared.types.MeritEvaluation.{MeritEvaluation}
 use Rattle.rows.specs.Steps.{TurnCounts}
