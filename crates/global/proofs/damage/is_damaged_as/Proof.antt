@@ -20,7 +20,8 @@ damage-of-requires c κs =
     let job = c .before .before .pre in
     let known = knownKinds (r .job) in
     let said = c .read-taken .ensures in
-    (job, said ∙ ap (λ (j : Job). jobTaken j && known) job, λ e. taken-within _ (and-eq-true-iff (jobTaken _) known .0 (sym said ∙ e) .0))
+    let j = c .before .before .args .job in
+    (job, said ∙ ap (λ (j : Job). jobTaken j && known) job, λ e. taken-within j (and-eq-true-iff (jobTaken j) known .0 (sym said ∙ e) .0))
 
 returns : tie.Need-returns
 returns c = search needs
