@@ -70,7 +70,7 @@ pub fn evaluate_flat(
     while n < many {
         let o = operands[n];
         let kind = o.operand_type;
-        let value = value_of(kind, slots, flat, count);
+        let value = value_of(kind, slots, flat, count, values);
         let d = difference_of(o, value);
         values[n] = value;
         known = root_of(known, o.weight);

@@ -158,9 +158,15 @@ fn of_surface(i: usize, count: usize, x: f64) -> f64
 }
 
 // An operand's value, given the traces of the slots, on surfaces laid flat.
-pub fn value_of(kind: OperandType, slots: [Paraxial; 4], flat: &[f64], count: usize) -> f64
+pub fn value_of(
+    kind: OperandType,
+    slots: [Paraxial; 4],
+    flat: &[f64],
+    count: usize,
+    earlier: [f64; 12],
+) -> f64
     requires { ⌜ 4 * count ≤ length (now flat) ⌝ }
-    ensures { λ r. ⌜ r ≡ valueOf (λ (w : ℕ). getD slots w Failed) (flatSurface (now (flat .entry))) count kind ⌝ }
+    ensures { λ r. ⌜ r ≡ valueOf earlier (λ (w : ℕ). getD slots w Failed) (flatSurface (now (flat .entry))) count kind ⌝ }
 {
     match kind {
         OperandType::EffectiveFocalLength(w) => counted_value(focal_length(slot_of(slots, w))),

@@ -3,6 +3,7 @@ use mathlib.Core.Path.{_≡_, refl, sym, ap, _∙_}
 use mathlib.Core.List.{List}
 use native.Mathlib.Omega.{arith}
 use Prim.Native.Nat.{ℕ, _<_, _-_}
+use lib.Ieee.{Float}
 use lib.ListN.{getD}
 use Rattle.floatlaws.specs.CallerLaws.{root-one}
 use Rattle.lists.specs.Tab.{getD-tab}
@@ -10,10 +11,13 @@ use Rattle.optics.specs.Properties.{paraxialOf}
 use Rattle.optics.specs.Types.{flatSurface, slotIndex}
 use Rattle.optics.specs.declared.types.Paraxial.{Paraxial}
 use Rattle.optics.specs.declared.types.Paraxial.the-variants.{Failed}
-use Rattle.merit.specs.Evaluation.{valueAt}
+use Rattle.merit.specs.Evaluation.{valuesAfter, valueAt}
+use Rattle.merit.specs.EvaluationLaws.{values-after}
+use Rattle.merit.specs.OperandTable.{operandAt}
+use Rattle.merit.specs.Operands.{valueOf}
 use Rattle.merit.specs.Steps.{RootKnown}
 use Rattle.merit.specs.ValueLaws.{value-same}
-use Rattle.merit.proofs.Evaluating.{Evaluated, residual-is, term-is, first, next, last}
+use Rattle.merit.proofs.Evaluating.{Evaluated, laid, residual-is, term-is, first, next, last}
 use borrow.Author.Needs.{needs}
 use Rattle.merit.proofs.evaluation.evaluate_flat.Statement.{statement}
 use Rattle.merit.proofs.evaluation.evaluate_flat.Tie as tie
@@ -75,8 +79,14 @@ loop-again c =
     let room : l .n < 12 = omega arith in
     let traced : (w : ℕ) → w < 4 → getD (slots .result) w Failed ≡ paraxialOf (flatSurface (a .flat .now)) (slotIndex (a .indices .now) w) (a .pupil) (a .count) =
     λ w h. ap (λ (s : List Paraxial). getD s w Failed) (slots .ensures) ∙ getD-tab _ 4 w Failed h in
-    let v : turn .before .before .value-of .result ≡ valueAt (flatSurface (a .flat .now)) (slotIndex (a .indices .now)) (a .pupil) (a .count) (a .function) (l .n) =
-    turn .before .before .value-of .ensures ∙ value-same _ _ _ _ _ (start .pre .3 (l .n) more) (traced _) in
+    let surface = flatSurface (a .flat .now) in
+    let index = slotIndex (a .indices .now) in
+    let earlier : l .values ≡ valuesAfter surface index (a .pupil) (a .count) (a .function) (l .n) =
+    laid surface index (a .pupil) (a .count) (a .function) _ _ (l .values) (l .residuals) (l .total) (l .n) (l .inv .0) refl room ∙ sym (values-after surface index (a .pupil) (a .count) (a .function) (l .n) (omega arith)) in
+    let v : turn .before .before .value-of .result ≡ valueAt surface index (a .pupil) (a .count) (a .function) (l .n) =
+    turn .before .before .value-of .ensures
+    ∙ ap (λ (z : List Float). valueOf z (λ (w : ℕ). getD (slots .result) w Failed) surface (a .count) (operandAt (a .function) (l .n) .«operand_type»)) earlier
+    ∙ value-same _ _ _ _ _ _ (start .pre .3 (l .n) more) (traced _) in
     let d = turn .before .difference-of .ensures in
     let root = turn .root-of .ensures in
     (next _ _ _ _ _ _ _ (l .values) (l .residuals) (l .total) (l .n) more _ _ _ room room v (residual-is _ v d (root .0)) (term-is _ v d) (l .inv .0), root .1)
