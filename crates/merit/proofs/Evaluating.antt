@@ -10,7 +10,7 @@ use Rattle.floats.specs.Constants.{zero64}
 use Rattle.floats.specs.Sqrt.{sqrtOf}
 use Rattle.lists.specs.Tab.{tab, tab-step, drop-replicate}
 use Rattle.optics.specs.declared.types.OpticalSurface.{OpticalSurface}
-use Rattle.merit.specs.Evaluation.{difference, residual, valueAt, residualAt, term, total, countedTotal, evaluationOf}
+use Rattle.merit.specs.Evaluation.{difference, residual, entries, valueAt, residualAt, term, total, countedTotal, evaluationOf}
 use Rattle.merit.specs.OperandTable.{operandAt}
 use Rattle.merit.specs.declared.types.MeritEvaluation.{MeritEvaluation}
 use Rattle.merit.specs.declared.types.MeritFunction.{MeritFunction}
@@ -53,6 +53,10 @@ module _ (surface : ℕ → OpticalSurface) (index : ℕ → ℕ → Float) (pup
       weighed = tab-step (residualAt surface index pupil count function) residuals₀ residuals n residual nan (e .weighed) r space;
       summed = rw (add-one, e .summed, t);
     }
+
+  -- the values so far, where all were zero at first
+  pub laid : (values residuals : List Float) (sum : Float) (n : ℕ) → Evaluated values residuals sum n → values₀ ≡ replicate 12 zero64 → n < 12 → values ≡ entries (valueAt surface index pupil count function) n
+  laid values residuals sum n e p h = e .worth ∙ ap (λ (l : List Float). tab (valueAt surface index pupil count function) n ++ l) (ap (drop n) p ∙ drop-replicate zero64 n 12)
 
   -- zero past the counts
   pub last : (values residuals : List Float) (sum : Float) → values₀ ≡ replicate 12 zero64 → residuals₀ ≡ replicate 12 zero64 → Evaluated values residuals sum (function .«operand_count») → (merit : Float) → merit ≡ countedTotal sum

@@ -1,4 +1,3 @@
 pub mod Answers
 pub mod Evaluating
 pub mod LentArray
-pub mod Slots

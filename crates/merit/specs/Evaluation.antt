@@ -2,7 +2,7 @@
 use Prim.Native.Nat.{ℕ, zero, suc, _-_}
 use mathlib.Core.Bool.{cond}
 use mathlib.Core.List.{List, _++_}
-use lib.ListN.{replicate}
+use lib.ListN.{replicate, set}
 use lib.Ieee.{Float, binary64, add, sub, mul, neg, ofBits}
 use Rattle.floats.specs.Basic.{clampOf, finiteOf}
 use Rattle.floats.specs.Constants.{zero64}
@@ -45,9 +45,14 @@ entries f n = tab f n ++ replicate (12 - n) zero64
 
 -- The evaluation of a lens: `surface` gives its surfaces, of which there are count, and `index w` the indices of slot w.
 module _ (surface : ℕ → OpticalSurface) (index : ℕ → ℕ → Float) (pupil : Float) (count : ℕ) (function : MeritFunction) where
+  -- the values after the first n operands, zero from there on
+  unfoldable pub valuesAfter : ℕ → List Float
+  valuesAfter zero = replicate 12 zero64
+  valuesAfter (suc n) = set (valuesAfter n) n (valueOf (valuesAfter n) (λ (w : ℕ). paraxialOf surface (index w) pupil count) surface count (operandAt function n .«operand_type»))
+
   -- value n, after those before it
   abbrev pub valueAt : ℕ → Float
-  valueAt n = valueOf (λ (w : ℕ). paraxialOf surface (index w) pupil count) surface count (operandAt function n .«operand_type»)
+  valueAt n = valueOf (valuesAfter n) (λ (w : ℕ). paraxialOf surface (index w) pupil count) surface count (operandAt function n .«operand_type»)
 
   abbrev pub residualAt : ℕ → Float
   residualAt n = residual (operandAt function n) (valueAt n)

@@ -1,6 +1,7 @@
 -- The value of an operand, "by the tests in `MeritOperand::evaluate`". Definitions only.
 use Prim.Native.Nat.{ℕ, zero, suc}
 use mathlib.Core.Bool.{Bool, cond, _&&_}
+use mathlib.Core.List.{List}
 use lib.Dec.{ltb}
 use lib.Ieee.{Float, binary64, add, sub, div, lt, ofBits}
 use Rattle.floats.specs.Basic.{magnitude, finiteOf}
@@ -80,14 +81,14 @@ abbrev pub ofSurface : (i count : ℕ) → Float → Float
 ofSurface i count x = cond (ltb i count) (counted x) penalty
 
 -- The value of an operand of a lens: `slot w` is what the trace of slot w gives, and `surface` gives its surfaces, of which there are count.
-unfoldable pub valueOf : (slot : ℕ → Paraxial) (surface : ℕ → OpticalSurface) (count : ℕ) → OperandType → Float
-valueOf slot surface count (EffectiveFocalLength w) = counted (focalLength (slot w))
-valueOf slot surface count (WorkingFNumber w) = counted (fNumber (slot w))
-valueOf slot surface count TotalTrack = counted (track surface count)
-valueOf slot surface count (BackFocalLength w) = counted (backFocus (slot w))
-valueOf slot surface count (ParaxialMagnification w) = counted (magnification (slot w))
-valueOf slot surface count (MinCenterThickness i limit) = ofSurface i count (shortfall (surface i .«thickness_mm») limit)
-valueOf slot surface count (MaxCenterThickness i limit) = ofSurface i count (excess (surface i .«thickness_mm») limit)
+unfoldable pub valueOf : (earlier : List Float) (slot : ℕ → Paraxial) (surface : ℕ → OpticalSurface) (count : ℕ) → OperandType → Float
+valueOf earlier slot surface count (EffectiveFocalLength w) = counted (focalLength (slot w))
+valueOf earlier slot surface count (WorkingFNumber w) = counted (fNumber (slot w))
+valueOf earlier slot surface count TotalTrack = counted (track surface count)
+valueOf earlier slot surface count (BackFocalLength w) = counted (backFocus (slot w))
+valueOf earlier slot surface count (ParaxialMagnification w) = counted (magnification (slot w))
+valueOf earlier slot surface count (MinCenterThickness i limit) = ofSurface i count (shortfall (surface i .«thickness_mm») limit)
+valueOf earlier slot surface count (MaxCenterThickness i limit) = ofSurface i count (excess (surface i .«thickness_mm») limit)
 
 -- the slot that an operand names; 4, which is none, for the others
 abbrev pub slotNamed : OperandType → ℕ

@@ -1,6 +1,7 @@
 -- Laws of operands' values for callers. Assumes nothing.
 use mathlib.Core.Path.{_≡_, refl, ap}
 use mathlib.Core.Bool.{Bool, true, false, cond}
+use mathlib.Core.List.{List}
 use Prim.Native.Nat.{ℕ, zero, suc, _≤_, _<_}
 use native.Mathlib.Nat.{le-refl}
 use native.Mathlib.Omega.{arith}
@@ -14,16 +15,16 @@ use Rattle.merit.specs.declared.types.OperandType.{OperandType}
 use Rattle.merit.specs.declared.types.OperandType.the-variants.{EffectiveFocalLength, WorkingFNumber, TotalTrack, BackFocalLength, ParaxialMagnification, MinCenterThickness, MaxCenterThickness}
 
 -- a value turns on the trace of the slot that its operand names, and on no other
-pub value-same : (slot slot′ : ℕ → Paraxial) (surface : ℕ → OpticalSurface) (count : ℕ) (kind : OperandType) → T (slotKnown kind)
-    → (slotNamed kind < 4 → slot (slotNamed kind) ≡ slot′ (slotNamed kind)) → valueOf slot surface count kind ≡ valueOf slot′ surface count kind
+pub value-same : (earlier : List Float) (slot slot′ : ℕ → Paraxial) (surface : ℕ → OpticalSurface) (count : ℕ) (kind : OperandType) → T (slotKnown kind)
+    → (slotNamed kind < 4 → slot (slotNamed kind) ≡ slot′ (slotNamed kind)) → valueOf earlier slot surface count kind ≡ valueOf earlier slot′ surface count kind
 unfolding valueOf
-value-same slot slot′ surface count (EffectiveFocalLength w) k h = ap (λ (p : Paraxial). counted (focalLength p)) (h (ltb→lt w 4 k))
-value-same slot slot′ surface count (WorkingFNumber w) k h = ap (λ (p : Paraxial). counted (fNumber p)) (h (ltb→lt w 4 k))
-value-same slot slot′ surface count TotalTrack k h = refl
-value-same slot slot′ surface count (BackFocalLength w) k h = ap (λ (p : Paraxial). counted (backFocus p)) (h (ltb→lt w 4 k))
-value-same slot slot′ surface count (ParaxialMagnification w) k h = ap (λ (p : Paraxial). counted (magnification p)) (h (ltb→lt w 4 k))
-value-same slot slot′ surface count (MinCenterThickness i limit) k h = refl
-value-same slot slot′ surface count (MaxCenterThickness i limit) k h = refl
+value-same earlier slot slot′ surface count (EffectiveFocalLength w) k h = ap (λ (p : Paraxial). counted (focalLength p)) (h (ltb→lt w 4 k))
+value-same earlier slot slot′ surface count (WorkingFNumber w) k h = ap (λ (p : Paraxial). counted (fNumber p)) (h (ltb→lt w 4 k))
+value-same earlier slot slot′ surface count TotalTrack k h = refl
+value-same earlier slot slot′ surface count (BackFocalLength w) k h = ap (λ (p : Paraxial). counted (backFocus p)) (h (ltb→lt w 4 k))
+value-same earlier slot slot′ surface count (ParaxialMagnification w) k h = ap (λ (p : Paraxial). counted (magnification p)) (h (ltb→lt w 4 k))
+value-same earlier slot slot′ surface count (MinCenterThickness i limit) k h = refl
+value-same earlier slot slot′ surface count (MaxCenterThickness i limit) k h = refl
 
 -- a value that needs a surface does not turn on what stands in the place of an absent one
 pub of-same : {i count : ℕ} {x y : Float} → (i < count → x ≡ y) → ofSurface i count x ≡ ofSurface i count y
@@ -34,13 +35,13 @@ of-same {i} {count} {x} {y} h = go (ltb i count) (ltb→lt i count)
     go false k = refl
 
 -- a value turns on the surfaces below the count alone
-module _ (slot : ℕ → Paraxial) (surface surface′ : ℕ → OpticalSurface) (count : ℕ) (same : (i : ℕ) → i < count → surface i ≡ surface′ i) where
+module _ (earlier : List Float) (slot : ℕ → Paraxial) (surface surface′ : ℕ → OpticalSurface) (count : ℕ) (same : (i : ℕ) → i < count → surface i ≡ surface′ i) where
   track-below : (n : ℕ) → n ≤ count → track surface n ≡ track surface′ n
   unfolding track
   track-below zero h = refl
   track-below (suc n) h = λ j. add binary64 (track-below n (omega arith) j) (same n h j .«thickness_mm»)
 
-  pub value-below : (kind : OperandType) → valueOf slot surface count kind ≡ valueOf slot surface′ count kind
+  pub value-below : (kind : OperandType) → valueOf earlier slot surface count kind ≡ valueOf earlier slot surface′ count kind
   unfolding valueOf
   value-below (EffectiveFocalLength w) = refl
   value-below (WorkingFNumber w) = refl

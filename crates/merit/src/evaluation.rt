@@ -1,50 +1,16 @@
 // The evaluation of a lens laid flat: every operand's value and residual, and the merit.
 ghost use mathlib.Core.Path.{_≡_};
-ghost use Prim.Native.Nat.{ℕ, _*_, _<_, _≤_};
-ghost use lib.ListN.{length, getD};
-ghost use Rattle.optics.specs.Properties.{paraxialOf};
+ghost use Prim.Native.Nat.{_*_, _≤_};
+ghost use lib.ListN.{length};
+ghost use Rattle.floats.specs.Sqrt.{sqrtOf};
 ghost use Rattle.optics.specs.Types.{flatSurface, slotIndex};
-ghost use Rattle.optics.specs.declared.types.Paraxial.the-variants.{Failed};
-ghost use Rattle.merit.specs.Evaluation.{difference, residual, term, countedTotal, evaluationOf};
-ghost use Rattle.merit.specs.Steps.{SlotsKnown, SlotsTraced};
-use crate::operands::slot_named;
+ghost use Rattle.merit.specs.Evaluation.{difference, countedTotal, evaluationOf};
+ghost use Rattle.merit.specs.Steps.{RootKnown, SlotsKnown};
 use crate::operands::value_of;
 use crate::types::MeritEvaluation;
 use crate::types::MeritFunction;
 use crate::types::MeritOperand;
-use optics::Paraxial;
-
-// The traces of the slots that operands name: one for each such slot, however many name it.
-fn slot_traces(
-    flat: &[f64],
-    indices: &[f64],
-    count: usize,
-    pupil: f64,
-    function: MeritFunction,
-) -> [Paraxial; 4]
-    requires { ⌜ (4 * count ≤ length (now flat)) × (4 * count ≤ length (now indices)) × (function .«operand_count» ≤ 12) ⌝ }
-    ensures { λ r. ⌜ SlotsTraced function (λ (w : ℕ). paraxialOf (flatSurface (now (flat .entry))) (slotIndex (now (indices .entry)) w) pupil count) r ⌝ }
-{
-    let operands = function.operands;
-    let many = function.operand_count;
-    let mut slots = [Paraxial::Failed; 4];
-    let mut seen = [false; 4];
-    let mut n = 0;
-    while n < many {
-        let o = operands[n];
-        let kind = o.operand_type;
-        let w = slot_named(kind);
-        if w < 4 {
-            if !seen[w] {
-                let p = optics::paraxial(flat, indices, w, count, pupil);
-                slots[w] = p;
-                seen[w] = true;
-            }
-        }
-        n += 1;
-    }
-    slots
-}
+use crate::types::WeightRoot;
 
 // A value's distance from the operand's target, at most a million either way.
 fn difference_of(o: MeritOperand, value: f64) -> f64
@@ -63,6 +29,22 @@ fn counted_total(total: f64) -> f64
     1e12
 }
 
+// The root of a weight, worked out only where it is not that of the weight before. The two zeros are equal, and their roots are not.
+fn root_of(known: WeightRoot, weight: f64) -> WeightRoot
+    requires { ⌜ RootKnown known ⌝ }
+    ensures { λ r. ⌜ (r .root ≡ sqrtOf weight) × RootKnown r ⌝ }
+{
+    if weight > 0.0 {
+        if weight == known.weight {
+            return known;
+        }
+    }
+    WeightRoot {
+        weight: weight,
+        root: floats::sqrt(weight),
+    }
+}
+
 // The evaluation of `count` surfaces laid flat, under the indices, the pupil and the operands of a job.
 pub fn evaluate_flat(
     flat: &[f64],
@@ -74,20 +56,25 @@ pub fn evaluate_flat(
     requires { ⌜ (4 * count ≤ length (now flat)) × (4 * count ≤ length (now indices)) × (function .«operand_count» ≤ 12) × SlotsKnown function ⌝ }
     ensures { λ r. ⌜ r ≡ evaluationOf (flatSurface (now (flat .entry))) (slotIndex (now (indices .entry))) pupil count function ⌝ }
 {
-    let slots = slot_traces(flat, indices, count, pupil, function);
+    let slots = optics::paraxial_slots(flat, indices, count, pupil);
     let operands = function.operands;
     let many = function.operand_count;
     let mut values = [0.0; 12];
     let mut residuals = [0.0; 12];
     let mut total = 0.0;
+    let mut known = WeightRoot {
+        weight: 1.0,
+        root: 1.0,
+    };
     let mut n = 0;
     while n < many {
         let o = operands[n];
         let kind = o.operand_type;
-        let value = value_of(kind, slots, flat, count);
+        let value = value_of(kind, slots, flat, count, values);
         let d = difference_of(o, value);
         values[n] = value;
-        residuals[n] = floats::sqrt(o.weight) * d;
+        known = root_of(known, o.weight);
+        residuals[n] = known.root * d;
         total = total + o.weight * d * d;
         n += 1;
     }

@@ -5,7 +5,7 @@ ghost use Prim.Native.Nat.{ℕ, _*_, _<_, _≤_};
 ghost use lib.ListN.{length, getD};
 ghost use Rattle.optics.specs.Types.{flatSurface};
 ghost use Rattle.optics.specs.declared.types.Paraxial.the-variants.{Failed, Traced};
-ghost use Rattle.merit.specs.Operands.{finiteOr, isFocalLength, isMagnified, focalLength, fNumber, backFocus, magnification, track, shortfall, excess, counted, ofSurface, slotNamed, valueOf};
+ghost use Rattle.merit.specs.Operands.{finiteOr, isFocalLength, isMagnified, focalLength, fNumber, backFocus, magnification, track, shortfall, excess, counted, ofSurface, valueOf};
 use crate::types::OperandType;
 use floats::abs;
 use floats::is_finite;
@@ -127,27 +127,6 @@ fn counted_value(x: f64) -> f64
     finite_or(100000.0, x)
 }
 
-// The slot that an operand names, or 4 where it names none.
-pub fn slot_named(kind: OperandType) -> usize
-    ensures { λ r. ⌜ r ≡ slotNamed kind ⌝ }
-{
-    match kind {
-        OperandType::EffectiveFocalLength(w) => w,
-        OperandType::WorkingFNumber(w) => w,
-        OperandType::TotalTrack => 4,
-        OperandType::BackFocalLength(w) => w,
-        OperandType::ParaxialMagnification(w) => w,
-        OperandType::MinCenterThickness {
-            surface_index: _,
-            min_thickness_mm: _,
-        } => 4,
-        OperandType::MaxCenterThickness {
-            surface_index: _,
-            max_thickness_mm: _,
-        } => 4,
-    }
-}
-
 fn slot_of(slots: [Paraxial; 4], w: usize) -> Paraxial
     ensures { λ r. ⌜ r ≡ getD slots w Failed ⌝ }
 {
@@ -179,9 +158,15 @@ fn of_surface(i: usize, count: usize, x: f64) -> f64
 }
 
 // An operand's value, given the traces of the slots, on surfaces laid flat.
-pub fn value_of(kind: OperandType, slots: [Paraxial; 4], flat: &[f64], count: usize) -> f64
+pub fn value_of(
+    kind: OperandType,
+    slots: [Paraxial; 4],
+    flat: &[f64],
+    count: usize,
+    earlier: [f64; 12],
+) -> f64
     requires { ⌜ 4 * count ≤ length (now flat) ⌝ }
-    ensures { λ r. ⌜ r ≡ valueOf (λ (w : ℕ). getD slots w Failed) (flatSurface (now (flat .entry))) count kind ⌝ }
+    ensures { λ r. ⌜ r ≡ valueOf earlier (λ (w : ℕ). getD slots w Failed) (flatSurface (now (flat .entry))) count kind ⌝ }
 {
     match kind {
         OperandType::EffectiveFocalLength(w) => counted_value(focal_length(slot_of(slots, w))),

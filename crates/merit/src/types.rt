@@ -36,6 +36,12 @@ pub struct MeritEvaluation {
     pub total_merit: f64,
 }
 
+// A weight and its root.
+pub struct WeightRoot {
+    pub weight: f64,
+    pub root: f64,
+}
+
 // An evaluation and the refusal's number, 0 where there is none. Where it is refused, the function that answers it says what the evaluation is.
 pub struct Evaluated {
     pub evaluation: MeritEvaluation,

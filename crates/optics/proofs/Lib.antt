@@ -1,1 +1,2 @@
+pub mod AllSlots
 pub mod Filled

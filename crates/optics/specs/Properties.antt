@@ -6,7 +6,8 @@ use lib.Ieee.{Float, inf, binary64, neg, sub, div, lt, eq, ofBits}
 use Rattle.floats.specs.Basic.{magnitude}
 use Rattle.floats.specs.Constants.{zero64}
 use Rattle.optics.specs.Curvature.{curvature}
-use Rattle.optics.specs.Trace.{rayAt}
+use Rattle.optics.specs.Trace.{start, rayOf, rayAt}
+use Rattle.optics.specs.declared.types.ArrivingRay.{ArrivingRay}
 use Rattle.optics.specs.declared.types.LastRays.{LastRays}
 use Rattle.optics.specs.declared.types.OpticalSurface.{OpticalSurface}
 use Rattle.optics.specs.declared.types.Paraxial.{Paraxial}
@@ -44,11 +45,16 @@ propertiesFrom height pupil last back =
 abbrev pub lastRays : (surface : ℕ → OpticalSurface) (index : ℕ → Float) (pupil : Float) → ℕ → LastRays
 lastRays surface index pupil count = record { before = rayAt surface index pupil (count - 2); last = rayAt surface index pupil (count - 1) }
 
--- for at least two surfaces; before a detector the back focus is that of the surface in front of it
+-- the records of two surfaces, out of a ray as it arrives at each and behind the second
+abbrev pub raysBetween : (first second third : ArrivingRay) → LastRays
+raysBetween first second third = record { before = rayOf (first .y) (second .u); last = rayOf (second .y) (third .u) }
+
+-- for at least two surfaces, out of the rays at the last two; before a detector the back focus is that of the surface in front of it
+abbrev pub propertiesBehind : LastRays → (surface : ℕ → OpticalSurface) (index : ℕ → Float) (pupil : Float) → ℕ → ParaxialProperties
+propertiesBehind rays surface index pupil count = propertiesFrom (start pupil .y) pupil (rays .last) (cond (endsInDetector surface index count) (rays .before) (rays .last))
+
 abbrev pub propertiesOf : (surface : ℕ → OpticalSurface) (index : ℕ → Float) (pupil : Float) → ℕ → ParaxialProperties
-propertiesOf surface index pupil count =
-    let rays = lastRays surface index pupil count in
-    propertiesFrom (rayAt surface index pupil 0 .y) pupil (rays .last) (cond (endsInDetector surface index count) (rays .before) (rays .last))
+propertiesOf surface index pupil count = propertiesBehind (lastRays surface index pupil count) surface index pupil count
 
 -- "Fewer than two surfaces is a failed trace."
 unfoldable pub paraxialOf : (surface : ℕ → OpticalSurface) (index : ℕ → Float) (pupil : Float) → ℕ → Paraxial

@@ -30,9 +30,13 @@ heightAfter height thickness slope′ = add binary64 height (mul binary64 thickn
 abbrev pub slopeBehind : (radius n′ : Float) → ArrivingRay → Float
 slopeBehind radius n′ a = slopeAfter (a .n) n′ (a .u) (a .y) (power (a .n) n′ (curvature radius))
 
+-- the ray behind a surface of curvature c, as it arrives at the next
+abbrev pub rayBehind : (c thickness n′ : Float) → ArrivingRay → ArrivingRay
+rayBehind c thickness n′ a = let slope′ = slopeAfter (a .n) n′ (a .u) (a .y) (power (a .n) n′ c) in record { y = heightAfter (a .y) thickness slope′; u = slope′; n = n′ }
+
 -- from one surface to the next
 abbrev pub onward : OpticalSurface → (n′ : Float) → ArrivingRay → ArrivingRay
-onward s n′ a = let slope′ = slopeBehind (s .«radius_mm») n′ a in record { y = heightAfter (a .y) (s .«thickness_mm») slope′; u = slope′; n = n′ }
+onward s n′ a = rayBehind (curvature (s .«radius_mm»)) (s .«thickness_mm») n′ a
 
 -- "The trace starts at height half the pupil diameter, slope 0, index 1"
 abbrev pub start : Float → ArrivingRay

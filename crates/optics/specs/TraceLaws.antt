@@ -12,7 +12,7 @@ use borrow.Author.Tests.{ltb-false}
 use Rattle.floats.specs.Constants.{zero64}
 use Rattle.lists.specs.Tab.{tab, length-tab, getD-tab, tab-same}
 use Rattle.optics.specs.Curvature.{curvature}
-use Rattle.optics.specs.Trace.{arriving, onward, slopeBehind, rayAt, rayOf, raysOf, traceOf}
+use Rattle.optics.specs.Trace.{start, arriving, onward, slopeBehind, rayAt, rayOf, raysOf, traceOf}
 use Rattle.optics.specs.Properties.{negligible, endsInDetector, propertiesFrom, propertiesOf, paraxialOf}
 use Rattle.optics.specs.declared.types.ArrivingRay.{ArrivingRay}
 use Rattle.optics.specs.declared.types.OpticalSurface.{OpticalSurface}
@@ -53,11 +53,10 @@ module _ (surface surface′ : ℕ → OpticalSurface) (index index′ : ℕ →
   properties-same h =
       let p : count - 2 < count = omega arith in
       let q : count - 1 < count = omega arith in
-      let z : 0 < count = omega arith in
       let detector : endsInDetector surface index count ≡ endsInDetector surface′ index′ count =
       λ i. negligible (sub binary64 (alike (count - 2) p i) (alike (count - 1) q i)) && negligible (curvature (same (count - 1) q i .«radius_mm»)) && eq (same (count - 1) q i .«thickness_mm») zero64
       in
-      λ i. propertiesFrom (ray-same 0 z i .y) pupil (ray-same (count - 1) q i) (cond (detector i) (ray-same (count - 2) p i) (ray-same (count - 1) q i))
+      λ i. propertiesFrom (start pupil .y) pupil (ray-same (count - 1) q i) (cond (detector i) (ray-same (count - 2) p i) (ray-same (count - 1) q i))
 
   pub paraxial-same : paraxialOf surface index pupil count ≡ paraxialOf surface′ index′ pupil count
   unfolding paraxialOf

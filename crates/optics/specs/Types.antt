@@ -5,6 +5,8 @@ use mathlib.Core.List.{List}
 use lib.ListN.{getD}
 use lib.Ieee.{Float, nan}
 use Rattle.floats.specs.Constants.{zero64}
+use Rattle.optics.specs.declared.types.ArrivingRay.{ArrivingRay}
+use Rattle.optics.specs.declared.types.LastRays.{LastRays}
 use Rattle.optics.specs.declared.types.OpticalSurface.{OpticalSurface}
 use Rattle.optics.specs.declared.types.ParaxialRay.{ParaxialRay}
 
@@ -13,6 +15,12 @@ noSurface = record { «radius_mm» = nan; «conic_constant» = nan; «thickness_
 
 abbrev pub noRay : ParaxialRay
 noRay = record { y = nan; u = nan }
+
+abbrev pub noArriving : ArrivingRay
+noArriving = record { y = nan; u = nan; n = nan }
+
+abbrev pub noLast : LastRays
+noLast = record { before = noRay; last = noRay }
 
 -- "unused entries and empty places are zero"
 abbrev pub zeroSurface : OpticalSurface

@@ -4,6 +4,7 @@ mod flat;
 mod kept;
 mod properties;
 mod rays;
+mod slots;
 mod trace;
 mod types;
 
@@ -14,6 +15,7 @@ pub use flat::lay_flat;
 pub use kept::kept_prescription;
 pub use kept::lens_counts_taken;
 pub use properties::paraxial;
+pub use properties::paraxial_slots;
 pub use rays::fill_rays;
 pub use trace::curvature_of;
 pub use trace::trace_heights;

@@ -1,41 +1,16 @@
-// Focal length, back focus and f-number of one wavelength slot, out of the rays at the last two surfaces.
+// Focal length, back focus and f-number of a wavelength slot, out of the rays at the last two surfaces.
 ghost use mathlib.Core.Path.{_≡_};
-ghost use Prim.Native.Nat.{_*_, _<_, _≤_};
+ghost use Prim.Native.Nat.{ℕ, _*_, _<_, _≤_};
 ghost use lib.ListN.{length};
+ghost use Rattle.lists.specs.Tab.{tab};
 ghost use Rattle.optics.specs.Types.{flatSurface, slotIndex};
-ghost use Rattle.optics.specs.Properties.{negligible, endsInDetector, focusOf, propertiesFrom, lastRays, paraxialOf};
+ghost use Rattle.optics.specs.Properties.{negligible, endsInDetector, focusOf, propertiesFrom, propertiesBehind, paraxialOf};
+use crate::slots::last_rays;
 use crate::trace::curvature_of;
-use crate::trace::next_ray;
-use crate::trace::start_of;
 use crate::types::LastRays;
 use crate::types::Paraxial;
 use crate::types::ParaxialProperties;
 use crate::types::ParaxialRay;
-
-// One pass over the surfaces, without a row: only the last two rays are kept.
-fn last_rays(flat: &[f64], indices: &[f64], slot: usize, count: usize, pupil: f64) -> LastRays
-    requires { ⌜ (slot < 4) × (2 ≤ count) × (4 * count ≤ length (now flat)) × (4 * count ≤ length (now indices)) ⌝ }
-    ensures { λ r. ⌜ r ≡ lastRays (flatSurface (now (flat .entry))) (slotIndex (now (indices .entry)) slot) pupil count ⌝ }
-{
-    let mut ray = start_of(pupil);
-    let mut last = ParaxialRay { y: 0.0, u: 0.0 };
-    let mut before = last;
-    let mut k = 0;
-    while k < count {
-        let next = next_ray(ray, flat, indices, slot, k);
-        before = last;
-        last = ParaxialRay {
-            y: ray.y,
-            u: next.u,
-        };
-        ray = next;
-        k += 1;
-    }
-    LastRays {
-        before: before,
-        last: last,
-    }
-}
 
 fn is_negligible(x: f64) -> bool
     ensures { λ r. ⌜ r ≡ negligible x ⌝ }
@@ -93,20 +68,51 @@ fn properties_from(
     }
 }
 
-// The properties of `count` surfaces laid flat, in one slot.
-pub fn paraxial(flat: &[f64], indices: &[f64], slot: usize, count: usize, pupil: f64) -> Paraxial
-    requires { ⌜ (slot < 4) × (4 * count ≤ length (now flat)) × (4 * count ≤ length (now indices)) ⌝ }
-    ensures { λ r. ⌜ r ≡ paraxialOf (flatSurface (now (flat .entry))) (slotIndex (now (indices .entry)) slot) pupil count ⌝ }
+// The properties of one slot, out of its rays at the last two surfaces.
+fn slot_properties(
+    rays: LastRays,
+    flat: &[f64],
+    indices: &[f64],
+    slot: usize,
+    count: usize,
+    pupil: f64,
+) -> ParaxialProperties
+    requires { ⌜ (slot < 4) × (2 ≤ count) × (4 * count ≤ length (now flat)) × (4 * count ≤ length (now indices)) ⌝ }
+    ensures { λ r. ⌜ r ≡ propertiesBehind rays (flatSurface (now (flat .entry))) (slotIndex (now (indices .entry)) slot) pupil count ⌝ }
 {
-    if count < 2 {
-        return Paraxial::Failed;
-    }
-    let rays = last_rays(flat, indices, slot, count, pupil);
     let last = rays.last;
     let before = rays.before;
     let height = pupil * 0.5;
     if ends_in_detector(flat, indices, slot, count) {
-        return Paraxial::Traced(properties_from(height, pupil, last, before));
+        return properties_from(height, pupil, last, before);
     }
-    Paraxial::Traced(properties_from(height, pupil, last, last))
+    properties_from(height, pupil, last, last)
+}
+
+// The properties of `count` surfaces laid flat, in every slot.
+pub fn paraxial_slots(flat: &[f64], indices: &[f64], count: usize, pupil: f64) -> [Paraxial; 4]
+    requires { ⌜ (4 * count ≤ length (now flat)) × (4 * count ≤ length (now indices)) ⌝ }
+    ensures { λ r. ⌜ r ≡ tab (λ (w : ℕ). paraxialOf (flatSurface (now (flat .entry))) (slotIndex (now (indices .entry)) w) pupil count) 4 ⌝ }
+{
+    let mut slots = [Paraxial::Failed; 4];
+    if count < 2 {
+        return slots;
+    }
+    let last = last_rays(flat, indices, count, pupil);
+    let mut w: usize = 0;
+    while w < 4 {
+        let properties = slot_properties(last[w], flat, indices, w, count, pupil);
+        slots[w] = Paraxial::Traced(properties);
+        w += 1;
+    }
+    slots
+}
+
+// The same in one slot.
+pub fn paraxial(flat: &[f64], indices: &[f64], slot: usize, count: usize, pupil: f64) -> Paraxial
+    requires { ⌜ (slot < 4) × (4 * count ≤ length (now flat)) × (4 * count ≤ length (now indices)) ⌝ }
+    ensures { λ r. ⌜ r ≡ paraxialOf (flatSurface (now (flat .entry))) (slotIndex (now (indices .entry)) slot) pupil count ⌝ }
+{
+    let slots = paraxial_slots(flat, indices, count, pupil);
+    slots[slot]
 }

@@ -6,7 +6,7 @@ ghost use lib.ListN.{length, drop};
 ghost use Rattle.lists.specs.Tab.{tab};
 ghost use Rattle.optics.specs.Types.{flatSurface, slotIndex};
 ghost use Rattle.optics.specs.Curvature.{curvature};
-ghost use Rattle.optics.specs.Trace.{start, slopeBehind, onward, rayAt};
+ghost use Rattle.optics.specs.Trace.{start, rayBehind, onward, rayAt};
 use crate::types::ArrivingRay;
 
 // What stands in for `ConicSurface::from_radius`.
@@ -34,32 +34,30 @@ pub fn start_of(pupil: f64) -> ArrivingRay
     }
 }
 
-// Refraction at a surface with `index` behind it.
-fn slope_behind(ray: ArrivingRay, radius: f64, index: f64) -> f64
-    ensures { λ r. ⌜ r ≡ slopeBehind radius index ray ⌝ }
+// Refraction at a surface with `index` behind it, then transfer to the next.
+pub fn ray_behind(ray: ArrivingRay, curvature: f64, thickness: f64, index: f64) -> ArrivingRay
+    ensures { λ r. ⌜ r ≡ rayBehind curvature thickness index ray ⌝ }
 {
-    let power = (index - ray.n) * curvature_of(radius);
-    (ray.n * ray.u - ray.y * power) / index
-}
-
-// Refraction at surface k, then transfer to the next.
-pub fn next_ray(
-    ray: ArrivingRay,
-    flat: &[f64],
-    indices: &[f64],
-    slot: usize,
-    k: usize,
-) -> ArrivingRay
-    requires { ⌜ (4 * k + 4 ≤ length (now flat)) × (k * 4 + slot < length (now indices)) ⌝ }
-    ensures { λ r. ⌜ r ≡ onward (flatSurface (now (flat .entry)) k) (slotIndex (now (indices .entry)) slot k) ray ⌝ }
-{
-    let index = indices[k * 4 + slot];
-    let u = slope_behind(ray, flat[4 * k], index);
+    let power = (index - ray.n) * curvature;
+    let u = (ray.n * ray.u - ray.y * power) / index;
     ArrivingRay {
-        y: ray.y + flat[4 * k + 2] * u,
+        y: ray.y + thickness * u,
         u: u,
         n: index,
     }
+}
+
+// The ray from surface k to the next, in one slot.
+fn next_ray(ray: ArrivingRay, flat: &[f64], indices: &[f64], slot: usize, k: usize) -> ArrivingRay
+    requires { ⌜ (4 * k + 4 ≤ length (now flat)) × (k * 4 + slot < length (now indices)) ⌝ }
+    ensures { λ r. ⌜ r ≡ onward (flatSurface (now (flat .entry)) k) (slotIndex (now (indices .entry)) slot k) ray ⌝ }
+{
+    ray_behind(
+        ray,
+        curvature_of(flat[4 * k]),
+        flat[4 * k + 2],
+        indices[k * 4 + slot],
+    )
 }
 
 // Heights and slopes of the first `count` surfaces, as two slices; what stands past them stays.

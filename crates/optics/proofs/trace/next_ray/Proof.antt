@@ -3,59 +3,63 @@ use borrow.Author.Needs.{needs}
 use Rattle.optics.proofs.trace.next_ray.Statement.{statement}
 use Rattle.optics.proofs.trace.next_ray.Tie as tie
 
-mul-index : tie.Need-mul-index
-mul-index c = search needs
+mul-curvature-of : tie.Need-mul-curvature-of
+mul-curvature-of c = search needs
 
-add-index : tie.Need-add-index
-add-index c = search needs
+mul-curvature-of-2 : tie.Need-mul-curvature-of-2
+mul-curvature-of-2 c = search needs
 
-mul-index-2 : tie.Need-mul-index-2
-mul-index-2 c = search needs
+shared-slice-read-curvature-of : tie.Need-shared-slice-read-curvature-of
+shared-slice-read-curvature-of c = search needs
 
-shared-slice-read-index : tie.Need-shared-slice-read-index
-shared-slice-read-index c = search needs
+curvature-of-requires : tie.Need-curvature-of-requires
+curvature-of-requires c κs = search needs
 
-mul-slope-behind : tie.Need-mul-slope-behind
-mul-slope-behind c = search needs
+mul-ray-behind : tie.Need-mul-ray-behind
+mul-ray-behind c = search needs
 
-mul-slope-behind-2 : tie.Need-mul-slope-behind-2
-mul-slope-behind-2 c = search needs
+add-ray-behind : tie.Need-add-ray-behind
+add-ray-behind c = search needs
 
-shared-slice-read-slope-behind : tie.Need-shared-slice-read-slope-behind
-shared-slice-read-slope-behind c = search needs
+mul-ray-behind-2 : tie.Need-mul-ray-behind-2
+mul-ray-behind-2 c = search needs
 
-slope-behind-requires : tie.Need-slope-behind-requires
-slope-behind-requires c κs = search needs
+shared-slice-read-ray-behind : tie.Need-shared-slice-read-ray-behind
+shared-slice-read-ray-behind c = search needs
 
-mul-t10 : tie.Need-mul-t10
-mul-t10 c = search needs
+mul-ray-behind-3 : tie.Need-mul-ray-behind-3
+mul-ray-behind-3 c = search needs
 
-add-t8 : tie.Need-add-t8
-add-t8 c = search needs
+add-ray-behind-2 : tie.Need-add-ray-behind-2
+add-ray-behind-2 c = search needs
 
-mul-t9 : tie.Need-mul-t9
-mul-t9 c = search needs
+mul-ray-behind-4 : tie.Need-mul-ray-behind-4
+mul-ray-behind-4 c = search needs
 
-shared-slice-read-t12 : tie.Need-shared-slice-read-t12
-shared-slice-read-t12 c = search needs
+shared-slice-read-ray-behind-2 : tie.Need-shared-slice-read-ray-behind-2
+shared-slice-read-ray-behind-2 c = search needs
+
+ray-behind-requires : tie.Need-ray-behind-requires
+ray-behind-requires c κs = search needs
 
 returns : tie.Need-returns
-returns c = rw (c .before .before .slope-behind .ensures)
+returns c = rw (c .before .before .before .curvature-of .ensures) at (c .ray-behind .ensures)
 
 pub next-ray-spec : {M : Type 1} → statement M
 next-ray-spec =
     tie.close
     (tie.spec
-    mul-index
-    add-index
-    mul-index-2
-    shared-slice-read-index
-    mul-slope-behind
-    mul-slope-behind-2
-    shared-slice-read-slope-behind
-    slope-behind-requires
-    mul-t10
-    add-t8
-    mul-t9
-    shared-slice-read-t12
+    mul-curvature-of
+    mul-curvature-of-2
+    shared-slice-read-curvature-of
+    curvature-of-requires
+    mul-ray-behind
+    add-ray-behind
+    mul-ray-behind-2
+    shared-slice-read-ray-behind
+    mul-ray-behind-3
+    add-ray-behind-2
+    mul-ray-behind-4
+    shared-slice-read-ray-behind-2
+    ray-behind-requires
     returns)
