@@ -13,3 +13,6 @@ pub mod SameLaws
 pub mod RecordLaws
 pub mod RefusalLaws
 pub mod CheckLaws
+-- A request that is taken, of each kind.
+pub mod Sample
+pub mod SampleTaken
