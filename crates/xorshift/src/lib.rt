@@ -45,7 +45,7 @@ impl Rng64 {
         }
     }
 
-    pub fn next_u64(&mut self) -> u64
+    pub(crate) fn next_u64(&mut self) -> u64
         ensures { λ r. ⌜ (r ≡ stepOf (now (self .entry) .state)) × (now (self .exit) ≡ advanced (now (self .entry))) ⌝ }
     {
         let x = step(self.state);
@@ -53,7 +53,7 @@ impl Rng64 {
         x
     }
 
-    pub fn next_f64(&mut self) -> f64
+    pub(crate) fn next_f64(&mut self) -> f64
         ensures { λ r. ⌜ (r ≡ unitOf (stepOf (now (self .entry) .state))) × (now (self .exit) ≡ advanced (now (self .entry))) ⌝ }
     {
         let x = self.next_u64();
