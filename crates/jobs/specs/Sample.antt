@@ -40,8 +40,8 @@ n60 = ofBits binary64 0x404e_0000_0000_0000
 abbrev pub n64 : Float
 n64 = ofBits binary64 0x4050_0000_0000_0000
 
--- What stands past the counts: the surfaces behind the last, its index in slots 1 to 3, all indices after those, and the variables and operands that are
--- not used. Whatever it is, a value of the types has as many of each as its arrays hold.
+-- What stands past the counts: the surfaces behind the last; the first surface's index in slots 1 to 3, and all indices behind the last one used; variables
+-- and operands behind the last. Whatever it is: a value of the types has as many of each as its arrays hold.
 pub record Unused : Type 0 where
   pub surfaces : List OpticalSurface
   pub index1 : Float
