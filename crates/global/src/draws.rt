@@ -25,8 +25,9 @@ pub fn random_params(variables: VariableSet, generator: u64) -> Drawn
     while i < variables.variable_count {
         let d = variables.variables[i];
         if d.enabled {
-            rng = xorshift::step(rng);
-            x[q] = xorshift::uniform_of(rng, d.min_value, d.max_value);
+            let draw = xorshift::drawn(rng);
+            rng = draw.state;
+            x[q] = xorshift::uniform(draw.unit, d.min_value, d.max_value);
             q += 1;
         }
         i += 1;
@@ -49,8 +50,9 @@ pub fn trial_params(variables: VariableSet, params: [f64; 8], generator: u64) ->
     while i < variables.variable_count {
         let d = variables.variables[i];
         if d.enabled {
-            rng = xorshift::step(rng);
-            let perturb = (xorshift::unit_of(rng) - 0.5) * 0.1 * (d.max_value - d.min_value);
+            let draw = xorshift::drawn(rng);
+            rng = draw.state;
+            let perturb = (draw.unit - 0.5) * 0.1 * (d.max_value - d.min_value);
             x[q] = floats::clamp(params[q] + perturb, d.min_value, d.max_value);
             q += 1;
         }

@@ -103,10 +103,10 @@ fn judged(variables: VariableSet, trial: [f64; 8], merit: f64, w: Walk) -> Walk
     if delta_merit <= 0.0 {
         return accepted(variables, trial, merit, w);
     }
-    let rng = xorshift::step(w.rng);
+    let draw = xorshift::drawn(w.rng);
     let mut drawn = w;
-    drawn.rng = rng;
-    if xorshift::unit_of(rng) < prob(delta_merit, w.temp) {
+    drawn.rng = draw.state;
+    if draw.unit < prob(delta_merit, w.temp) {
         return accepted(variables, trial, merit, drawn);
     }
     drawn

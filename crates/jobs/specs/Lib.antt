@@ -16,3 +16,6 @@ pub mod RefusalLaws
 pub mod Passed
 pub mod UnusedLaws
 pub mod CheckLaws
+-- A request that is taken, of each kind.
+pub mod Sample
+pub mod SampleTaken

@@ -84,8 +84,8 @@ fn draw(line: &[u8], at: usize) -> Reply {
     if draws == 0 {
         return Reply::Draw(0, 0.0);
     }
-    let x = xorshift::state_after(seed, draws);
-    Reply::Draw(x, xorshift::unit_of(x))
+    let draw = xorshift::drawn(xorshift::state_after(seed, draws - 1));
+    Reply::Draw(draw.state, draw.unit)
 }
 
 // UNIFORM seed a b: the first draw
@@ -99,8 +99,8 @@ fn uniform(line: &[u8], at: usize) -> Reply {
     let FloatField::Is(b, _) = fields::last_float(line, at) else {
         return Reply::Unknown;
     };
-    let x = xorshift::state_after(seed, 1);
-    Reply::One(xorshift::uniform_of(x, a, b))
+    let draw = xorshift::drawn(xorshift::state_after(seed, 0));
+    Reply::One(xorshift::uniform(draw.unit, a, b))
 }
 
 // CLAMP x lo hi: Rust's clamp, and that of applied values. Rust's has no answer at crossed bounds.

@@ -6,7 +6,7 @@ use mathlib.Core.List.{List}
 use lib.Ieee.{Float, lt}
 use Rattle.floats.specs.Constants.{zero64}
 use Rattle.xorshift.specs.Xorshift.{seeded, stepTimes}
-use Rattle.xorshift.specs.Draws.{uniformOf}
+use Rattle.xorshift.specs.Draws.{unitOf, uniformOf}
 use Rattle.variables.specs.declared.types.VariableSet.{VariableSet}
 use Rattle.variables.specs.Active.{numActive, activeAt}
 use Rattle.variables.specs.Values.{eight, applied}
@@ -36,7 +36,7 @@ merged (some best) result = cond (isLower result best) result best
 
 -- one draw `rng.uniform(var.min_value, var.max_value)` for each enabled variable, in order
 unfoldable pub randomParams : VariableSet → (rng : ℕ) → List Float
-randomParams v rng = eight v (λ (q : ℕ). uniformOf (stepTimes (suc q) rng) (activeAt v q .«min_value») (activeAt v q .«max_value»)) (λ (q : ℕ). zero64)
+randomParams v rng = eight v (λ (q : ℕ). uniformOf (unitOf (stepTimes (suc q) rng)) (activeAt v q .«min_value») (activeAt v q .«max_value»)) (λ (q : ℕ). zero64)
 
 -- the generator after those draws
 unfoldable pub afterDraws : VariableSet → (rng : ℕ) → ℕ

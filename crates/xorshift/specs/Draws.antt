@@ -4,8 +4,8 @@ use mathlib.Core.Bool.{false}
 use lib.IntN.{pos, negsuc}
 use lib.Ieee.{Float, fin, binary64, add, sub, mul, ofInt}
 use Rattle.xorshift.specs.declared.Rng64.{Rng64}
-use Rattle.xorshift.specs.declared.Draws.{Draws}
-use Rattle.xorshift.specs.Xorshift.{stepOf, seeded, stepTimes, shiftedRight}
+use Rattle.xorshift.specs.declared.Draw.{Draw}
+use Rattle.xorshift.specs.Xorshift.{stepOf, shiftedRight}
 
 -- "each draw advances the generator in its owner's hands"
 abbrev pub advanced : Rng64 → Rng64
@@ -20,13 +20,9 @@ unfoldable pub unitOf : ℕ → Float
 unitOf x = mul binary64 (ofInt binary64 (pos (shiftedRight x 11))) twoToMinus53
 
 -- "`uniform` is a + (b - a) × draw", each operation rounded once
-unfoldable pub uniformOf : ℕ → Float → Float → Float
-uniformOf x a b = add binary64 a (mul binary64 (sub binary64 b a) (unitOf x))
+unfoldable pub uniformOf : (draw a b : Float) → Float
+uniformOf draw a b = add binary64 a (mul binary64 (sub binary64 b a) draw)
 
--- the first three draws of a seed, one of each kind
-abbrev pub firstDraws : ℕ → Float → Float → Draws
-firstDraws seed a b = record {
-  word = stepTimes 1 (seeded seed);
-  unit = unitOf (stepTimes 2 (seeded seed));
-  between = uniformOf (stepTimes 3 (seeded seed)) a b;
-}
+-- a draw of the generator with this state: the state after it, and the unit draw
+abbrev pub drawOf : (state : ℕ) → Draw
+drawOf state = record { state = stepOf state; unit = unitOf (stepOf state) }

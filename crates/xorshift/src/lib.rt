@@ -1,15 +1,15 @@
-// Marsaglia's xorshift generator of 2003, 13/7/17: on plain numbers first, then lent by `&mut`.
+// Marsaglia's xorshift generator of 2003, 13/7/17: the step on plain numbers, the generator lent by `&mut`, and a draw for those who keep its state.
 ghost use mathlib.Core.Path.{_≡_};
 ghost use Prim.Native.Nat.{ℕ};
 ghost use Rattle.xorshift.specs.Xorshift.{stepOf, seeded, stepTimes};
-ghost use Rattle.xorshift.specs.Draws.{advanced, unitOf, uniformOf, firstDraws};
+ghost use Rattle.xorshift.specs.Draws.{advanced, unitOf, uniformOf, drawOf};
 
 pub struct Rng64 {
     pub state: u64,
 }
 
-// One draw: the new state, which is also the word drawn. The remainders, by 2^51 and 2^47, drop the bits that a shift to the left would push past the end.
-pub fn step(x: u64) -> u64
+// The new state, which is also the word drawn. The remainders, by 2^51 and 2^47, drop the bits that a shift to the left would push past the end.
+fn step(x: u64) -> u64
     ensures { λ r. ⌜ r ≡ stepOf x ⌝ }
 {
     let a = x ^ ((x % 0x8_0000_0000_0000) << 13);
@@ -18,18 +18,18 @@ pub fn step(x: u64) -> u64
 }
 
 // The unit draw of a word, from 0 to below 1: its top 53 bits times 2^-53.
-pub fn unit_of(x: u64) -> f64
+fn unit_of(x: u64) -> f64
     ensures { λ r. ⌜ r ≡ unitOf x ⌝ }
 {
     let top = x >> 11;
     (top as f64) * 1.1102230246251565e-16
 }
 
-// The draw of a word between a and b.
-pub fn uniform_of(x: u64, a: f64, b: f64) -> f64
-    ensures { λ r. ⌜ r ≡ uniformOf x a b ⌝ }
+// A unit draw, taken between a and b.
+pub fn uniform(draw: f64, a: f64, b: f64) -> f64
+    ensures { λ r. ⌜ r ≡ uniformOf draw a b ⌝ }
 {
-    a + (b - a) * unit_of(x)
+    a + (b - a) * draw
 }
 
 impl Rng64 {
@@ -45,7 +45,7 @@ impl Rng64 {
         }
     }
 
-    pub fn next_u64(&mut self) -> u64
+    pub(crate) fn next_u64(&mut self) -> u64
         ensures { λ r. ⌜ (r ≡ stepOf (now (self .entry) .state)) × (now (self .exit) ≡ advanced (now (self .entry))) ⌝ }
     {
         let x = step(self.state);
@@ -53,18 +53,29 @@ impl Rng64 {
         x
     }
 
-    pub fn next_f64(&mut self) -> f64
+    pub(crate) fn next_f64(&mut self) -> f64
         ensures { λ r. ⌜ (r ≡ unitOf (stepOf (now (self .entry) .state))) × (now (self .exit) ≡ advanced (now (self .entry))) ⌝ }
     {
         let x = self.next_u64();
         unit_of(x)
     }
+}
 
-    pub fn uniform(&mut self, a: f64, b: f64) -> f64
-        ensures { λ r. ⌜ (r ≡ uniformOf (stepOf (now (self .entry) .state)) a b) × (now (self .exit) ≡ advanced (now (self .entry))) ⌝ }
-    {
-        let x = self.next_u64();
-        uniform_of(x, a, b)
+// A unit draw, and the generator's state after it.
+pub struct Draw {
+    pub state: u64,
+    pub unit: f64,
+}
+
+// One draw of a generator whose state is kept as a number: it is lent for the draw.
+pub fn drawn(state: u64) -> Draw
+    ensures { λ r. ⌜ r ≡ drawOf state ⌝ }
+{
+    let mut rng = Rng64 { state: state };
+    let unit = rng.next_f64();
+    Draw {
+        state: rng.state,
+        unit: unit,
     }
 }
 
@@ -75,30 +86,8 @@ pub fn state_after(seed: u64, draws: u64) -> u64
     let mut x = Rng64::new(seed).state;
     let mut i = 0u64;
     while i < draws {
-        x = step(x);
+        x = drawn(x).state;
         i += 1;
     }
     x
-}
-
-// A draw of each kind, one after the other.
-pub struct Draws {
-    pub word: u64,
-    pub unit: f64,
-    pub between: f64,
-}
-
-// The first three draws of a seed, one of each kind. It lends a generator of its own: whoever calls it needs none.
-pub fn first_draws(seed: u64, a: f64, b: f64) -> Draws
-    ensures { λ r. ⌜ r ≡ firstDraws seed a b ⌝ }
-{
-    let mut rng = Rng64::new(seed);
-    let word = rng.next_u64();
-    let unit = rng.next_f64();
-    let between = rng.uniform(a, b);
-    Draws {
-        word: word,
-        unit: unit,
-        between: between,
-    }
 }

@@ -4,7 +4,7 @@ use mathlib.Core.Path.{refl}
 use mathlib.Core.Logic.{⊎-elim}
 use native.Mathlib.Omega.{arith}
 use lib.ListN.{getD-replicate}
-use lib.Ieee.{nan}
+use lib.Ieee.{Float, nan}
 use borrow.Author.Needs.{needs}
 use Rattle.floats.specs.Constants.{zero64}
 use Rattle.lists.specs.Tab.{tab}
@@ -19,7 +19,7 @@ use Rattle.global.proofs.draws.random_params.Statement.{statement}
 use Rattle.global.proofs.draws.random_params.Tie as tie
 
 abbrev Inv-loop : tie.InvT-loop
-Inv-loop generator variables x₀ rng₀ q₀ i₀ x rng q i = Drawing variables (λ (d : VariableDef) (k word : ℕ). uniformOf word (d .«min_value») (d .«max_value»)) rng₀ x₀ x rng q i
+Inv-loop generator variables x₀ rng₀ q₀ i₀ x rng q i = Drawing variables (λ (d : VariableDef) (k : ℕ) (unit : Float). uniformOf unit (d .«min_value») (d .«max_value»)) rng₀ x₀ x rng q i
 
 abbrev μ-loop : tie.MeasureT-loop
 μ-loop generator variables x₀ rng₀ q₀ i₀ x rng q i = variables .«variable_count» - i
@@ -34,11 +34,11 @@ mul-d c = omega arith
 element-copy-out-d : tie.Need-element-copy-out-d Inv-loop μ-loop
 element-copy-out-d c = omega arith
 
-step-requires : tie.Need-step-requires Inv-loop μ-loop
-step-requires c κs = search needs
+drawn-requires : tie.Need-drawn-requires Inv-loop μ-loop
+drawn-requires c κs = search needs
 
-uniform-of-requires : tie.Need-uniform-of-requires Inv-loop μ-loop
-uniform-of-requires c κs = search needs
+uniform-requires : tie.Need-uniform-requires Inv-loop μ-loop
+uniform-requires c κs = search needs
 
 mul-x : tie.Need-mul-x Inv-loop μ-loop
 mul-x c = omega (arith, counted-le (c .before .before .before .before .before .loop .inv .filling))
@@ -75,8 +75,8 @@ random-params-spec =
     loop-holds
     mul-d
     element-copy-out-d
-    step-requires
-    uniform-of-requires
+    drawn-requires
+    uniform-requires
     mul-x
     array-write-x
     add-q

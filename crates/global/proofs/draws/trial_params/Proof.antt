@@ -4,12 +4,11 @@ use mathlib.Core.Path.{refl, _∙_}
 use mathlib.Core.Logic.{⊎-elim}
 use native.Mathlib.Omega.{arith}
 use lib.ListN.{getD}
-use lib.Ieee.{nan, binary64, add, sub, mul}
+use lib.Ieee.{Float, nan, binary64, add, sub, mul}
 use borrow.Author.Needs.{needs}
 use Rattle.floats.specs.Basic.{clampOf}
 use Rattle.lists.specs.Tab.{tab}
 use Rattle.xorshift.specs.Xorshift.{stepTimes}
-use Rattle.xorshift.specs.Draws.{unitOf}
 use Rattle.variables.specs.Active.{enabledOf}
 use Rattle.variables.specs.declared.types.VariableDef.{VariableDef}
 use Rattle.runs.specs.AnnealingRun.{trialParams, half, tenth}
@@ -19,7 +18,7 @@ use Rattle.global.proofs.draws.trial_params.Statement.{statement}
 use Rattle.global.proofs.draws.trial_params.Tie as tie
 
 abbrev Inv-loop : tie.InvT-loop
-Inv-loop generator variables params x₀ rng₀ q₀ i₀ x rng q i = Drawing variables (λ (d : VariableDef) (k word : ℕ). clampOf (add binary64 (getD params k nan) (mul binary64 (mul binary64 (sub binary64 (unitOf word) half) tenth) (sub binary64 (d .«max_value») (d .«min_value»)))) (d .«min_value») (d .«max_value»)) rng₀ x₀ x rng q i
+Inv-loop generator variables params x₀ rng₀ q₀ i₀ x rng q i = Drawing variables (λ (d : VariableDef) (k : ℕ) (unit : Float). clampOf (add binary64 (getD params k nan) (mul binary64 (mul binary64 (sub binary64 unit half) tenth) (sub binary64 (d .«max_value») (d .«min_value»)))) (d .«min_value») (d .«max_value»)) rng₀ x₀ x rng q i
 
 abbrev μ-loop : tie.MeasureT-loop
 μ-loop generator variables params x₀ rng₀ q₀ i₀ x rng q i = variables .«variable_count» - i
@@ -34,11 +33,8 @@ mul-d c = omega arith
 element-copy-out-d : tie.Need-element-copy-out-d Inv-loop μ-loop
 element-copy-out-d c = omega arith
 
-step-requires : tie.Need-step-requires Inv-loop μ-loop
-step-requires c κs = search needs
-
-unit-of-requires : tie.Need-unit-of-requires Inv-loop μ-loop
-unit-of-requires c κs = search needs
+drawn-requires : tie.Need-drawn-requires Inv-loop μ-loop
+drawn-requires c κs = search needs
 
 mul-clamp : tie.Need-mul-clamp Inv-loop μ-loop
 mul-clamp c = omega (arith, counted-le (c .before .before .before .before .before .before .loop .inv .filling))
@@ -67,7 +63,7 @@ loop-less c = omega arith
 loop-again : tie.Need-loop-again Inv-loop μ-loop
 loop-again c =
     ⊎-elim
-    (λ w. draw-more (c .before .before .before .loop .inv) _ _ _ _ _ (search needs) (search needs) (c .before .before .loop-test .taken) (w .0 .taken) (w .1 .ensures) (w .4 .ensures ∙ simp (w .2 .ensures)) (w .5) (w .6) (w .7))
+    (λ w. draw-more (c .before .before .before .loop .inv) _ _ _ _ _ (search needs) (search needs) (c .before .before .loop-test .taken) (w .0 .taken) (w .1 .ensures) (w .4 .ensures) (w .5) (w .6) (w .7))
     (λ w. draw-past (c .before .before .before .loop .inv) _ _ _ (c .before .before .loop-test .taken) (w .0 .left) (w .1) (w .2) (w .3))
     (c .if1 .came)
 
@@ -84,8 +80,7 @@ trial-params-spec =
     loop-holds
     mul-d
     element-copy-out-d
-    step-requires
-    unit-of-requires
+    drawn-requires
     mul-clamp
     array-read-clamp
     clamp-requires

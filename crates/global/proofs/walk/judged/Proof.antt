@@ -12,11 +12,8 @@ returns : tie.Need-returns
 unfolding judged ifNotRisen
 returns c = λ a ev e em. c .accepted .ensures a ev ∙ simp (em, c .before .if1 .taken)
 
-step-requires : tie.Need-step-requires
-step-requires c κs = search needs
-
-unit-of-requires : tie.Need-unit-of-requires
-unit-of-requires c κs = search needs
+drawn-requires : tie.Need-drawn-requires
+drawn-requires c κs = search needs
 
 prob-requires : tie.Need-prob-requires
 prob-requires c κs = search needs
@@ -26,11 +23,11 @@ accepted-requires-2 c κs = search needs
 
 returns-2 : tie.Need-returns-2
 unfolding judged ifNotRisen ifDrawn
-returns-2 c = λ a ev e em. c .accepted2 .ensures a ev ∙ simp (em, c .before .before .before .before .before .if1 .left, rw (c .before .before .prob .ensures, c .before .before .before .unit-of .ensures, c .before .before .before .before .step .ensures) at (c .before .if2 .taken), c .before .before .before .before .step .ensures)
+returns-2 c = λ a ev e em. c .accepted2 .ensures a ev ∙ simp (em, c .before .before .before .before .before .if1 .left, rw (c .before .before .before .prob .ensures, c .before .before .before .before .drawn .ensures) at (c .before .if2 .taken), c .before .before .before .before .drawn .ensures)
 
 returns-3 : tie.Need-returns-3
 unfolding judged ifNotRisen ifDrawn
-returns-3 c = λ a ev e em. simp (em, c .before .before .before .before .if1 .left, rw (c .before .prob .ensures, c .before .before .unit-of .ensures, c .before .before .before .step .ensures) at (c .if2 .left), c .before .before .before .step .ensures)
+returns-3 c = λ a ev e em. simp (em, c .before .before .before .before .if1 .left, rw (c .before .before .prob .ensures, c .before .before .before .drawn .ensures) at (c .if2 .left), c .before .before .before .drawn .ensures)
 
 pub judged-spec : {M : Type 1} → statement M
 judged-spec =
@@ -38,8 +35,7 @@ judged-spec =
     (tie.spec
     accepted-requires
     returns
-    step-requires
-    unit-of-requires
+    drawn-requires
     prob-requires
     accepted-requires-2
     returns-2
