@@ -23,7 +23,7 @@ typedef struct {
     double entrance_pupil_diameter_mm;
     SettingsRecord settings;
 } JobRecord;
-typedef struct { JobRecord job; uint64_t kind, left_out; } RequestRecord;
+typedef struct { JobRecord job; uint64_t kind, given; } RequestRecord;
 typedef struct {
     OpticalSurface surfaces[16];
     double values[12], residuals[12], initial_merit, final_merit;
@@ -59,9 +59,9 @@ static uint64_t bits(void) { return strtoull(word(), NULL, 16); }
 static double number(void) { uint64_t b = bits(); double x; memcpy(&x, &b, 8); return x; }
 
 static int left(RequestRecord *q, int i, char *w) {
-    if (strcmp(w, "d") != 0) return 0;
-    q->left_out |= 1ull << i;
-    return 1;
+    if (strcmp(w, "d") == 0) return 1;
+    q->given |= 1ull << i;
+    return 0;
 }
 static void count_setting(RequestRecord *q, int i, uint64_t *to, int base) {
     char *w = word();

@@ -1,10 +1,10 @@
--- `benchcalls::records::record_number` meets its contract. Assumes nothing.
+-- `benchcalls::admission::record_number` meets its contract. Assumes nothing.
 use borrow.Author.Tests.{not-true, not-false}
 use mathlib.Core.Path.{_≡_, sym, ap, _∙_}
-use Rattle.benchcalls.specs.Records.{recordNumber}
+use Rattle.benchcalls.specs.Admission.{recordNumber}
 use borrow.Author.Needs.{needs}
-use Rattle.benchcalls.proofs.records.record_number.Statement.{statement}
-use Rattle.benchcalls.proofs.records.record_number.Tie as tie
+use Rattle.benchcalls.proofs.admission.record_number.Statement.{statement}
+use Rattle.benchcalls.proofs.admission.record_number.Tie as tie
 
 is-request-requires : tie.Need-is-request-requires
 is-request-requires c κs = search needs

@@ -1,11 +1,11 @@
--- `benchcalls::records::number_setting` meets its contract. Assumes nothing.
+-- `records::requests::number_setting` meets its contract. Assumes nothing.
 use mathlib.Core.Path.{_≡_}
 use borrow.Author.Needs.{needs}
-use Rattle.benchcalls.proofs.records.number_setting.Statement.{statement}
-use Rattle.benchcalls.proofs.records.number_setting.Tie as tie
+use Rattle.records.proofs.requests.number_setting.Statement.{statement}
+use Rattle.records.proofs.requests.number_setting.Tie as tie
 
 returns : tie.Need-returns
-returns c = search needs
+returns c = rw (c .if1 .taken)
 
 returns-2 : tie.Need-returns-2
 returns-2 c = rw (c .if1 .left)

@@ -1,9 +1,9 @@
--- `benchcalls::records::request_of` meets its contract. Assumes nothing.
-use Rattle.benchcalls.specs.Records.{requestOf}
+-- `records::requests::request_of` meets its contract. Assumes nothing.
+use Rattle.records.specs.Requests.{requestOf}
 use Rattle.jobs.specs.declared.types.Job.{Job}
 use borrow.Author.Needs.{needs}
-use Rattle.benchcalls.proofs.records.request_of.Statement.{statement}
-use Rattle.benchcalls.proofs.records.request_of.Tie as tie
+use Rattle.records.proofs.requests.request_of.Statement.{statement}
+use Rattle.records.proofs.requests.request_of.Tie as tie
 
 job-of-requires : tie.Need-job-of-requires
 job-of-requires c κs = search needs

@@ -10,8 +10,10 @@ use Rattle.bench.specs.declared.types.Bench.{Bench}
 use Rattle.bench.specs.Benches.{rowAt, withRow}
 use Rattle.bench.specs.Refusals.{admitRefusals}
 use Rattle.bench.specs.Calls.{admitNumber, admittedBench}
-use Rattle.benchcalls.specs.declared.types.RequestRecord.{RequestRecord}
-use Rattle.benchcalls.specs.Records.{requestOf, isRequest, recordNumber, recordRowOf, admitRecordNumber, admittedRecordBench}
+use Rattle.records.specs.declared.types.RequestRecord.{RequestRecord}
+use Rattle.records.specs.Requests.{requestOf, isRequest}
+use Rattle.records.specs.Exported.{admitRecordNumber, admittedRecordBench}
+use Rattle.benchcalls.specs.Admission.{recordNumber, recordRowOf}
 use Rattle.benchcalls.specs.Placed.{same-row, admit-past, admitted-there}
 
 module _ (b : Bench) (place : ℕ) where

@@ -1,10 +1,10 @@
--- `benchcalls::records::admit_record_row` meets its contract. Assumes nothing.
+-- `benchcalls::admission::admit_record_row` meets its contract. Assumes nothing.
 use borrow.Author.Tests.{not-true, not-false}
 use mathlib.Core.Path.{_≡_, sym, ap, _∙_}
-use Rattle.benchcalls.specs.Records.{recordRowOf}
+use Rattle.benchcalls.specs.Admission.{recordRowOf}
 use borrow.Author.Needs.{needs}
-use Rattle.benchcalls.proofs.records.admit_record_row.Statement.{statement}
-use Rattle.benchcalls.proofs.records.admit_record_row.Tie as tie
+use Rattle.benchcalls.proofs.admission.admit_record_row.Statement.{statement}
+use Rattle.benchcalls.proofs.admission.admit_record_row.Tie as tie
 
 is-request-requires : tie.Need-is-request-requires
 is-request-requires c κs = search needs

@@ -1,11 +1,11 @@
--- `benchcalls::records::method_request` meets its contract. Assumes nothing.
+-- `records::requests::method_request` meets its contract. Assumes nothing.
 use mathlib.Core.Path.{ap}
 use borrow.Author.Tests.{ne-eqb}
 use Rattle.jobs.specs.declared.types.MethodRequest.the-variants.{Damped, MultiStart, Annealing}
-use Rattle.benchcalls.specs.Records.{methodRequest}
+use Rattle.records.specs.Requests.{methodRequest}
 use borrow.Author.Needs.{needs}
-use Rattle.benchcalls.proofs.records.method_request.Statement.{statement}
-use Rattle.benchcalls.proofs.records.method_request.Tie as tie
+use Rattle.records.proofs.requests.method_request.Statement.{statement}
+use Rattle.records.proofs.requests.method_request.Tie as tie
 
 dls-request-requires : tie.Need-dls-request-requires
 dls-request-requires c κs = search needs
