@@ -157,9 +157,10 @@ typedef struct LensBench {
 } LensBench;
 
 LENS_ASSERT(sizeof(size_t) == 8 && sizeof(double) == 8, "lensbench.h is for x86-64");
-LENS_ASSERT(sizeof(LensSurface) == 32 && sizeof(LensVariable) == 48 && sizeof(LensOperand) == 40 && sizeof(LensSettings) == 88, "lensbench.h: a record has padding");
-LENS_ASSERT(sizeof(LensJob) == 2016 && sizeof(LensRequest) == 2032 && sizeof(LensResult) == 736, "lensbench.h: a record has padding");
-LENS_ASSERT(sizeof(LensEvaluation) == 200 && sizeof(LensRay) == 16 && sizeof(LensFinished) == 40 && sizeof(LensBench) == 18304, "lensbench.h: a record has padding");
+LENS_ASSERT(sizeof(LensSurface) == 32 && sizeof(LensVariable) == 48 && sizeof(LensOperand) == 40, "lensbench.h: a record has padding");
+LENS_ASSERT(sizeof(LensSettings) == 88 && sizeof(LensJob) == 2016 && sizeof(LensRequest) == 2032, "lensbench.h: a record has padding");
+LENS_ASSERT(sizeof(LensResult) == 736 && sizeof(LensEvaluation) == 200 && sizeof(LensRay) == 16, "lensbench.h: a record has padding");
+LENS_ASSERT(sizeof(LensFinished) == 40 && sizeof(LensBench) == 18304, "lensbench.h: a record has padding");
 
 /* LENS_ABI of the library that is linked */
 uint32_t lens_abi(void);
