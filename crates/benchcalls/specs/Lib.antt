@@ -1,7 +1,7 @@
+pub mod Admission
+pub mod AdmissionLaws
 pub mod Gathered
 pub mod Placed
 pub mod Play
 pub mod PlayLaws
-pub mod RecordLaws
-pub mod Records
 pub mod Values

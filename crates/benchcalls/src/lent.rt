@@ -2,13 +2,13 @@
 ghost use mathlib.Core.Path.{_≡_};
 ghost use lib.ListN.{length};
 ghost use Rattle.bench.specs.Calls.{admitNumber, admittedBench, turnNumber, turnedBench, scratchAfter, fetchNumber, fetchedResult, releaseNumber, releasedBench, Listing};
-ghost use Rattle.benchcalls.specs.Records.{admitRecordNumber, admittedRecordBench};
-use crate::records;
-use crate::types::RequestRecord;
+ghost use Rattle.records.specs.Exported.{admitRecordNumber, admittedRecordBench};
+use crate::admission;
 use crate::values;
 use bench::Bench;
 use bench::Finished;
 use jobs::JobRequest;
+use records::RequestRecord;
 use runs::OptimizationResult;
 
 // A job comes to an empty place. 1 to 8 and 10.
@@ -31,10 +31,10 @@ pub extern "C" fn admit_record(bench: &mut Bench, place: usize, asked: &RequestR
 {
     let record = *asked;
     if place > 3 {
-        return records::record_number(record, place);
+        return admission::record_number(record, place);
     }
     let row = bench.rows[place];
-    let answer = records::admit_record_row(row, place, record);
+    let answer = admission::admit_record_row(row, place, record);
     bench.rows[place] = answer.row;
     answer.number
 }

@@ -1,7 +1,7 @@
 // The calls on a bench (01): admit, turn, fetch, release and listing. Lent, and by value for programs.
+mod admission;
 mod lent;
 mod play;
-mod records;
 mod types;
 mod values;
 
@@ -14,7 +14,6 @@ pub use lent::turn;
 pub use play::play_turns;
 pub use types::BenchAnswer;
 pub use types::Played;
-pub use types::RequestRecord;
 pub use values::admitted;
 pub use values::empty_bench;
 pub use values::fetched;

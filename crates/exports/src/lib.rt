@@ -1,7 +1,22 @@
-// Functions for callers in C or Rust, by `rt staticlib exports`: thin, each with its callee's contract.
+// Functions for callers in C or Rust, by `rt staticlib exports`: a lens by itself, and thin ones, each with its callee's contract.
 ghost use mathlib.Core.Path.{_≡_};
+ghost use Rattle.exports.specs.Abi.{abiNumber};
 ghost use Rattle.floats.specs.Exp.{expOf};
 ghost use Rattle.floats.specs.Sqrt.{sqrtOf};
+
+mod lenses;
+mod lent;
+
+pub use lent::lens_evaluate;
+pub use lent::lens_trace;
+
+// The number of the records' layout: a caller holds it against the header's.
+#[no_mangle]
+pub extern "C" fn lens_abi() -> u32
+    ensures { λ r. ⌜ r ≡ abiNumber ⌝ }
+{
+    1
+}
 
 #[no_mangle]
 pub extern "C" fn lens_sqrt(x: f64) -> f64

@@ -46,25 +46,26 @@ use Rattle.runs.specs.declared.types.Row.{Row}
 use Rattle.bench.specs.declared.types.Bench.{Bench}
 use Rattle.bench.specs.Benches.{noRow}
 use Rattle.rows.specs.declared.types.RowAnswer.{RowAnswer}
-use Rattle.benchcalls.specs.declared.types.RequestRecord.{RequestRecord}
-use Rattle.benchcalls.specs.Records.{recordNumber, recordRowOf, admitRecordNumber, admittedRecordBench}
-use Rattle.benchcalls.specs.RecordLaws.{record-past, record-there}
-use Rattle.benchcalls.proofs.types.RequestRecord as Q
-use Rattle.benchcalls.proofs.types.RequestRecord.Laws as Q′
+use Rattle.records.specs.declared.types.RequestRecord.{RequestRecord}
+use Rattle.records.specs.Exported.{admitRecordNumber, admittedRecordBench}
+use Rattle.benchcalls.specs.Admission.{recordNumber, recordRowOf}
+use Rattle.benchcalls.specs.AdmissionLaws.{record-past, record-there}
+use Rattle.records.proofs.types.RequestRecord as Q
+use Rattle.records.proofs.types.RequestRecord.Laws as Q′
 use Rattle.runs.proofs.types.Row as S
 use Rattle.runs.proofs.types.Row.Laws as S′
 use Rattle.rows.proofs.types.RowAnswer as An
 use Rattle.rows.proofs.types.RowAnswer.Laws as An′
 use Rattle.benchcalls.proofs.Opened.{place-fits, row-size, Rest, rest-of, R, Bn, bn, valsR, valsB, in-parts, number-is, Back, opens-row, closes-row}
 use Rattle.benchcalls.proofs.Big.{big-lit}
-use Rattle.benchcalls.proofs.records.admit_record_row as callee
-use Rattle.benchcalls.proofs.records.admit_record_row.Symbol as callee-def
-use Rattle.benchcalls.proofs.records.admit_record_row.Symbol.{name as #callee}
-use Rattle.benchcalls.proofs.records.admit_record_row.Met as callee-thm
-use Rattle.benchcalls.proofs.records.record_number as other
-use Rattle.benchcalls.proofs.records.record_number.Symbol as other-def
-use Rattle.benchcalls.proofs.records.record_number.Symbol.{name as #other}
-use Rattle.benchcalls.proofs.records.record_number.Met as other-thm
+use Rattle.benchcalls.proofs.admission.admit_record_row as callee
+use Rattle.benchcalls.proofs.admission.admit_record_row.Symbol as callee-def
+use Rattle.benchcalls.proofs.admission.admit_record_row.Symbol.{name as #callee}
+use Rattle.benchcalls.proofs.admission.admit_record_row.Met as callee-thm
+use Rattle.benchcalls.proofs.admission.record_number as other
+use Rattle.benchcalls.proofs.admission.record_number.Symbol as other-def
+use Rattle.benchcalls.proofs.admission.record_number.Symbol.{name as #other}
+use Rattle.benchcalls.proofs.admission.record_number.Met as other-thm
 use Rattle.benchcalls.proofs.lent.admit_record.Key.{name as #admit-record}
 use Rattle.benchcalls.proofs.lent.admit_record as f
 use Rattle.benchcalls.proofs.lent.admit_record.Statement as stated
@@ -263,5 +264,5 @@ admit-record-spec 𝓤 H 𝓜 𝓖 𝓡 =
     entered 𝓤 H (tripleOf 𝓤 H (𝓖 .A) f.signature (f.spec 𝓤 H (𝓖 .A) (𝓜 .mem) (𝓡 .run)))
     (tables 𝓤 H 𝓜 𝓡 code.env .C) (tables 𝓤 H 𝓜 𝓡 code.env .Λ) #admit-record code.function (code.unfolded 𝓤 H 𝓜 𝓡)
     (f-meets 𝓤 H (𝓖 .A) (givenOf 𝓤 H 𝓜 𝓖) (𝓜 .mem) (𝓡 .run) (tablesOf 𝓤 H 𝓜 (tables 𝓤 H 𝓜 𝓡 code.env))
-    (cited 𝓤 H (RecordRow 𝓤 H (𝓖 .A) (𝓜 .mem) (𝓡 .run)) 𝓜 𝓡 code.env #callee callee-def.routine code.calls-benchcalls·records·admit-record-row (callee-thm.met 𝓤 H 𝓜 𝓖 𝓡))
-    (cited 𝓤 H (RecordNumber 𝓤 H (𝓖 .A) (𝓜 .mem) (𝓡 .run)) 𝓜 𝓡 code.env #other other-def.routine code.calls-benchcalls·records·record-number (other-thm.met 𝓤 H 𝓜 𝓖 𝓡)))
+    (cited 𝓤 H (RecordRow 𝓤 H (𝓖 .A) (𝓜 .mem) (𝓡 .run)) 𝓜 𝓡 code.env #callee callee-def.routine code.calls-benchcalls·admission·admit-record-row (callee-thm.met 𝓤 H 𝓜 𝓖 𝓡))
+    (cited 𝓤 H (RecordNumber 𝓤 H (𝓖 .A) (𝓜 .mem) (𝓡 .run)) 𝓜 𝓡 code.env #other other-def.routine code.calls-benchcalls·admission·record-number (other-thm.met 𝓤 H 𝓜 𝓖 𝓡)))

@@ -1,0 +1,3 @@
+pub mod Abi
+pub mod Lenses
+pub mod LensLaws

@@ -1,0 +1,62 @@
+// A lens by itself in numbers alone, by value.
+ghost use mathlib.Core.Path.{_≡_};
+ghost use Rattle.exports.specs.Lenses.{lensOf, areOperands, recordEvaluated, numberOf};
+use jobs::JobRecord;
+use merit::Evaluated;
+use merit::MeritEvaluation;
+use merit::Traced;
+use optics::OpticalPrescription;
+
+pub(crate) fn lens_of(held: JobRecord) -> OpticalPrescription
+    ensures { λ r. ⌜ r ≡ lensOf held ⌝ }
+{
+    let job = jobs::job_of(1, held);
+    job.prescription
+}
+
+// Whether each operand's number for a kind is one.
+fn are_operands(held: JobRecord) -> bool
+    ensures { λ r. ⌜ r ≡ areOperands held ⌝ }
+{
+    if held.operand_count > 12 {
+        return false;
+    }
+    // the variables have no part in it
+    let mut alone = held;
+    alone.variable_count = 0;
+    jobs::known_kinds(alone)
+}
+
+// The evaluation of the record's lens under its operands.
+pub(crate) fn evaluated(held: JobRecord) -> Evaluated
+    ensures { λ r. ⌜ r ≡ recordEvaluated held ⌝ }
+{
+    let values = [0.0; 12];
+    let residuals = [0.0; 12];
+    let none = MeritEvaluation {
+        values: values,
+        residuals: residuals,
+        total_merit: 0.0,
+    };
+    if !are_operands(held) {
+        return Evaluated {
+            evaluation: none,
+            number: 1,
+        };
+    }
+    let job = jobs::job_of(1, held);
+    let prescription = job.prescription;
+    let function = job.merit_function;
+    lending::evaluate_over(prescription, function, none)
+}
+
+// The number of a trace's answer.
+pub(crate) fn number_of(answer: Traced) -> u32
+    ensures { λ r. ⌜ r ≡ numberOf answer ⌝ }
+{
+    match answer {
+        Traced::Done => 0,
+        Traced::Failed => 100,
+        Traced::Refused(n) => n,
+    }
+}

@@ -1,0 +1,14 @@
+-- `records::requests::number_setting` meets its contract. Assumes nothing.
+use mathlib.Core.Path.{_≡_}
+use borrow.Author.Needs.{needs}
+use Rattle.records.proofs.requests.number_setting.Statement.{statement}
+use Rattle.records.proofs.requests.number_setting.Tie as tie
+
+returns : tie.Need-returns
+returns c = rw (c .if1 .taken)
+
+returns-2 : tie.Need-returns-2
+returns-2 c = rw (c .if1 .left)
+
+pub number-setting-spec : {M : Type 1} → statement M
+number-setting-spec = tie.close (tie.spec returns returns-2)
