@@ -49,3 +49,7 @@ pub mod UnusedLaws
 pub mod ZeroEntryLaws
 -- A request that is not refused makes a job for which they hold.
 pub mod Admitted
+-- Request 14: a damped job under one limit and another.
+pub mod Shorter
+pub mod ShorterLoops
+pub mod ShorterLaws
