@@ -71,8 +71,8 @@ enum LensOperandKinds {
     LENS_TRACK = 2,        /* neither is looked at */
     LENS_BACK_FOCUS = 3,   /* at: slot */
     LENS_MAGNIFICATION = 4, /* at: slot */
-    LENS_LEAST_CENTRE_THICKNESS = 5,   /* at: surface; the value is what is missing to the limit, as a negative number, or 0 */
-    LENS_GREATEST_CENTRE_THICKNESS = 6 /* at: surface; the value is what passes the limit, or 0 */
+    LENS_LEAST_CENTRE_THICKNESS = 5,   /* at: surface; the value is thickness - limit where that is negative, else 0; 100000 where the surface is absent */
+    LENS_GREATEST_CENTRE_THICKNESS = 6 /* at: surface; the value is thickness - limit where that is positive, else 0; 100000 where the surface is absent */
 };
 
 /* bits of LensRequest.given: the settings that are given; a setting without its bit has its default (damped job; multi-start's runs) */
