@@ -15,7 +15,7 @@ static struct Lent {
 } now, before, safe;
 
 static Line line;
-static size_t lines, admits, turns, fetches, releases, listings, evaluations, traces, results;
+static size_t lines, skipped, admits, turns, fetches, releases, listings, evaluations, traces, results;
 static int finished[4]; /* the places whose jobs are at their end */
 
 static void fail(const char *what, ...) {
@@ -325,17 +325,20 @@ int main(int argc, char **argv) {
         const char *refused = strstr(answer, " refused ");
         if (refused) wanted = (unsigned)atoi(refused + 9);
         if (!whole && wanted != LENS_BAD_COUNT) fail("too many entries, and refused with %u", wanted);
+        LensJob *j = &line.request.job;
         if (line.request.kind <= 3) job(wanted, answer);
         /* too many of what a call does not take are refused by the oracle alone */
-        else if (line.request.job.variable_count > 8) {}
+        else if (j->variable_count > 8 || (line.request.kind == 5 && j->operand_count > 12)) skipped++;
         else if (line.request.kind == 4) evaluate(wanted, answer);
-        else if (line.request.job.operand_count <= 12) trace(wanted, strstr(answer, " failed") != NULL, answer);
+        else trace(wanted, strstr(answer, " failed") != NULL, answer);
         there = getline(&answer, &answer_room, answers) > 0;
     }
     while (there && answer[0] != 'R') there = getline(&answer, &answer_room, answers) > 0;
     if (there) { fprintf(stderr, "lent: an answer has no line: %s", answer); return 1; }
+    free(text), free(answer), fclose(answers);
     if (lines == 0) { fprintf(stderr, "lent: no line has an answer\n"); return 1; }
-    printf("%zu lines: %zu results the oracle's; refused as they must be, nothing changed: ", lines, results);
-    printf("admit %zu, turn %zu, fetch %zu, release %zu, evaluate %zu, trace %zu; listings %zu\n", admits, turns, fetches, releases, evaluations, traces, listings);
+    printf("%zu lines (%zu skipped), %zu results the oracle's; refused as they must be, nothing changed: ", lines, skipped, results);
+    printf("admit %zu, turn %zu, fetch %zu, release %zu, ", admits, turns, fetches, releases);
+    printf("evaluate %zu, trace %zu; listings %zu\n", evaluations, traces, listings);
     return 0;
 }

@@ -1,11 +1,13 @@
 -- Each request is asked for by a record: the record of its job, with every setting given, makes the same job and is answered alike. Assumes nothing.
 use mathlib.Core.Path.{_≡_, refl, sym, ap, _∙_}
-use mathlib.Core.Bool.{Bool, true, false, not, cond, _&&_, and-eq-true-iff, true≢false, false≢true}
+use mathlib.Core.Bool.{Bool, true, false, not, cond, _&&_, true≢false, false≢true}
 use mathlib.Core.List.{List, [], _∷_, _++_}
 use Prim.Native.Nat.{ℕ, zero, suc}
 use lib.Dec.{T, eqb, ltb}
 use lib.Ieee.{nan}
-use lib.ListN.{getD}
+use lib.Ieee.Bits.{is-true}
+use lib.Ieee.Fits.{and-l, and-r}
+use lib.ListN.{getD, drop}
 use borrow.Author.Tests.{le-ltb}
 use Rattle.floats.specs.Constants.{zero64}
 use Rattle.lists.specs.Kept.{kept, below, kept-used, kept-same}
@@ -21,7 +23,7 @@ use Rattle.jobs.specs.declared.types.Method.the-variants.{Damped, MultiStart, A
 use Rattle.jobs.specs.declared.types.MethodRequest.the-variants as Ask
 use Rattle.jobs.specs.declared.types.SettingsRecord.{SettingsRecord}
 use Rattle.jobs.specs.CheckLaws.{one-answer}
-use Rattle.jobs.specs.Checks.{countsTaken, countsWrong, lensRefused, variablesRefused, operandsRefused, settingsRefused, noActiveVariable, noOperand}
+use Rattle.jobs.specs.Checks.{countsTaken, countsWrong, jobRefusals}
 use Rattle.jobs.specs.Counts.{Counts, counts}
 use Rattle.jobs.specs.Filled.{methodOf, filled}
 use Rattle.jobs.specs.Kept.{zeroVariable, zeroOperand, keptJob, jobFrom}
@@ -89,48 +91,38 @@ module _ (r : JobRequest) where
   kind-known (MultiStart c) = refl
   kind-known (Annealing c) = refl
 
-  T-true : (b : Bool) → T b → b ≡ true
-  T-true true t = refl
-  T-true false t = absurd t
-
   -- its numbers for kinds are kinds
   pub is-asked : countsTaken (filled r) ≡ true → isRequest (recordFor r) ≡ true
   unfolding isRequest
   is-asked e =
       let n : Counts (filled r) = counts (filled r) e in
-      let known = T-true (knownKinds (recordOf (jobFrom r))) (record-known (jobFrom r) (n .variables) (n .operands)) in
+      let known = is-true (knownKinds (recordOf (jobFrom r))) (record-known (jobFrom r) (n .variables) (n .operands)) in
       simp (kind-known (filled r .method), le-ltb _ _ (n .variables), le-ltb _ _ (n .operands), known)
 
 -- ---- Requests that make one job are answered alike by an admission
--- the first of two lists, one after the other
+-- the first of two lists, one after the other, of which the first has no number 0
 abbrev orElse : ℕ → ℕ → ℕ
 orElse zero m = m
 orElse (suc n) m = suc n
 
+abbrev numbered : List Refusal → Bool
+numbered [] = true
+numbered (r ∷ rs) = not (eqb 0 (r .number)) && numbered rs
+
+first-then : (rs rest : List Refusal) → T (numbered rs) → firstRefusal (rs ++ rest) ≡ orElse (firstRefusal rs) (firstRefusal rest)
+first-then [] rest t = refl
+first-then (r ∷ rs) rest t =
+    by (r .cause) (r .number) (and-l (not (eqb 0 (r .number))) (numbered rs) t) (first-then rs rest (and-r (not (eqb 0 (r .number))) (numbered rs) t))
+  where
+    by : (c : Bool) (n : ℕ) → T (not (eqb 0 n)) → firstRefusal (rs ++ rest) ≡ orElse (firstRefusal rs) (firstRefusal rest) →
+        cond c n (firstRefusal (rs ++ rest)) ≡ orElse (cond c n (firstRefusal rs)) (firstRefusal rest)
+    by true zero t e = absurd t
+    by true (suc n) t e = refl
+    by false n t e = e
+
 -- the causes that a job has beside its counts
 abbrev others : Job → List Refusal
-others j =
-    refusal 3 (lensRefused j)
-    ∷ refusal 4 (variablesRefused j)
-    ∷ refusal 5 (operandsRefused j)
-    ∷ refusal 6 (settingsRefused j)
-    ∷ refusal 7 (noActiveVariable j)
-    ∷ refusal 8 (noOperand j)
-    ∷ []
-
-others-then : (j : Job) (rest : List Refusal) → firstRefusal (others j ++ rest) ≡ orElse (firstRefusal (others j)) (firstRefusal rest)
-others-then j rest = by (firstRefusal rest) (lensRefused j) (variablesRefused j) (operandsRefused j) (settingsRefused j) (noActiveVariable j) (noOperand j)
-  where
-    by : (m : ℕ) (c d e f g h : Bool) →
-        cond c 3 (cond d 4 (cond e 5 (cond f 6 (cond g 7 (cond h 8 m)))))
-        ≡ orElse (cond c 3 (cond d 4 (cond e 5 (cond f 6 (cond g 7 (cond h 8 0)))))) m
-    by m true d e f g h = refl
-    by m false true e f g h = refl
-    by m false false true f g h = refl
-    by m false false false true g h = refl
-    by m false false false false true h = refl
-    by m false false false false false true = refl
-    by m false false false false false false = refl
+others j = drop 1 (jobRefusals j)
 
 pub answered-alike : (a b : JobRequest) → jobFrom a ≡ jobFrom b → (place : ℕ) (taken : Bool) →
     firstRefusal (admitRefusals place a taken) ≡ firstRefusal (admitRefusals place b taken)
@@ -144,6 +136,7 @@ answered-alike a b e place taken = by (countsWrong (filled a)) (countsWrong (fil
         ≡ cond d 1 (cond (noPlace place) 2 (firstRefusal (others (filled b) ++ last)))
     by true true p q = refl
     by false false p q =
-        ap (cond (noPlace place) 2) (others-then (filled a) last ∙ ap (λ (n : ℕ). orElse n (firstRefusal last)) q ∙ sym (others-then (filled b) last))
+        ap (cond (noPlace place) 2)
+        (first-then (others (filled a)) last tt ∙ ap (λ (n : ℕ). orElse n (firstRefusal last)) q ∙ sym (first-then (others (filled b)) last tt))
     by true false p q = absurd (true≢false p)
     by false true p q = absurd (false≢true p)

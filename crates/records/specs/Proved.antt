@@ -21,33 +21,36 @@ use Rattle.records.specs.Exported.{exportedAnswer, exportedStep, exporte
 use Rattle.records.specs.Asked.{same-job-asked, is-asked, answered-alike}
 
 -- ---- one exported call, and 01's calls after it
-step-as : (c : ExportedCall) (b : Bench) (rest : List Call) → leftBy benchStep (exportedStep b c) rest ≡ leftBy benchStep b (asCalls c ++ rest)
+abbrev callAnswers : Bench → List Call → List Answer
+callAnswers b calls = answersBy benchAnswer benchStep b calls
+
+abbrev SameBench : ExportedCall → Bench → List Call → Type 0
+SameBench c b rest = leftBy benchStep (exportedStep b c) rest ≡ leftBy benchStep b (asCalls c ++ rest)
+
+abbrev SameAnswers : ExportedCall → Bench → List Call → Type 0
+SameAnswers c b rest =
+    let after = callAnswers (exportedStep b c) rest in
+    cond (isCall c) (exportedAnswer b c ∷ after) after ≡ callAnswers b (asCalls c ++ rest)
+
+step-as : (c : ExportedCall) (b : Bench) (rest : List Call) → SameBench c b rest
 unfolding exportedStep asCalls leftBy benchStep
-step-as (admitRecord place q) b rest = by (isRequest q)
+step-as (admitRecord place q) b rest = by (isRequest q) refl
   where
-    by : (t : Bool) →
-        leftBy benchStep (cond t (admittedBench b place (requestOf q)) b) rest ≡ leftBy benchStep b (cond t (Book.admit place (requestOf q) ∷ []) [] ++ rest)
-    by true = refl
-    by false = refl
+    by : (t : Bool) → isRequest q ≡ t → SameBench (admitRecord place q) b rest
+    by true e = rw e
+    by false e = rw e
 step-as (turn place length) b rest = refl
 step-as (fetch place) b rest = refl
 step-as (release place) b rest = refl
 step-as listing b rest = refl
 
-abbrev callAnswers : Bench → List Call → List Answer
-callAnswers b calls = answersBy benchAnswer benchStep b calls
-
-answer-as : (c : ExportedCall) (b : Bench) (rest : List Call) →
-    let after = callAnswers (exportedStep b c) rest in
-    cond (isCall c) (exportedAnswer b c ∷ after) after ≡ callAnswers b (asCalls c ++ rest)
+answer-as : (c : ExportedCall) (b : Bench) (rest : List Call) → SameAnswers c b rest
 unfolding exportedStep exportedAnswer asCalls answersBy benchStep benchAnswer
-answer-as (admitRecord place q) b rest = by (isRequest q)
+answer-as (admitRecord place q) b rest = by (isRequest q) refl
   where
-    by : (t : Bool) →
-        let after = callAnswers (cond t (admittedBench b place (requestOf q)) b) rest in
-        cond t (number (cond t (admitNumber b place (requestOf q)) 1) ∷ after) after ≡ callAnswers b (cond t (Book.admit place (requestOf q) ∷ []) [] ++ rest)
-    by true = refl
-    by false = refl
+    by : (t : Bool) → isRequest q ≡ t → SameAnswers (admitRecord place q) b rest
+    by true e = rw e
+    by false e = rw e
 answer-as (turn place length) b rest = refl
 answer-as (fetch place) b rest = refl
 answer-as (release place) b rest = refl
@@ -92,11 +95,12 @@ module _ (b : Bench) (place : ℕ) (r : JobRequest) where
   admits = by (countsTaken (filled r)) refl (isRequest q) refl
     where
       by : (t : Bool) → countsTaken (filled r) ≡ t → (u : Bool) → isRequest q ≡ u →
-          (cond u (admitNumber b place (requestOf q)) 1 ≡ admitNumber b place r)
-          × (cond u (admittedBench b place (requestOf q)) b ≡ admittedBench b place r)
-      by t e true f = (number-alike, bench-alike)
+          (admitRecordNumber b place q ≡ admitNumber b place r) × (admittedRecordBench b place q ≡ admittedBench b place r)
+      by t e true f = (rw f number-alike, rw f bench-alike)
       by true e false f = absurd (false≢true (sym f ∙ is-asked r e))
-      by false e false f = let one = too-many e in (sym one, sym (ap (λ (n : ℕ). unlessRefused n (withRow b place (admitted (jobFrom r))) b) one))
+      by false e false f =
+          let one = too-many e in
+          (rw f (sym one), rw f (sym (ap (λ (n : ℕ). unlessRefused n (withRow b place (admitted (jobFrom r))) b) one)))
 
 pub exported-are-calls : ExportedAreCalls
 unfolding exportedAnswer exportedStep benchAnswer benchStep
