@@ -9,7 +9,7 @@ pub struct Rng64 {
 }
 
 // The new state, which is also the word drawn. The remainders, by 2^51 and 2^47, drop the bits that a shift to the left would push past the end.
-fn step(x: u64) -> u64
+pub fn step(x: u64) -> u64
     ensures { λ r. ⌜ r ≡ stepOf x ⌝ }
 {
     let a = x ^ ((x % 0x8_0000_0000_0000) << 13);
