@@ -14,6 +14,7 @@ enum Reply {
     One(f64),
     Two(f64, f64),
     Draw(u64, f64),
+    State(u64),
     Unknown,
 }
 
@@ -36,6 +37,9 @@ fn reply_to(line: &[u8], w: Word) -> Reply
     }
     if check::same(name, b"DRAW") {
         return draw(line, to);
+    }
+    if check::same(name, b"JUMP") {
+        return jumped(line, to);
     }
     if check::same(name, b"UNIFORM") {
         return uniform(line, to);
@@ -86,6 +90,20 @@ fn draw(line: &[u8], at: usize) -> Reply {
     }
     let draw = xorshift::drawn(xorshift::state_after(seed, draws - 1));
     Reply::Draw(draw.state, draw.unit)
+}
+
+// JUMP state n: the state after n draws. It is a state and no seed: 0 stays 0.
+fn jumped(line: &[u8], at: usize) -> Reply {
+    let NumberField::Is(state, at) = fields::hex_field(line, at) else {
+        return Reply::Unknown;
+    };
+    let NumberField::Is(draws, at) = fields::hex_field(line, at) else {
+        return Reply::Unknown;
+    };
+    if !words::is_end(line, at) {
+        return Reply::Unknown;
+    }
+    Reply::State(jump::jump(state, draws))
 }
 
 // UNIFORM seed a b: the first draw
@@ -147,6 +165,7 @@ fn put_values(out: &mut [u8], waiting: usize, reply: Reply) -> usize {
             let waiting = output::put(out, waiting, b" ");
             output::put_float(out, waiting, y)
         }
+        Reply::State(x) => output::put_hex(out, waiting, x),
         Reply::Unknown => waiting,
     }
 }

@@ -6,8 +6,45 @@ use optics_optimize::global::Rng64;
 use optics_optimize::stand_in::{apply_clamp, e};
 use std::io::{BufRead, Write};
 
+/// The words of one draw as a matrix over bits: word i is the draw of the state 2^i, by the original.
+fn draw_words() -> [u64; 64] {
+    std::array::from_fn(|i| Rng64::new(1 << i).next_u64())
+}
+
+/// A matrix at a state: the words at its set bits, xored.
+fn times(words: &[u64; 64], state: u64) -> u64 {
+    (0..64).filter(|i| state >> i & 1 == 1).fold(0, |sum, i| sum ^ words[i])
+}
+
+/// The matrix of one draw, squared again and again: number k is that of 2^k draws.
+struct Squares(Vec<[u64; 64]>);
+impl Squares {
+    fn new() -> Squares {
+        let mut all = vec![draw_words()];
+        for k in 0..63 {
+            all.push(all[k].map(|w| times(&all[k], w)));
+        }
+        Squares(all)
+    }
+    fn after(&self, state: u64, n: u64) -> u64 {
+        (0..64).filter(|k| n >> k & 1 == 1).fold(state, |x, k| times(&self.0[k], x))
+    }
+}
+
+/// The state after n draws: by the original's own draws up to 2^20 of them, and by the squares of their matrix, which must agree there.
+fn after_draws(squares: &Squares, state: u64, n: u64) -> u64 {
+    let x = squares.after(state, n);
+    if state != 0 && n <= 1 << 20 {
+        let mut r = Rng64::new(state);
+        let drawn = (0..n).fold(state, |_, _| r.next_u64());
+        assert_eq!(x, drawn, "squares against draws");
+    }
+    x
+}
+
 /// Leaves: each line is answered by itself and its value. CLAMP gives std's clamp and apply's clamp.
 pub fn leaf() {
+    let squares = Squares::new();
     let f = |x: &str| f64::from_bits(u64::from_str_radix(x, 16).unwrap());
     for l in std::io::stdin().lock().lines() {
         let l = l.unwrap();
@@ -31,6 +68,10 @@ pub fn leaf() {
                     u = q.next_f64();
                 }
                 format!("{:016x} {}", x, hx(u))
+            }
+            "JUMP" => {
+                let h = |x: &str| u64::from_str_radix(x, 16).unwrap();
+                format!("{:016x}", after_draws(&squares, h(t[1]), h(t[2])))
             }
             "UNIFORM" => hx(Rng64::new(u64::from_str_radix(t[1], 16).unwrap()).uniform(f(t[2]), f(t[3]))),
             "CLAMP" => format!("{} {}", hx(f(t[1]).clamp(f(t[2]), f(t[3]))), hx(apply_clamp(f(t[1]), f(t[2]), f(t[3])))),
@@ -103,6 +144,19 @@ pub fn gen_leaf(seed: u64, count: u64, out: &mut impl Write) {
                 writeln!(out, "CLAMP {:016x} {:016x} {:016x}", x.to_bits(), lo.to_bits(), hi.to_bits()).unwrap()
             }
         }
+    }
+}
+
+/// Lines JUMP: states of one bit, 0, all bits, and any; numbers of draws at and beside powers of two, few, and any.
+pub fn gen_jump(seed: u64, count: u64, out: &mut impl Write) {
+    for i in 0..count {
+        let mut g = G::new(seed ^ 0x10b9, i);
+        let (any, bit) = (g.next(), 1u64 << g.below(64));
+        let state = g.pick(&[any, any, any, bit, bit, 0, u64::MAX]);
+        let (any, power, few) = (g.next(), 1u64 << g.below(64), g.below(2000) as u64);
+        let shorter = any >> g.below(64);
+        let n = g.pick(&[any, any, shorter, shorter, power, power - 1, power + 1, few, 0, 1, 2, 63, 64, u64::MAX, u64::MAX - 1]);
+        writeln!(out, "JUMP {:016x} {:016x}", state, n).unwrap();
     }
 }
 
