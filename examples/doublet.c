@@ -52,9 +52,10 @@ int main(void) {
     LensResult result;
     if ((number = lens_fetch(&bench, 0, &result)) != LENS_DONE) return failed("fetch", number);
     if ((number = lens_release(&bench, 0)) != LENS_DONE) return failed("release", number);
-    printf("%llu turns, %zu finished, merit %g, at first %g, %llu iterations\n", (unsigned long long)turns, finished.count, result.final_merit, result.initial_merit,
-           (unsigned long long)result.iterations);
-    for (size_t i = 0; i < request.job.surface_count; i++) printf("surface %zu: radius %.6f thickness %.6f\n", i, result.surfaces[i].radius_mm, result.surfaces[i].thickness_mm);
+    printf("%ju turns, %zu finished, %ju iterations\n", (uintmax_t)turns, finished.count, (uintmax_t)result.iterations);
+    printf("merit %g, at first %g\n", result.final_merit, result.initial_merit);
+    for (size_t i = 0; i < request.job.surface_count; i++)
+        printf("surface %zu: radius %.6f thickness %.6f\n", i, result.surfaces[i].radius_mm, result.surfaces[i].thickness_mm);
 
     /* the merit that is printed is the merit of the surfaces that are handed back */
     LensJob job = request.job;

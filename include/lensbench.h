@@ -1,4 +1,4 @@
-/* lensbench.h: the lens bench for C and C++ on x86-64 Linux. Link liblensbench.a (front/lib builds it); beside that it needs memcpy, memmove and memset alone.
+/* lensbench.h: the lens bench for C and C++ on x86-64 Linux. Link liblensbench.a, which front/lib builds; it needs memcpy, memmove and memset, and nothing else.
  *
  * A bench has four places, 0 to 3. A job is admitted to an empty place and takes turns, one merit each, until a turn answers LENS_FINISHED; then its result
  * is fetched and its place released. Each job's number of turns is bounded beforehand. lens_evaluate and lens_trace need no bench.
@@ -41,7 +41,7 @@ enum LensLimits { LENS_PLACES = 4, LENS_SURFACES = 16, LENS_SLOTS = 4, LENS_VARI
 /* what a call answers */
 enum LensNumbers {
     LENS_DONE = 0,
-    LENS_BAD_COUNT = 1,      /* a count past its limit, no slot, a kind or a mark that is none, a row of rays that is not one per surface */
+    LENS_BAD_COUNT = 1,      /* a count past its limit, no slot, a kind, mark or bit that is none, a row of rays that is not one per surface */
     LENS_NO_SUCH_PLACE = 2,  /* place above 3 */
     LENS_BAD_LENS = 3,       /* radius NaN, conic not finite, thickness beyond +-1e9, pupil or semi-diameter not in (0, 1e9], index not in (0, 10] */
     LENS_BAD_VARIABLE = 4,   /* absent surface, bounds crossed or beyond +-1e9, step not in [0, 1e9], a semi-diameter's bound not above 0 */
@@ -71,8 +71,8 @@ enum LensOperandKinds {
     LENS_TRACK = 2,        /* neither is looked at */
     LENS_BACK_FOCUS = 3,   /* at: slot */
     LENS_MAGNIFICATION = 4, /* at: slot */
-    LENS_LEAST_CENTRE_THICKNESS = 5,   /* at: surface; the value is what is missing to the limit, as a negative number, or 0 */
-    LENS_GREATEST_CENTRE_THICKNESS = 6 /* at: surface; the value is what passes the limit, or 0 */
+    LENS_LEAST_CENTRE_THICKNESS = 5,   /* at: surface; the value is thickness - limit where that is negative, else 0; 100000 where the surface is absent */
+    LENS_GREATEST_CENTRE_THICKNESS = 6 /* at: surface; the value is thickness - limit where that is positive, else 0; 100000 where the surface is absent */
 };
 
 /* bits of LensRequest.given: the settings that are given; a setting without its bit has its default (damped job; multi-start's runs) */
@@ -157,9 +157,10 @@ typedef struct LensBench {
 } LensBench;
 
 LENS_ASSERT(sizeof(size_t) == 8 && sizeof(double) == 8, "lensbench.h is for x86-64");
-LENS_ASSERT(sizeof(LensSurface) == 32 && sizeof(LensVariable) == 48 && sizeof(LensOperand) == 40 && sizeof(LensSettings) == 88, "lensbench.h: a record has padding");
-LENS_ASSERT(sizeof(LensJob) == 2016 && sizeof(LensRequest) == 2032 && sizeof(LensResult) == 736, "lensbench.h: a record has padding");
-LENS_ASSERT(sizeof(LensEvaluation) == 200 && sizeof(LensRay) == 16 && sizeof(LensFinished) == 40 && sizeof(LensBench) == 18304, "lensbench.h: a record has padding");
+LENS_ASSERT(sizeof(LensSurface) == 32 && sizeof(LensVariable) == 48 && sizeof(LensOperand) == 40, "lensbench.h: a record has padding");
+LENS_ASSERT(sizeof(LensSettings) == 88 && sizeof(LensJob) == 2016 && sizeof(LensRequest) == 2032, "lensbench.h: a record has padding");
+LENS_ASSERT(sizeof(LensResult) == 736 && sizeof(LensEvaluation) == 200 && sizeof(LensRay) == 16, "lensbench.h: a record has padding");
+LENS_ASSERT(sizeof(LensFinished) == 40 && sizeof(LensBench) == 18304, "lensbench.h: a record has padding");
 
 /* LENS_ABI of the library that is linked */
 uint32_t lens_abi(void);

@@ -1,85 +1,344 @@
-/* Refused calls on a bench that is lent: the number, and that no byte of bench, result or scratch has changed. The lines are jobs
-   with one fault each (oracle/README.md), and beside them come the numbers that the oracle refuses them with.
-   Usage: lent NUMBERS < jobs. Prints how many calls of each kind were tried; ends with status 1 at the first that is wrong. */
-#include "../speed/bench.h"
+/* The exported calls from C, against the oracle's answers to the same job lines (oracle/README.md): each result bit for bit, each refusal's number; and
+   after every refused call, and every listing, every byte of bench, result, evaluation, rays and scratch as it was, with a NaN of another payload in each
+   f64 of theirs. Usage: lent ANSWERS < lines. Prints how many calls of each sort were tried; ends with status 1 at the first that is wrong. */
+#include "lines.h"
+#include "rows.h"
+#include <stdarg.h>
 
-static Bench bench, before;
-static OptimizationResult result, old;
-static double scratch[300], was[300];
+enum { LONG = 300 };
+static struct Lent {
+    Bench bench;
+    LensResult result;
+    LensEvaluation evaluation;
+    LensRay rays[LENS_SURFACES + 1];
+    double scratch[LONG];
+} now, before, safe;
 
-static void fail(const char *what, size_t line, uint32_t number) {
-    printf("lent: line %zu: %s: number %u, or something has changed\n", line, what, number);
+static Line line;
+static size_t lines, skipped, admits, turns, fetches, releases, listings, evaluations, traces, results;
+static int finished[4]; /* the places whose jobs are at their end */
+
+static void fail(const char *what, ...) {
+    va_list rest;
+    va_start(rest, what);
+    printf("lent: line %zu (%s): ", lines, line.name);
+    vprintf(what, rest);
+    printf("\n");
+    va_end(rest);
     exit(1);
 }
 
-static void keep(void) {
-    memcpy(&before, &bench, sizeof bench);
-    memcpy(&old, &result, sizeof result);
-    memcpy(was, scratch, sizeof scratch);
+static void mark_lent(void) {
+    MARK(now.result.surfaces), MARK(now.result.values), MARK(now.result.residuals), MARK(now.result.initial_merit), MARK(now.result.final_merit);
+    MARK(now.evaluation), MARK(now.rays), MARK(now.scratch);
 }
 
-static int kept(void) {
-    return memcmp(&before, &bench, sizeof bench) == 0 && memcmp(&old, &result, sizeof result) == 0 && memcmp(was, scratch, sizeof scratch) == 0;
+static void keep(void) { memcpy(&before, &now, sizeof now); }
+static int kept(void) { return memcmp(&before, &now, sizeof now) == 0; }
+
+static void expect(const char *what, uint32_t number, uint32_t wanted) {
+    if (number != wanted) fail("%s: number %u, not %u", what, number, wanted);
+    if (!kept()) fail("%s: something has changed", what);
 }
 
-static void expect(const char *what, size_t line, uint32_t number, uint32_t wanted) {
-    if (number != wanted || !kept()) fail(what, line, number);
+/* the bench with all f64 marked but those of the row at `place` that its answers hang on; 4 for all of them */
+static void mark_all(size_t place) {
+    memcpy(&safe, &now, sizeof now);
+    for (size_t p = 0; p < 4; p++) {
+        if (p == place) mark_unlooked(&now.bench.rows[p]);
+        else mark_row(&now.bench.rows[p]);
+    }
+    mark_lent();
+    keep();
+}
+static void restore(void) { memcpy(&now, &safe, sizeof now); }
+
+/* a refused call, on a bench so marked */
+#define UNLOOKED(what, call, wanted, place) (mark_all(place), expect(what, call, wanted), restore())
+#define ALL(what, call, wanted) UNLOOKED(what, call, wanted, 4)
+
+/* the listing: each of these places once, no other, 0 past them; and nothing changes */
+static void listed(const int *places) {
+    keep();
+    LensFinished f = lens_finished_places(&now.bench.lent);
+    int seen[4] = {0};
+    if (!kept()) fail("listing: something has changed");
+    if (f.count > 4) fail("listing: count %zu", f.count);
+    for (size_t i = 0; i < 4; i++) {
+        if (i >= f.count && f.places[i] != 0) fail("listing: place %zu past the count", f.places[i]);
+        if (i < f.count && (f.places[i] > 3 || seen[f.places[i]]++)) fail("listing: place %zu again, or none", f.places[i]);
+    }
+    for (size_t p = 0; p < 4; p++)
+        if (seen[p] != places[p]) fail("listing: place %zu is %s", p, seen[p] ? "listed" : "missing");
+    listings++;
+}
+/* as it is; with what it does not hang on marked; and with all marked, when no row is left undamaged */
+static void lists(void) {
+    static const int none[4];
+    listed(finished);
+    memcpy(&safe, &now, sizeof now);
+    for (size_t p = 0; p < 4; p++) mark_unlooked(&now.bench.rows[p]);
+    listed(finished);
+    for (size_t p = 0; p < 4; p++) mark_row(&now.bench.rows[p]);
+    listed(none);
+    restore();
+}
+
+/* ---- answers, as the oracle writes them */
+static char *out;
+static void say(const char *form, ...) {
+    va_list rest;
+    va_start(rest, form);
+    out += vsprintf(out, form, rest);
+    va_end(rest);
+}
+static void say_number(double x) {
+    uint64_t b;
+    memcpy(&b, &x, 8);
+    if (x != x) say(" nan");
+    else say(" %016jx", (uintmax_t)b);
+}
+static void say_numbers(const char *what, const double *x, size_t many) {
+    say(" %s %zu", what, many);
+    for (size_t i = 0; i < many; i++) say_number(x[i]);
+}
+static char ours[65536];
+static void begin(void) { out = ours, say("R %s %ju", line.name, (uintmax_t)line.request.kind); }
+/* the answer as far as it is ours: without the digest, and without the properties that come after a trace */
+static void compare(const char *answer) {
+    const char *rest = answer + strlen(ours);
+    if (strncmp(ours, answer, strlen(ours)) != 0 || (strchr("\n", *rest) == NULL && strncmp(rest, " H ", 3) != 0 && strncmp(rest, " P ", 3) != 0))
+        fail("another answer than the oracle's:\n%s\n%s", ours, answer);
+    results++;
+}
+static int all_zero(const void *from, size_t many) {
+    for (size_t i = 0; i < many; i++)
+        if (((const unsigned char *)from)[i] != 0) return 0;
+    return 1;
+}
+
+/* ---- a job on the bench */
+static void admit(size_t place, const LensRequest *asked, uint32_t wanted, const char *what) {
+    ALL(what, lens_admit(&now.bench.lent, place, asked), wanted);
+    ALL(what, lens_admit(&now.bench.lent, 4 + lines, asked), wanted == LENS_BAD_COUNT ? LENS_BAD_COUNT : LENS_NO_SUCH_PLACE);
+    ALL(what, lens_admit(&now.bench.lent, SIZE_MAX, asked), wanted == LENS_BAD_COUNT ? LENS_BAD_COUNT : LENS_NO_SUCH_PLACE);
+    admits += 3;
+}
+
+/* numbers that are no kind, no mark, no count and no bit: 1, whatever else is wrong */
+static void admit_none(size_t place) {
+    static const uint64_t none[] = {7, 11, 64, 1ull << 32, UINT64_MAX}, past[] = {17, 18, 1ull << 32, 1ull << 63, UINT64_MAX};
+    LensRequest asked = line.request;
+    LensJob *j = &asked.job;
+    struct { uint64_t *at; const uint64_t *values; const char *what; } tries[] = {
+        {&asked.kind, none, "a kind of job that is none"},
+        {&j->variables[0].kind, none, "a kind of variable that is none"},
+        {&j->variables[0].enabled, none, "a mark that is none"},
+        {&j->operands[0].kind, none, "a kind of operand that is none"},
+        {&j->surface_count, past, "surfaces past the limit"},
+        {&j->slot_count, past, "slots past the limit"},
+        {&j->variable_count, past, "variables past the limit"},
+        {&j->operand_count, past, "operands past the limit"},
+    };
+    for (size_t t = 0; t < sizeof tries / sizeof *tries; t++) {
+        uint64_t was = *tries[t].at;
+        for (size_t i = 0; i < 5; i++) *tries[t].at = tries[t].values[i], admit(place, &asked, LENS_BAD_COUNT, tries[t].what);
+        *tries[t].at = was;
+    }
+    asked.kind = 0, admit(place, &asked, LENS_BAD_COUNT, "kind 0"), asked.kind = line.request.kind;
+    for (int bit = 11; bit < 64; bit++) asked.given = line.request.given | 1ull << bit, admit(place, &asked, LENS_BAD_COUNT, "a bit that names no setting");
+}
+
+/* what stands past the counts, in settings that are not given and in an empty row has no part in what is admitted */
+static void admit_marked(size_t place) {
+    LensRequest asked = line.request;
+    LensJob *j = &asked.job;
+    if (lens_admit(&now.bench.lent, place, &asked) != LENS_DONE) fail("admit: refused");
+    Row row = now.bench.rows[place];
+    mark_entries(j, j->surface_count, j->variable_count, j->operand_count);
+    uint64_t *setting = &j->settings.max_iterations;
+    for (int i = 0; i < 11; i++)
+        if (!(asked.given >> i & 1)) setting[i] = 0x7ff4dead00000000 + i;
+    memset(&now.bench.rows[place], 0xa5, sizeof(Row));
+    now.bench.rows[place].kind = 0;
+    if (lens_admit(&now.bench.lent, place, &asked) != LENS_DONE) fail("admit: refused, with marks where nothing is looked at");
+    if (memcmp(&now.bench.rows[place], &row, sizeof row) != 0) fail("admit: marks have come into the row");
+}
+
+static void fetch(size_t place, uint64_t taken, const char *answer) {
+    LensJob *j = &line.request.job;
+    mark_lent();
+    keep();
+    if (lens_fetch(&now.bench.lent, place, &now.result) != LENS_DONE) fail("fetch: refused");
+    LensResult r = now.result;
+    now.result = before.result;
+    if (!kept()) fail("fetch: something else has changed");
+    begin(), say(" M"), say_number(r.initial_merit), say_number(r.final_merit);
+    say(" N %ju %ju %ju S %ju", (uintmax_t)r.iterations, (uintmax_t)r.converged, (uintmax_t)taken, (uintmax_t)j->surface_count);
+    for (size_t i = 0; i < 4 * j->surface_count; i++) say_number((&r.surfaces[0].radius_mm)[i]);
+    say_numbers("V", r.values, j->operand_count), say_numbers("D", r.residuals, j->operand_count);
+    compare(answer);
+    if (!all_zero(r.surfaces + j->surface_count, (16 - j->surface_count) * 32) || !all_zero(r.values + j->operand_count, (12 - j->operand_count) * 8)
+        || !all_zero(r.residuals + j->operand_count, (12 - j->operand_count) * 8)) fail("fetch: not zero past the counts");
+}
+
+static void clear(size_t place) {
+    if (!finished[place]) return;
+    keep();
+    if (lens_release(&now.bench.lent, place) != LENS_DONE) fail("release: refused");
+    if (!all_zero(&now.bench.rows[place], sizeof(Row))) fail("release: the row is not zero");
+    now.bench.rows[place] = before.bench.rows[place];
+    if (!kept()) fail("release: something else has changed");
+    memset(&now.bench.rows[place], 0, sizeof(Row));
+    finished[place] = 0;
+}
+
+static void job(uint32_t wanted, const char *answer) {
+    size_t place = lines & 3;
+    LensRequest *asked = &line.request;
+    clear(place);
+    lists();
+    if (wanted != 0) { admit(place, asked, wanted, "admit"); return; }
+    ALL("turn of an empty place", lens_turn(&now.bench.lent, place, now.scratch, LONG), LENS_EMPTY);
+    ALL("fetch of an empty place", lens_fetch(&now.bench.lent, place, &now.result), LENS_EMPTY);
+    ALL("release of an empty place", lens_release(&now.bench.lent, place), LENS_EMPTY);
+    if (results % 16 == 0) admit_none(place);
+    admit_marked(place);
+    ALL("admit to a place that is taken", lens_admit(&now.bench.lent, place, asked), LENS_TAKEN);
+    ALL("turn with little scratch", lens_turn(&now.bench.lent, place, now.scratch, 255), LENS_SHORT_SCRATCH);
+    ALL("turn with no scratch", lens_turn(&now.bench.lent, place, now.scratch, 0), LENS_SHORT_SCRATCH);
+    ALL("turn, no such place", lens_turn(&now.bench.lent, 4, now.scratch, LONG), LENS_NO_SUCH_PLACE);
+    ALL("turn, no such place and no scratch", lens_turn(&now.bench.lent, SIZE_MAX, now.scratch, 0), LENS_NO_SUCH_PLACE);
+    ALL("fetch, no such place", lens_fetch(&now.bench.lent, SIZE_MAX, &now.result), LENS_NO_SUCH_PLACE);
+    ALL("release, no such place", lens_release(&now.bench.lent, 4), LENS_NO_SUCH_PLACE);
+    ALL("turn of a damaged row", lens_turn(&now.bench.lent, place, now.scratch, LONG), LENS_DAMAGED);
+    ALL("fetch of a damaged row", lens_fetch(&now.bench.lent, place, &now.result), LENS_DAMAGED);
+    admits += 3, turns += 6, fetches += 3, releases += 2;
+    uint64_t taken = 0;
+    for (;; taken++) {
+        if (taken < 4 || taken % 64 == 0) {
+            uint32_t number = lens_fetch(&now.bench.lent, place, &now.result);
+            if (number == LENS_DONE) break;
+            UNLOOKED("fetch before the end", lens_fetch(&now.bench.lent, place, &now.result), LENS_UNFINISHED, place);
+            lists();
+            fetches++;
+        }
+        MARK(now.scratch);
+        memcpy(before.scratch, now.scratch, sizeof now.scratch);
+        uint32_t number = lens_turn(&now.bench.lent, place, now.scratch, LONG);
+        if (number == LENS_FINISHED) break;
+        if (number != LENS_DONE) fail("turn: refused with %u", number);
+        if (!all_zero(now.scratch, LENS_SCRATCH * 8)) fail("turn: scratch is not +0.0");
+        if (memcmp(now.scratch + LENS_SCRATCH, before.scratch + LENS_SCRATCH, (LONG - LENS_SCRATCH) * 8) != 0) fail("turn: scratch past 256 has changed");
+    }
+    finished[place] = 1;
+    lists();
+    UNLOOKED("turn at the end", lens_turn(&now.bench.lent, place, now.scratch, LONG), LENS_FINISHED, place);
+    ALL("admit to a finished place", lens_admit(&now.bench.lent, place, asked), LENS_TAKEN);
+    uint64_t iteration = now.bench.rows[place].damped.iteration;
+    now.bench.rows[place].damped.iteration = 1 + (1ull << 40);
+    UNLOOKED("turn of a row with a counter past its limit", lens_turn(&now.bench.lent, place, now.scratch, LONG), LENS_DAMAGED, place);
+    UNLOOKED("fetch of a row with a counter past its limit", lens_fetch(&now.bench.lent, place, &now.result), LENS_DAMAGED, place);
+    now.bench.rows[place].damped.iteration = iteration;
+    turns += 2, fetches += 1, admits += 1;
+    fetch(place, taken, answer);
+}
+
+/* ---- a lens by itself */
+static void evaluate(uint32_t wanted, const char *answer) {
+    LensJob job = line.request.job, *j = &job;
+    if (wanted != 0) {
+        ALL("evaluate", lens_evaluate(j, &now.evaluation), wanted);
+        evaluations++;
+        return;
+    }
+    if (j->operand_count > 0) {
+        LensJob none = job;
+        none.operands[j->operand_count - 1].kind = 7 + lines;
+        ALL("evaluate, a kind of operand that is none", lens_evaluate(&none, &now.evaluation), LENS_BAD_COUNT);
+        evaluations++;
+    }
+    /* nothing else in the record has a part in it */
+    memset(j->variables, 0xa5, sizeof j->variables), memset(&j->settings, 0xa5, sizeof j->settings), j->variable_count = lines;
+    mark_entries(j, j->surface_count, 8, j->operand_count);
+    mark_lent();
+    keep();
+    if (lens_evaluate(j, &now.evaluation) != LENS_DONE) fail("evaluate: refused");
+    LensEvaluation e = now.evaluation;
+    now.evaluation = before.evaluation;
+    if (!kept()) fail("evaluate: something else has changed");
+    begin(), say(" M"), say_number(e.total_merit), say_numbers("V", e.values, j->operand_count), say_numbers("D", e.residuals, j->operand_count);
+    compare(answer);
+    if (!all_zero(e.values + j->operand_count, (12 - j->operand_count) * 8) || !all_zero(e.residuals + j->operand_count, (12 - j->operand_count) * 8))
+        fail("evaluate: not zero past the count");
+}
+
+static void trace(uint32_t wanted, int fails, const char *answer) {
+    LensJob job = line.request.job, *j = &job;
+    size_t many = j->surface_count > LENS_SURFACES ? LENS_SURFACES + 1 : j->surface_count;
+    if (wanted != 0 || fails) {
+        ALL("trace", lens_trace(j, line.slot, now.rays, many), fails ? LENS_NOT_TRACED : wanted);
+        traces++;
+        if (!fails) return;
+    }
+    for (size_t n = 0; n <= LENS_SURFACES + 1; n++)
+        if (n != many) {
+            ALL("trace into a row of another length", lens_trace(j, line.slot, now.rays, n), LENS_BAD_COUNT);
+            traces++;
+        }
+    if (fails) return;
+    memset(j->variables, 0xa5, sizeof j->variables), memset(j->operands, 0xa5, sizeof j->operands), memset(&j->settings, 0xa5, sizeof j->settings);
+    j->variable_count = lines, j->operand_count = UINT64_MAX - lines;
+    mark_entries(j, j->surface_count, 8, 12);
+    mark_lent();
+    keep();
+    if (lens_trace(j, line.slot, now.rays, many) != LENS_DONE) fail("trace: refused");
+    LensRay rays[LENS_SURFACES];
+    memcpy(rays, now.rays, many * sizeof *rays), memcpy(now.rays, before.rays, many * sizeof *rays);
+    if (!kept()) fail("trace: something else has changed");
+    begin(), say(" ok T %zu", many);
+    for (size_t i = 0; i < many; i++) say_number(rays[i].y), say_number(rays[i].u);
+    compare(answer);
+}
+
+/* the next answer, if it is to this line; a line that is out of form has none */
+static int is_answer(const char *answer, const char *to) {
+    const char *a = strchr(answer, ' '), *t = strchr(to, ' ');
+    size_t n = 0;
+    for (int spaces = 0; a && t && t[n] && (spaces += t[n] == ' ') < 3; n++) continue;
+    return answer[0] == 'R' && n > 0 && strncmp(a, t, n) == 0 && a[n] == ' ';
 }
 
 int main(int argc, char **argv) {
-    FILE *numbers = argc > 1 ? fopen(argv[1], "r") : NULL;
-    if (!numbers) { fprintf(stderr, "lent: no file of numbers\n"); return 1; }
-    memset(&result, 0xa5, sizeof result);
-    for (int i = 0; i < 300; i++) scratch[i] = i + 0.5;
-    Scratch lent = {scratch, 300}, little = {scratch, 255};
-    char *line = NULL;
-    size_t length = 0, lines = 0, admits = 0, turns = 0, fetches = 0, releases = 0;
-    unsigned wanted;
-    static RequestRecord asked;
-    while (getline(&line, &length, stdin) > 0) {
-        if (line[0] != 'J') continue;
-        if (fscanf(numbers, "%u", &wanted) != 1) { fprintf(stderr, "lent: a number is missing\n"); return 1; }
+    FILE *answers = argc > 1 ? fopen(argv[1], "r") : NULL;
+    if (!answers) { fprintf(stderr, "lent: no file of answers\n"); return 1; }
+    if (lens_abi() != LENS_ABI) { fprintf(stderr, "lent: the library has ABI %u, the header %d\n", lens_abi(), LENS_ABI); return 1; }
+    char *text = NULL, *answer = NULL;
+    size_t room = 0, answer_room = 0;
+    int there = getline(&answer, &answer_room, answers) > 0;
+    while (getline(&text, &room, stdin) > 0) {
+        while (there && answer[0] != 'R') there = getline(&answer, &answer_room, answers) > 0;
+        if (text[0] != 'J' || !there || !is_answer(answer, text)) continue;
         lines++;
-        if (!read_job(line, &asked) && wanted != 1) fail("too many entries", lines, wanted);
-        size_t place = lines & 3;
-        if (wanted != 0) {
-            keep();
-            expect("admit", lines, admit_record(&bench, place, &asked), wanted);
-            expect("admit, no such place", lines, admit_record(&bench, 4 + lines, &asked), wanted == 1 ? 1 : 2);
-            admits += 2;
-            continue;
-        }
-        keep();
-        expect("turn of an empty place", lines, turn(&bench, place, lent), 11);
-        expect("fetch of an empty place", lines, fetch(&bench, place, &result), 11);
-        expect("release of an empty place", lines, release(&bench, place), 11);
-        if (admit_record(&bench, place, &asked) != 0) fail("admit", lines, 0);
-        keep();
-        expect("admit to a place that is taken", lines, admit_record(&bench, place, &asked), 10);
-        expect("turn with little scratch", lines, turn(&bench, place, little), 9);
-        expect("turn, no such place", lines, turn(&bench, 4, lent), 2);
-        expect("fetch before the end", lines, fetch(&bench, place, &result), 14);
-        expect("fetch, no such place", lines, fetch(&bench, SIZE_MAX, &result), 2);
-        expect("release, no such place", lines, release(&bench, 4), 2);
-        while (turn(&bench, place, lent) == 0)
-            for (int i = 0; i < 300; i++) {
-                if (i < 256 ? scratch[i] != 0.0 : scratch[i] != i + 0.5) fail("scratch after a turn", lines, i);
-                if (i < 256) scratch[i] = i + 0.5;
-            }
-        keep();
-        expect("turn at the end", lines, turn(&bench, place, lent), 13);
-        uint64_t iterations = bench.rows[place].damped.iteration;
-        bench.rows[place].damped.iteration = 1 + (1ull << 40);
-        keep();
-        expect("turn of a damaged row", lines, turn(&bench, place, lent), 12);
-        expect("fetch of a damaged row", lines, fetch(&bench, place, &result), 12);
-        bench.rows[place].damped.iteration = iterations;
-        if (fetch(&bench, place, &result) != 0) fail("fetch", lines, 0);
-        if (release(&bench, place) != 0) fail("release", lines, 0);
-        static Row zero;
-        if (memcmp(&bench.rows[place], &zero, sizeof zero) != 0) fail("release", lines, 0);
-        admits += 1, turns += 5, fetches += 4, releases += 2;
+        int whole = read_line(text, &line);
+        unsigned wanted = 0;
+        const char *refused = strstr(answer, " refused ");
+        if (refused) wanted = (unsigned)atoi(refused + 9);
+        if (!whole && wanted != LENS_BAD_COUNT) fail("too many entries, and refused with %u", wanted);
+        LensJob *j = &line.request.job;
+        if (line.request.kind <= 3) job(wanted, answer);
+        /* too many of what a call does not take are refused by the oracle alone */
+        else if (j->variable_count > 8 || (line.request.kind == 5 && j->operand_count > 12)) skipped++;
+        else if (line.request.kind == 4) evaluate(wanted, answer);
+        else trace(wanted, strstr(answer, " failed") != NULL, answer);
+        there = getline(&answer, &answer_room, answers) > 0;
     }
-    printf("refused as they must be, nothing changed: admit %zu, turn %zu, fetch %zu, release %zu (lines %zu)\n", admits, turns, fetches, releases, lines);
+    while (there && answer[0] != 'R') there = getline(&answer, &answer_room, answers) > 0;
+    if (there) { fprintf(stderr, "lent: an answer has no line: %s", answer); return 1; }
+    free(text), free(answer), fclose(answers);
+    if (lines == 0) { fprintf(stderr, "lent: no line has an answer\n"); return 1; }
+    printf("%zu lines (%zu skipped), %zu results the oracle's; refused as they must be, nothing changed: ", lines, skipped, results);
+    printf("admit %zu, turn %zu, fetch %zu, release %zu, ", admits, turns, fetches, releases);
+    printf("evaluate %zu, trace %zu; listings %zu\n", evaluations, traces, listings);
     return 0;
 }

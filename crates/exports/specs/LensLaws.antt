@@ -22,7 +22,8 @@ stays (suc n) new old h = refl
 
 -- ---- by value
 module _ (j : JobRecord) where
-  with-number : (n : ℕ) → evaluateRecordNumber j ≡ n → _≡_ {A = Evaluated} (record { evaluation = unlessRefused n (lensEvaluation (lensOf j) (functionOf j)) zeroEvaluation; number = n }) (recordEvaluated j)
+  with-number : (n : ℕ) → evaluateRecordNumber j ≡ n →
+      _≡_ {A = Evaluated} (record { evaluation = unlessRefused n (lensEvaluation (lensOf j) (functionOf j)) zeroEvaluation; number = n }) (recordEvaluated j)
   unfolding recordEvaluated
   with-number n e = λ i. record { evaluation = unlessRefused (sym e i) (lensEvaluation (lensOf j) (functionOf j)) zeroEvaluation; number = sym e i }
 
@@ -40,7 +41,8 @@ module _ (j : JobRecord) (old : MeritEvaluation) where
   unfolding recordEvaluated
   record-kept h = (refl, stays (evaluateRecordNumber j) (lensEvaluation (lensOf j) (functionOf j)) old h)
 
-  pub record-stored : recordEvaluated j .number ≤ 0 → (recordEvaluated j .number ≡ evaluateRecordNumber j) × (recordEvaluated j .evaluation ≡ evaluatedRecord old j)
+  pub record-stored : recordEvaluated j .number ≤ 0 →
+      (recordEvaluated j .number ≡ evaluateRecordNumber j) × (recordEvaluated j .evaluation ≡ evaluatedRecord old j)
   unfolding recordEvaluated
   record-stored h =
       let z = none (evaluateRecordNumber j) h in

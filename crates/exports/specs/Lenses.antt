@@ -1,4 +1,5 @@
--- A lens by itself, in numbers alone: the lens and the operands of a job's record. What else stands there, variables and settings, is not looked at. Definitions only.
+-- A lens by itself, in numbers alone: the lens and the operands of a job's record. What else stands there, variables and settings, is not looked at.
+-- Definitions only.
 use Prim.Native.Nat.{ℕ}
 use mathlib.Core.Bool.{Bool, not, cond, _&&_}
 use mathlib.Core.List.{List}

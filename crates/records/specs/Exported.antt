@@ -1,5 +1,5 @@
--- The exported calls: 01's, with admission by a record of numbers, as a caller in C makes them. A list of them is a list of 01's calls, and each call of 01 can be
--- made by one of them: so `Demand3` (bench) is about all that such a caller can do. Definitions only; the proof is `exported-are-calls` in `Proved`.
+-- The exported calls: 01's, with admission by a record of numbers, as a caller in C makes them. A list of them is a list of 01's calls, and each call of 01
+-- can be made by one of them: so `Demand3` (bench) is about all that such a caller can do. Definitions only; the proof is `exported-are-calls` in `Proved`.
 use mathlib.Core.Path.{_≡_}
 use mathlib.Core.Bool.{Bool, true, false, cond}
 use mathlib.Core.List.{List, [], _∷_, _++_}
@@ -87,9 +87,9 @@ toCalls [] answers = []
 toCalls (c ∷ cs) [] = []
 toCalls (c ∷ cs) (a ∷ answers) = cond (isCall c) (a ∷ toCalls cs answers) (toCalls cs answers)
 
--- ---- The record of a request: its numbers, with every setting given
+-- ---- The record of a request: its job in numbers, with every setting given
 abbrev pub recordFor : JobRequest → RequestRecord
-recordFor r = record { job = recordOf (filled r); kind = kindOf (filled r); given = allGiven }
+recordFor r = record { job = recordOf (jobFrom r); kind = kindOf (jobFrom r); given = allGiven }
 
 pub record ExportedAreCalls : Type 0 where
   -- a list of exported calls leaves the bench that the calls of 01 leave which it is, and has their answers
@@ -102,4 +102,5 @@ pub record ExportedAreCalls : Type 0 where
   pub asked : (r : JobRequest) → countsTaken (filled r) ≡ true → (isRequest (recordFor r) ≡ true) × (jobFrom (requestOf (recordFor r)) ≡ jobFrom r)
   -- and whatever its counts, the record's admission has the answer and leaves the bench of the request's
   pub admits : (b : Bench) (place : ℕ) (r : JobRequest) →
-      (exportedAnswer b (admitRecord place (recordFor r)) ≡ benchAnswer b (Book.admit place r)) × (exportedStep b (admitRecord place (recordFor r)) ≡ benchStep b (Book.admit place r))
+      (exportedAnswer b (admitRecord place (recordFor r)) ≡ benchAnswer b (Book.admit place r))
+      × (exportedStep b (admitRecord place (recordFor r)) ≡ benchStep b (Book.admit place r))

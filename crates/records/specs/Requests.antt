@@ -55,12 +55,18 @@ annealingRequest s given = record {
 }
 
 unfoldable pub methodRequest : (kind : ℕ) → SettingsRecord → (given : ℕ) → MethodRequest
-methodRequest kind s given = cond (eqb kind 1) (Damped (dlsRequest s given)) (cond (eqb kind 2) (MultiStart (multiStartRequest s given)) (Annealing (annealingRequest s given)))
+methodRequest kind s given =
+    cond (eqb kind 1) (Damped (dlsRequest s given)) (cond (eqb kind 2) (MultiStart (multiStartRequest s given)) (Annealing (annealingRequest s given)))
 
 unfoldable pub requestOf : RequestRecord → JobRequest
 requestOf q =
     let job = jobOf (q .kind) (q .job) in
-    record { prescription = job .prescription; variables = job .variables; «merit_function» = job .«merit_function»; method = methodRequest (q .kind) (q .job .settings) (q .given) }
+    record {
+      prescription = job .prescription;
+      variables = job .variables;
+      «merit_function» = job .«merit_function»;
+      method = methodRequest (q .kind) (q .job .settings) (q .given);
+    }
 
 -- a bit for each of the eleven settings, all set
 abbrev pub allGiven : ℕ

@@ -1,7 +1,8 @@
 // A job as it is asked for, in numbers alone: what a caller in C has, who knows no enum.
 ghost use mathlib.Core.Path.{_≡_};
 ghost use Prim.Native.Nat.{ℕ, _<_};
-ghost use Rattle.records.specs.Requests.{isGiven, countSetting, numberSetting, dlsRequest, multiStartRequest, annealingRequest, methodRequest, requestOf, isRequest};
+ghost use Rattle.records.specs.Requests.{isGiven, countSetting, numberSetting, dlsRequest, multiStartRequest, annealingRequest};
+ghost use Rattle.records.specs.Requests.{methodRequest, requestOf, isRequest};
 use crate::types::RequestRecord;
 use jobs::CountSetting;
 use jobs::DlsRequest;
@@ -113,7 +114,7 @@ pub fn request_of(asked: RequestRecord) -> JobRequest
     }
 }
 
-// Whether each number for a kind is one.
+// Whether each number for a kind is one, and each bit of `given` names a setting.
 pub fn is_request(asked: RequestRecord) -> bool
     ensures { λ r. ⌜ r ≡ isRequest asked ⌝ }
 {
