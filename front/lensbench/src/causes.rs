@@ -100,8 +100,12 @@ fn counts(found: &mut Found, job: &Job) {
     most(lens.surfaces.len(), SURFACES, Part::Surface(SURFACES), "surfaces");
     most(job.variables.len(), VARIABLES, Part::Variable(VARIABLES), "variables");
     most(job.operands.len(), OPERANDS, Part::Operand(OPERANDS), "operands");
-    found.test((1..=SLOTS).contains(&lens.slots), Refusal::Counts, Part::Slots, || format!("{}: a job has 1 to {SLOTS}", counted(lens.slots, "slot", "slots")));
-    found.test(lens.indices.len() == lens.surfaces.len(), Refusal::Counts, Part::Job, || "the lists of indices are not one for each surface".to_string());
+    found.test((1..=SLOTS).contains(&lens.slots), Refusal::Counts, Part::Slots, || {
+        format!("{}: a job has 1 to {SLOTS}", counted(lens.slots, "slot", "slots"))
+    });
+    found.test(lens.indices.len() == lens.surfaces.len(), Refusal::Counts, Part::Job, || {
+        "the lists of indices are not one for each surface".to_string()
+    });
     for (i, indices) in lens.indices.iter().enumerate() {
         found.test(indices.len() == lens.slots, Refusal::Counts, Part::Surface(i), || {
             format!("surface {} has {} for {}", i + 1, counted(indices.len(), "index", "indices"), counted(lens.slots, "slot", "slots"))

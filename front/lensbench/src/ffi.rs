@@ -164,8 +164,10 @@ const _: () = assert!(size_of::<ResultRecord>() == 736 && size_of::<EvaluationRe
 const _: () = assert!(size_of::<FinishedRecord>() == 40 && size_of::<BenchRecord>() == 18304);
 // and where the parts of the larger records begin
 const _: () = assert!(offset_of!(JobRecord, indices) == 512 && offset_of!(JobRecord, variables) == 1024 && offset_of!(JobRecord, operands) == 1408);
-const _: () = assert!(offset_of!(JobRecord, surface_count) == 1888 && offset_of!(JobRecord, settings) == 1928 && offset_of!(RequestRecord, kind) == 2016);
-const _: () = assert!(offset_of!(ResultRecord, values) == 512 && offset_of!(ResultRecord, initial_merit) == 704 && offset_of!(ResultRecord, iterations) == 720);
+const _: () =
+    assert!(offset_of!(JobRecord, surface_count) == 1888 && offset_of!(JobRecord, settings) == 1928 && offset_of!(RequestRecord, kind) == 2016);
+const _: () =
+    assert!(offset_of!(ResultRecord, values) == 512 && offset_of!(ResultRecord, initial_merit) == 704 && offset_of!(ResultRecord, iterations) == 720);
 
 extern "C" {
     fn lens_abi() -> u32;

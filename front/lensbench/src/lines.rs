@@ -124,7 +124,11 @@ impl<'a> Reader<'a> {
 
     fn tag(&mut self, tag: &str) -> Result<(), String> {
         let word = self.word(&format!("`{tag}`"))?;
-        if word == tag { Ok(()) } else { Err(format!("`{word}` stands where `{tag}` is due")) }
+        if word == tag {
+            Ok(())
+        } else {
+            Err(format!("`{word}` stands where `{tag}` is due"))
+        }
     }
 
     fn whole(&mut self, what: &str) -> Result<u64, String> {
@@ -230,7 +234,10 @@ impl<'a> Reader<'a> {
     fn settings(&mut self, kind: u64) -> Result<(Call, Run), String> {
         Ok(match kind {
             1 => (Call::Run, Run::Damped(self.damped()?)),
-            2 => (Call::Run, Run::MultiStart(MultiStart { local: self.damped()?, trials: self.setting("trials", decimal)?, seed: self.setting("seed", hex)? })),
+            2 => (
+                Call::Run,
+                Run::MultiStart(MultiStart { local: self.damped()?, trials: self.setting("trials", decimal)?, seed: self.setting("seed", hex)? }),
+            ),
             3 => (Call::Run, Run::Annealing(self.annealing()?)),
             4 => (Call::Evaluate, Run::default()),
             5 => (Call::Trace { slot: self.size("the slot")? }, Run::default()),

@@ -84,7 +84,7 @@ impl Refusal {
                 "a radius is a number, a conic finite, a thickness within 1e9, the pupil and semi-diameters above 0 and up to 1e9, indices above 0 and up to 10"
             }
             Refusal::Variable => {
-                "a variable is of a surface that is there, its bounds are within 1e9 and not crossed, its step is from 0 to 1e9, bounds of a semi-diameter are above 0"
+                "a variable is of a surface that is there, its bounds within 1e9 and not crossed, its step from 0 to 1e9, a semi-diameter's bounds above 0"
             }
             Refusal::Operand => "an operand is of a slot that is there, its target and limit are within 1e9, its weight is finite and not negative",
             Refusal::Setting => {

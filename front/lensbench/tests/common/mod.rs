@@ -29,12 +29,35 @@ impl Dice {
 }
 
 /// Numbers at and beyond the bounds of the refusals.
-const ODD: [f64; 18] =
-    [0.0, -0.0, 1.0, -1.0, 5e-324, 1e-16, 1e-12, 1e6, 1e8, 1.0000001e8, 1e9, -1e9, 1.0000001e9, 1e300, f64::MAX, f64::INFINITY, f64::NEG_INFINITY, f64::NAN];
+const ODD: [f64; 18] = [
+    0.0,
+    -0.0,
+    1.0,
+    -1.0,
+    5e-324,
+    1e-16,
+    1e-12,
+    1e6,
+    1e8,
+    1.0000001e8,
+    1e9,
+    -1e9,
+    1.0000001e9,
+    1e300,
+    f64::MAX,
+    f64::INFINITY,
+    f64::NEG_INFINITY,
+    f64::NAN,
+];
 
 fn surface(d: &mut Dice) -> Surface {
     let radius = if d.chance(5) { f64::INFINITY } else { d.between(8.0, 200.0) * d.pick(&[1.0, -1.0]) };
-    Surface { radius_mm: radius, conic_constant: d.pick(&[0.0, 0.0, -1.0, 0.5]), thickness_mm: d.between(0.0, 12.0), semi_diameter_mm: d.between(2.0, 20.0) }
+    Surface {
+        radius_mm: radius,
+        conic_constant: d.pick(&[0.0, 0.0, -1.0, 0.5]),
+        thickness_mm: d.between(0.0, 12.0),
+        semi_diameter_mm: d.between(2.0, 20.0),
+    }
 }
 
 fn lens(d: &mut Dice) -> Lens {
@@ -50,7 +73,8 @@ fn lens(d: &mut Dice) -> Lens {
 }
 
 fn variable(d: &mut Dice, lens: &Lens) -> Variable {
-    let quantity = d.pick(&[Quantity::Curvature, Quantity::Curvature, Quantity::Thickness, Quantity::Thickness, Quantity::Conic, Quantity::SemiDiameter]);
+    let quantity =
+        d.pick(&[Quantity::Curvature, Quantity::Curvature, Quantity::Thickness, Quantity::Thickness, Quantity::Conic, Quantity::SemiDiameter]);
     let mut variable = Variable::new(quantity, d.below(lens.surfaces.len().max(1)));
     variable.enabled = !d.chance(8);
     match quantity {
@@ -93,7 +117,11 @@ pub fn run(d: &mut Dice) -> Run {
     let (few, seed) = (d.below(5) as u64, d.next());
     match d.below(4) {
         0 | 1 => Run::Damped(damped(d)),
-        2 => Run::MultiStart(MultiStart { local: Damped { max_iterations: Some(few), ..damped(d) }, trials: Some(d.below(4) as u64), seed: some(d, 2, seed) }),
+        2 => Run::MultiStart(MultiStart {
+            local: Damped { max_iterations: Some(few), ..damped(d) },
+            trials: Some(d.below(4) as u64),
+            seed: some(d, 2, seed),
+        }),
         _ => {
             let (temperature, cooling) = (d.pick(&[0.0, 5.0, 500.0]), d.between(0.0, 1.0));
             Run::Annealing(Annealing {
@@ -173,7 +201,11 @@ fn odd_run(d: &mut Dice, odd: f64) -> Run {
         1 => Run::Damped(Damped { initial_damping: Some(odd), ..Damped::default() }),
         2 => Run::Damped(Damped { merit_tolerance: Some(odd), ..Damped::default() }),
         3 => Run::Damped(Damped { gradient_tolerance: Some(odd), ..Damped::default() }),
-        4 => Run::MultiStart(MultiStart { local: Damped { relative_step: Some(odd), max_iterations: few, ..Damped::default() }, trials: few, seed: None }),
+        4 => Run::MultiStart(MultiStart {
+            local: Damped { relative_step: Some(odd), max_iterations: few, ..Damped::default() },
+            trials: few,
+            seed: None,
+        }),
         5 => Run::MultiStart(MultiStart { local: Damped { max_iterations: Some(0), ..Damped::default() }, trials: count, seed: None }),
         6 => Run::Annealing(Annealing { temperature: Some(odd), ..Annealing::default() }),
         7 => Run::Annealing(Annealing { cooling_rate: Some(odd), ..Annealing::default() }),
@@ -202,7 +234,11 @@ fn kind(line: &Line) -> u8 {
 }
 
 fn word(x: f64) -> String {
-    if x.is_nan() { "nan".to_string() } else { bits(x) }
+    if x.is_nan() {
+        "nan".to_string()
+    } else {
+        bits(x)
+    }
 }
 
 fn list(tag: &str, numbers: &[f64]) -> String {
@@ -216,8 +252,21 @@ fn run_answer(line: &Line) -> Result<String, Refusal> {
     let turns = bench.play(Place(1))?;
     assert!(turns <= line.job.turn_bound(), "{}: {turns} turns, bound {}", line.id, line.job.turn_bound());
     let out = bench.fetch(Place(1))?;
-    let surfaces: String = out.surfaces.iter().flat_map(|s| [s.radius_mm, s.conic_constant, s.thickness_mm, s.semi_diameter_mm]).map(|x| format!(" {}", word(x))).collect();
-    let head = format!("R {} {} M {} {} N {} {} {turns}", line.id, kind(line), word(out.first_merit), word(out.final_merit), out.iterations, out.converged as u8);
+    let surfaces: String = out
+        .surfaces
+        .iter()
+        .flat_map(|s| [s.radius_mm, s.conic_constant, s.thickness_mm, s.semi_diameter_mm])
+        .map(|x| format!(" {}", word(x)))
+        .collect();
+    let head = format!(
+        "R {} {} M {} {} N {} {} {turns}",
+        line.id,
+        kind(line),
+        word(out.first_merit),
+        word(out.final_merit),
+        out.iterations,
+        out.converged as u8
+    );
     Ok(format!("{head} S {}{surfaces} {} {}", out.surfaces.len(), list("V", &out.values), list("D", &out.residuals)))
 }
 

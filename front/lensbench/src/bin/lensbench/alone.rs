@@ -40,7 +40,8 @@ pub fn trace(words: &[String]) -> Done {
         if let (Some(slot), []) = (slot, &wanted[..]) {
             return Err(format!("{}: no slot `{slot}`; there are {}", source.at(entry.lines.job), entry.slots.join(" ")));
         }
-        Ok(rays_of(source, &wanted).map(|rays| if args.has("--json") { json::traced(source, &rays) } else { traced(source, &rays, args.has("--bits")) }))
+        Ok(rays_of(source, &wanted)
+            .map(|rays| if args.has("--json") { json::traced(source, &rays) } else { traced(source, &rays, args.has("--bits")) }))
     })
 }
 

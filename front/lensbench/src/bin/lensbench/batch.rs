@@ -15,9 +15,16 @@ pub fn batch(words: &[String]) -> Done {
         return Err("batch takes one folder".to_string());
     };
     let into = args.one("--out")?.unwrap_or(folder);
-    std::fs::create_dir_all(into).map_err(|e| format!("{into}: {e}"))?;
     let files = lens_files(folder)?;
-    let work = Work { into: PathBuf::from(into), again: args.has("--again"), files, next: AtomicUsize::new(0), worst: AtomicU8::new(0), failure: Mutex::new(None) };
+    std::fs::create_dir_all(into).map_err(|e| format!("{into}: {e}"))?;
+    let work = Work {
+        into: PathBuf::from(into),
+        again: args.has("--again"),
+        files,
+        next: AtomicUsize::new(0),
+        worst: AtomicU8::new(0),
+        failure: Mutex::new(None),
+    };
     work.all(processes(args.one("--jobs")?)?)
 }
 
@@ -91,7 +98,8 @@ impl Work {
             return told(file, "done before");
         }
         let program = std::env::current_exe().map_err(|e| format!("this program: {e}"))?;
-        let ran = Command::new(program).args(["run", "--json", "--no-progress"]).arg(file).output().map_err(|e| format!("{}: {e}", file.display()))?;
+        let ran =
+            Command::new(program).args(["run", "--json", "--no-progress"]).arg(file).output().map_err(|e| format!("{}: {e}", file.display()))?;
         keep(&said, &ran.stderr)?;
         let status = ran.status.code().and_then(|code| u8::try_from(code).ok()).unwrap_or(2);
         if status <= 1 {

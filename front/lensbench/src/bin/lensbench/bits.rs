@@ -6,7 +6,8 @@ use lensbench::Surface;
 
 pub fn found(found: &Found) -> String {
     let (entry, outcome) = (found.entry(), found.outcome);
-    let mut text = format!("  bits: merit {} as given, {} at first, {} found\n", bits(found.given_merit), bits(outcome.first_merit), bits(outcome.final_merit));
+    let mut text =
+        format!("  bits: merit {} as given, {} at first, {} found\n", bits(found.given_merit), bits(outcome.first_merit), bits(outcome.final_merit));
     text += "  bits: radius, thickness, semi-diameter, conic of each surface\n";
     for (i, s) in outcome.surfaces.iter().enumerate() {
         text += &format!("    {} {}\n", i + 1, surface(s));

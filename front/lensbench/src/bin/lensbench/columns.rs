@@ -35,5 +35,9 @@ fn whole(cell: &str) -> usize {
     let digits = cell.trim_start_matches('-');
     let sign = cell.len() - digits.len();
     let many = digits.find(|c: char| !c.is_ascii_digit()).unwrap_or(digits.len());
-    if many == 0 { 0 } else { sign + many }
+    if many == 0 {
+        0
+    } else {
+        sign + many
+    }
 }

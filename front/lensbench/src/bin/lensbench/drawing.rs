@@ -9,7 +9,11 @@ const STEPS: i32 = 48;
 const HEIGHTS: [f64; 4] = [-1.0, -0.5, 0.5, 1.0];
 
 fn curvature(s: &Surface) -> f64 {
-    if s.radius_mm.is_infinite() || s.radius_mm.abs() < 1e-15 { 0.0 } else { 1.0 / s.radius_mm }
+    if s.radius_mm.is_infinite() || s.radius_mm.abs() < 1e-15 {
+        0.0
+    } else {
+        1.0 / s.radius_mm
+    }
 }
 
 /// How far a surface lies behind its vertex at a height, and the height to which it reaches.
@@ -22,7 +26,11 @@ fn sag(s: &Surface, y: f64) -> f64 {
 /// A sphere or ellipsoid ends where its tangent is across the axis.
 fn reach(s: &Surface) -> f64 {
     let (c, wide) = (curvature(s).abs(), 1.0 + s.conic_constant);
-    if c > 0.0 && wide > 0.0 { s.semi_diameter_mm.min(1.0 / (c * wide.sqrt())) } else { s.semi_diameter_mm }
+    if c > 0.0 && wide > 0.0 {
+        s.semi_diameter_mm.min(1.0 / (c * wide.sqrt()))
+    } else {
+        s.semi_diameter_mm
+    }
 }
 
 /// A lens laid out along its axis.
@@ -92,7 +100,11 @@ impl<'a> Layout<'a> {
             return end;
         }
         // a focus far away, or in front, is only hinted at
-        if focus > 0.0 && focus < 12.0 * size { end + focus } else { end + size }
+        if focus > 0.0 && focus < 12.0 * size {
+            end + focus
+        } else {
+            end + size
+        }
     }
 
     /// The paraxial rays of a trace, from `start` on. Each meets the drawn surface at its paraxial height.

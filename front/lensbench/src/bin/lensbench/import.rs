@@ -68,7 +68,12 @@ impl Wishes {
         for surface in &found.surfaces {
             match (self.semi_diameter(surface), self.indices(surface, slots.len())) {
                 (Ok(semi_diameter_mm), Ok(indices)) => {
-                    let own = Surface { radius_mm: surface.radius_mm(), conic_constant: surface.conic, thickness_mm: surface.thickness_mm, semi_diameter_mm };
+                    let own = Surface {
+                        radius_mm: surface.radius_mm(),
+                        conic_constant: surface.conic,
+                        thickness_mm: surface.thickness_mm,
+                        semi_diameter_mm,
+                    };
                     lens.push(own, &indices);
                 }
                 (semi, indices) => complaints.extend([semi.err(), indices.err()].into_iter().flatten().map(|what| (surface.line, what))),
@@ -86,7 +91,9 @@ impl Wishes {
         let chosen: Vec<f64> = match &self.waves {
             None => found.waves_um.clone(),
             Some(numbers) => {
-                let of = |n: &usize| found.waves_um.get(n.wrapping_sub(1)).copied().ok_or_else(|| vec![(1, format!("--waves: there is no wavelength {n}"))]);
+                let of = |n: &usize| {
+                    found.waves_um.get(n.wrapping_sub(1)).copied().ok_or_else(|| vec![(1, format!("--waves: there is no wavelength {n}"))])
+                };
                 numbers.iter().map(of).collect::<Result<Vec<f64>, zmx::Complaints>>()?
             }
         };
@@ -104,7 +111,8 @@ impl Wishes {
     fn indices(&self, surface: &zmx::ZmxSurface, slots: usize) -> Result<Vec<f64>, String> {
         let Some(name) = &surface.glass else { return Ok(vec![1.0; slots]) };
         let option = format!("--glass {name}=N{}", ",N".repeat(slots.saturating_sub(1)));
-        let given = self.glass.get(name).ok_or_else(|| format!("surface {}: no indices of {name} are known here: {option} gives them", surface.number))?;
+        let given =
+            self.glass.get(name).ok_or_else(|| format!("surface {}: no indices of {name} are known here: {option} gives them", surface.number))?;
         if given.len() != slots {
             return Err(format!("surface {}: {} of {name} for {slots} wavelengths: {option}", surface.number, given.len()));
         }

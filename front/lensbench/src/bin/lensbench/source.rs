@@ -24,7 +24,11 @@ pub struct Sources {
 impl Sources {
     /// 2 where a file is not in form, else the status of its jobs.
     pub fn status(&self, jobs: u8) -> u8 {
-        if self.in_form { jobs } else { 2 }
+        if self.in_form {
+            jobs
+        } else {
+            2
+        }
     }
 }
 
@@ -70,11 +74,7 @@ fn no_run(file: &str, entry: &Entry) -> String {
 /// The bytes of a file, or of standard input.
 pub fn bytes_of(file: &str) -> Result<Vec<u8>, String> {
     let mut bytes = Vec::new();
-    let read = if file == "-" {
-        std::io::stdin().lock().read_to_end(&mut bytes).map(|_| ())
-    } else {
-        std::fs::read(file).map(|all| bytes = all)
-    };
+    let read = if file == "-" { std::io::stdin().lock().read_to_end(&mut bytes).map(|_| ()) } else { std::fs::read(file).map(|all| bytes = all) };
     read.map(|()| bytes).map_err(|e| format!("{file}: {e}"))
 }
 

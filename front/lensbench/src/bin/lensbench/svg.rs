@@ -40,7 +40,11 @@ fn part(page: &Page, layout: &Layout, i: usize) -> String {
         return page.area(&outline, if layout.crossed(i) { "crossed" } else { "glass" });
     }
     let class = if layout.image(i) { "image" } else { "air" };
-    if layout.in_air(i) { page.line(&layout.curve(i), &format!("class=\"{class}\"")) } else { String::new() }
+    if layout.in_air(i) {
+        page.line(&layout.curve(i), &format!("class=\"{class}\""))
+    } else {
+        String::new()
+    }
 }
 
 /// Blue, green and red for the lines that have these colours, by their usual names; else one after the other.
@@ -59,7 +63,11 @@ fn legend(entry: &Entry, slot: usize, at: usize) -> String {
     let x = MARGIN + 90.0 * at as f64;
     let name = escaped(entry.slots.get(slot).map_or("", String::as_str));
     let stroke = colour(entry, slot);
-    format!("<line x1=\"{x}\" x2=\"{}\" y1=\"42\" y2=\"42\" stroke=\"{stroke}\" stroke-width=\"2\"/><text x=\"{}\" y=\"46\">{name}</text>\n", x + 18.0, x + 24.0)
+    format!(
+        "<line x1=\"{x}\" x2=\"{}\" y1=\"42\" y2=\"42\" stroke=\"{stroke}\" stroke-width=\"2\"/><text x=\"{}\" y=\"46\">{name}</text>\n",
+        x + 18.0,
+        x + 24.0
+    )
 }
 
 /// From mm to the page.
@@ -104,7 +112,12 @@ impl Page {
     }
 
     fn title(&self, name: &str, merit: f64) -> String {
-        format!("<text x=\"{MARGIN}\" y=\"26\" class=\"name\">{}</text><text x=\"{:.2}\" y=\"46\" text-anchor=\"end\">merit {}</text>\n", escaped(name), self.page_width() - MARGIN, shortest(merit))
+        format!(
+            "<text x=\"{MARGIN}\" y=\"26\" class=\"name\">{}</text><text x=\"{:.2}\" y=\"46\" text-anchor=\"end\">merit {}</text>\n",
+            escaped(name),
+            self.page_width() - MARGIN,
+            shortest(merit)
+        )
     }
 
     /// A bar of 1, 2 or 5 times a power of ten mm, about a sixth of the drawing.

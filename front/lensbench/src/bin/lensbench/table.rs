@@ -56,17 +56,31 @@ pub fn prescription(entry: &Entry, now: &[Surface]) -> String {
         })
         .collect();
     let named: Vec<String> = entry.slots.iter().map(|slot| format!("index {slot}")).collect();
-    let fixed = [("surface", Align::Left), ("radius mm", Align::Point), ("thickness mm", Align::Point), ("semi-diameter mm", Align::Point), ("conic", Align::Point)];
+    let fixed = [
+        ("surface", Align::Left),
+        ("radius mm", Align::Point),
+        ("thickness mm", Align::Point),
+        ("semi-diameter mm", Align::Point),
+        ("conic", Align::Point),
+    ];
     let heads: Vec<(&str, Align)> = fixed.into_iter().chain(named.iter().map(|name| (name.as_str(), Align::Point))).collect();
     columns(&heads, &rows, "  ") + if any { "  * changed by the run\n" } else { "" }
 }
 
 fn length(x: f64) -> String {
-    if x == f64::INFINITY { "flat".to_string() } else { shortest(x) }
+    if x == f64::INFINITY {
+        "flat".to_string()
+    } else {
+        shortest(x)
+    }
 }
 
 fn indices(of: &[f64]) -> Vec<String> {
-    if of.iter().all(|n| *n == 1.0) { vec!["air".to_string(); of.len()] } else { of.iter().map(|n| shortest(*n)).collect() }
+    if of.iter().all(|n| *n == 1.0) {
+        vec!["air".to_string(); of.len()]
+    } else {
+        of.iter().map(|n| shortest(*n)).collect()
+    }
 }
 
 /// The operands by name, with the part of the merit that each has.

@@ -26,12 +26,17 @@ pub struct ZmxSurface {
 
 impl ZmxSurface {
     pub fn radius_mm(&self) -> f64 {
-        if self.curvature == 0.0 { f64::INFINITY } else { 1.0 / self.curvature }
+        if self.curvature == 0.0 {
+            f64::INFINITY
+        } else {
+            1.0 / self.curvature
+        }
     }
 }
 
 /// Lines that say nothing of the axis: fields, weights, coatings, catalogues, how things are shown, tolerances.
-const HARMLESS: &str = "VERS NOTE PFIL LANG ENVD GFAC GCAT RAIM PUSH SDMA ROPD PICB XFLN YFLN FWGN VDXN VDYN VCXN VCYN VANN XFLD YFLD FWGT WWGT PWAV POLS \
+const HARMLESS: &str =
+    "VERS NOTE PFIL LANG ENVD GFAC GCAT RAIM PUSH SDMA ROPD PICB XFLN YFLN FWGN VDXN VDYN VCXN VCYN VANN XFLD YFLD FWGT WWGT PWAV POLS \
     GLRS GSTD NSCD COFN COMM STOP FIMP COAT HIDE SLAB POPS FLAP MEMA OEMA TOL MOFF";
 
 /// The prescription, or everything in the file that this does not know.
@@ -44,7 +49,11 @@ pub fn read(text: &str) -> Result<Prescription, Complaints> {
         }
     }
     complaints.extend(reader.missing().into_iter().map(|what| (1, what)));
-    if complaints.is_empty() { Ok(reader.done()) } else { Err(complaints) }
+    if complaints.is_empty() {
+        Ok(reader.done())
+    } else {
+        Err(complaints)
+    }
 }
 
 #[derive(Default)]
@@ -139,7 +148,9 @@ impl Reader {
             missing.push("fewer than two surfaces behind the object (SURF)".to_string());
         }
         match self.found.surfaces.first() {
-            Some(object) if object.thickness_mm != f64::INFINITY => missing.push("the object (SURF 0) is not at infinity: rays here come in parallel to the axis".to_string()),
+            Some(object) if object.thickness_mm != f64::INFINITY => {
+                missing.push("the object (SURF 0) is not at infinity: rays here come in parallel to the axis".to_string())
+            }
             _ => {}
         }
         missing
