@@ -1,0 +1,37 @@
+//! Standard output and files. A write that fails is an error.
+use std::io::{BufWriter, StdoutLock, Write};
+
+pub struct Out {
+    to: BufWriter<StdoutLock<'static>>,
+}
+
+impl Out {
+    pub fn new() -> Out {
+        Out { to: BufWriter::new(std::io::stdout().lock()) }
+    }
+
+    pub fn put(&mut self, text: &str) -> Result<(), String> {
+        self.to.write_all(text.as_bytes()).map_err(failed)
+    }
+
+    pub fn flush(&mut self) -> Result<(), String> {
+        self.to.flush().map_err(failed)
+    }
+}
+
+fn failed(e: std::io::Error) -> String {
+    format!("standard output: {e}")
+}
+
+/// One text and done.
+pub fn text(text: &str) -> super::Done {
+    let mut out = Out::new();
+    out.put(text)?;
+    out.flush()?;
+    Ok(0)
+}
+
+/// A file as a whole.
+pub fn file(name: &str, text: &str) -> Result<(), String> {
+    std::fs::write(name, text).map_err(|e| format!("{name}: {e}"))
+}

@@ -1,0 +1,80 @@
+//! What is taken, and is hardly meant.
+use super::report::line_of;
+use super::source::Source;
+use lensbench::causes::Part;
+use lensbench::jobfile::quantity_name;
+use lensbench::{shortest, Aim, Job, Operand, Quantity, Run, Variable};
+
+/// Warnings on standard error, each with its line; answers how many.
+pub fn print(source: &Source) -> usize {
+    let found = warnings(&source.entry.job);
+    for (part, what) in &found {
+        eprintln!("{}: warning: {what}", source.at(line_of(&source.entry.lines, *part)));
+    }
+    found.len()
+}
+
+fn warnings(job: &Job) -> Vec<(Part, String)> {
+    let mut found = Vec::new();
+    if job.lens.surfaces.len() < 2 {
+        found.push((Part::Job, "fewer than two surfaces have no trace: every paraxial operand counts as failed".to_string()));
+    }
+    for (i, s) in job.lens.surfaces.iter().enumerate() {
+        if s.radius_mm.abs() < 1e-15 {
+            found.push((Part::Surface(i), format!("radius {} is taken as flat; write `flat`", shortest(s.radius_mm))));
+        }
+    }
+    for (i, v) in job.variables.iter().enumerate() {
+        found.extend(of_variable(job, i, v).into_iter().map(|what| (Part::Variable(i), what)));
+    }
+    for (i, o) in job.operands.iter().enumerate() {
+        found.extend(of_operand(job, o).into_iter().map(|what| (Part::Operand(i), what)));
+    }
+    if local_iterations(&job.run) == Some(0) {
+        found.push((Part::Run, "iterations 0: no damped iteration is taken".to_string()));
+    }
+    found
+}
+
+fn local_iterations(run: &Run) -> Option<u64> {
+    match run {
+        Run::Damped(d) => d.max_iterations,
+        Run::MultiStart(m) => m.local.max_iterations,
+        Run::Annealing(_) => None,
+    }
+}
+
+fn of_variable(job: &Job, i: usize, v: &Variable) -> Vec<String> {
+    let mut found = Vec::new();
+    let name = format!("{} of surface {}", quantity_name(v.quantity), v.surface as u128 + 1);
+    let (least, greatest) = (shortest(v.least), shortest(v.greatest));
+    if v.quantity == Quantity::Curvature && v.least.abs().max(v.greatest.abs()) > 1.0 {
+        let example = shortest(1.0 / v.least.abs().max(v.greatest.abs()));
+        found.push(format!("bounds {least} to {greatest} look like radii: those of a curvature are in 1/mm, {example} where a radius is meant"));
+    }
+    let starts = job.lens.surfaces.get(v.surface).map(|s| v.quantity.of(s));
+    if let Some(x) = starts.filter(|x| v.enabled && (*x < v.least || *x > v.greatest)) {
+        found.push(format!("{name} starts at {}, outside its bounds {least} to {greatest}", shortest(x)));
+    }
+    if v.enabled && v.least == v.greatest {
+        found.push(format!("{name} cannot move: both its bounds are {least}"));
+    }
+    let earlier = job.variables[..i].iter().any(|w| w.enabled && v.enabled && w.quantity == v.quantity && w.surface == v.surface);
+    if earlier {
+        found.push(format!("{name} is varied twice: the later line has the last word"));
+    }
+    found
+}
+
+fn of_operand(job: &Job, o: &Operand) -> Vec<String> {
+    let mut found = Vec::new();
+    if let Aim::LeastCentreThickness { surface, .. } | Aim::GreatestCentreThickness { surface, .. } = o.aim {
+        if surface >= job.lens.surfaces.len() {
+            found.push(format!("surface {} is not there: the operand counts 100000 whatever the lens is", surface as u128 + 1));
+        }
+    }
+    if o.weight == 0.0 {
+        found.push("weight 0: the operand has no part in the merit".to_string());
+    }
+    found
+}

@@ -1,0 +1,117 @@
+//! One line of a job: slots, pupil, surface, vary, want.
+use super::names::{AIMS, QUANTITIES};
+use super::words::{number, Words};
+use crate::format::counted;
+use crate::lens::{Aim, Operand, Quantity, Surface, Variable};
+
+/// The names of the slots, each once.
+pub fn slots(words: Words) -> Result<Vec<String>, String> {
+    let names: Vec<String> = words.rest().into_iter().map(str::to_string).collect();
+    match names.iter().enumerate().find(|(i, name)| names[..*i].contains(name)) {
+        Some((_, name)) => Err(format!("slot `{name}` is there twice")),
+        None => Ok(names),
+    }
+}
+
+/// Radius, thickness, semi-diameter, conic, and the index behind the surface in each slot.
+pub fn surface(mut words: Words, slots: &[String]) -> Result<(Surface, Vec<f64>), String> {
+    let surface = Surface {
+        radius_mm: radius(words.need("the radius")?)?,
+        thickness_mm: words.number("the thickness")?,
+        semi_diameter_mm: words.number("the semi-diameter")?,
+        conic_constant: words.number("the conic")?,
+    };
+    Ok((surface, indices(words.rest(), slots)?))
+}
+
+fn radius(word: &str) -> Result<f64, String> {
+    if word == "flat" {
+        return Ok(f64::INFINITY);
+    }
+    number(word, "the radius").map_err(|what| if what.contains("no number") { format!("{what}, and not `flat`") } else { what })
+}
+
+fn indices(words: Vec<&str>, slots: &[String]) -> Result<Vec<f64>, String> {
+    if words == ["air"] {
+        return Ok(vec![1.0; slots.len()]);
+    }
+    let named = slots.join(" ");
+    if words.is_empty() && !slots.is_empty() {
+        return Err(format!("the index is missing: `air`, or one for each slot ({named})"));
+    }
+    let numbers = words.iter().map(|word| number(word, "the index")).collect::<Result<Vec<f64>, String>>()?;
+    if numbers.len() != slots.len() {
+        return Err(format!("{} for {} ({named})", counted(numbers.len(), "index", "indices"), counted(slots.len(), "slot", "slots")));
+    }
+    Ok(numbers)
+}
+
+/// Quantity and surface, then `from`, `to`, `step` with a number each, and `off`.
+pub fn variable(mut words: Words) -> Result<Variable, String> {
+    let quantity = Quantity::ALL[words.one_of("quantity to vary", &QUANTITIES)?];
+    let mut variable = Variable::new(quantity, words.surface()?);
+    let mut seen = Vec::new();
+    while let Some(word) = words.next() {
+        once(&mut seen, word)?;
+        match word {
+            "from" => variable.least = words.number(word)?,
+            "to" => variable.greatest = words.number(word)?,
+            "step" => variable.step = words.number(word)?,
+            "off" => variable.enabled = false,
+            _ => return Err(format!("`{word}` is none of from, to, step, off")),
+        }
+    }
+    Ok(variable)
+}
+
+/// What is looked at, then `target` and `weight` with a number each.
+pub fn operand(mut words: Words, slots: &[String]) -> Result<Operand, String> {
+    let kind = words.one_of("operand", &AIMS)?;
+    let aim = aim(kind, &mut words, slots)?;
+    let (mut target, mut weight) = (None, 1.0);
+    let mut seen = Vec::new();
+    while let Some(word) = words.next() {
+        once(&mut seen, word)?;
+        match word {
+            "target" => target = Some(words.number(word)?),
+            "weight" => weight = words.number(word)?,
+            _ => return Err(format!("`{word}` is none of target, weight")),
+        }
+    }
+    // what a thickness is beyond its limit is wanted to be 0
+    let limit = matches!(aim, Aim::LeastCentreThickness { .. } | Aim::GreatestCentreThickness { .. });
+    let target = target.or(limit.then_some(0.0)).ok_or_else(|| format!("{} has no target: add `target` and a number", AIMS[kind]))?;
+    Ok(Operand { aim, target, weight })
+}
+
+fn aim(kind: usize, words: &mut Words, slots: &[String]) -> Result<Aim, String> {
+    Ok(match kind {
+        0 => Aim::FocalLength { slot: slot(words, slots)? },
+        1 => Aim::FNumber { slot: slot(words, slots)? },
+        2 => Aim::Track,
+        3 => Aim::BackFocus { slot: slot(words, slots)? },
+        4 => Aim::Magnification { slot: slot(words, slots)? },
+        5 => Aim::LeastCentreThickness { surface: words.surface()?, limit_mm: words.number("the limit")? },
+        _ => Aim::GreatestCentreThickness { surface: words.surface()?, limit_mm: words.number("the limit")? },
+    })
+}
+
+/// A slot by its name, or by its number from 1.
+fn slot(words: &mut Words, slots: &[String]) -> Result<usize, String> {
+    let named = slots.join(" ");
+    let word = words.need(&format!("the slot ({named})"))?;
+    if let Some(at) = slots.iter().position(|name| name == word) {
+        return Ok(at);
+    }
+    let digits = word.bytes().all(|b| b.is_ascii_digit());
+    let number = word.parse::<u128>().ok().filter(|_| digits).and_then(|n| n.checked_sub(1)).and_then(|n| usize::try_from(n).ok());
+    number.ok_or_else(|| format!("no slot `{word}`; there are {named}"))
+}
+
+pub fn once<'a>(seen: &mut Vec<&'a str>, word: &'a str) -> Result<(), String> {
+    if seen.contains(&word) {
+        return Err(format!("`{word}` is there twice"));
+    }
+    seen.push(word);
+    Ok(())
+}

@@ -1,0 +1,318 @@
+//! The command as a user has it: what it prints, says and answers.
+#![allow(clippy::unwrap_used)]
+mod common;
+use common::top;
+use lensbench::jobfile::read;
+use lensbench::{Job, Surface};
+use std::io::Write;
+use std::path::PathBuf;
+use std::process::{Command, Output, Stdio};
+
+fn lensbench(words: &[&str], input: &str) -> (i32, String, String) {
+    let mut child = Command::new(env!("CARGO_BIN_EXE_lensbench"))
+        .args(words)
+        .stdin(Stdio::piped())
+        .stdout(Stdio::piped())
+        .stderr(Stdio::piped())
+        .spawn()
+        .unwrap();
+    // a command that does not read its input may be gone already
+    let _ = child.stdin.take().unwrap().write_all(input.as_bytes());
+    let Output { status, stdout, stderr } = child.wait_with_output().unwrap();
+    (status.code().unwrap(), String::from_utf8(stdout).unwrap(), String::from_utf8(stderr).unwrap())
+}
+
+fn example(name: &str) -> String {
+    top().join("examples").join(name).to_str().unwrap().to_string()
+}
+
+fn job(name: &str) -> Job {
+    read(&std::fs::read_to_string(example(name)).unwrap()).unwrap()[0].job.clone()
+}
+
+/// A folder of this test's own, empty.
+fn folder(name: &str) -> PathBuf {
+    let path = PathBuf::from(env!("CARGO_TARGET_TMPDIR")).join(name);
+    let _ = std::fs::remove_dir_all(&path);
+    std::fs::create_dir_all(&path).unwrap();
+    path
+}
+
+/// The merit that a table prints is exactly that of the lens that it prints.
+#[test]
+fn what_is_printed_beside_a_merit_has_that_merit() {
+    for name in ["singlet.lens", "achromat.lens", "triplet.lens", "scanner.lens"] {
+        let (status, out, err) = lensbench(&["run", &example(name)], "");
+        assert_eq!((status, err.as_str()), (0, ""), "{name}");
+        let job = job(name);
+        let number = |word: &str| if word == "flat" { f64::INFINITY } else { word.trim_end_matches('*').parse().unwrap() };
+        let rows = out.lines().skip_while(|line| !line.starts_with("  surface")).skip(1).take(job.lens.surfaces.len());
+        let surfaces: Vec<Surface> = rows
+            .map(|row| {
+                let words: Vec<&str> = row.split_whitespace().collect();
+                Surface {
+                    radius_mm: number(words[1]),
+                    thickness_mm: number(words[2]),
+                    semi_diameter_mm: number(words[3]),
+                    conic_constant: number(words[4]),
+                }
+            })
+            .collect();
+        let words: Vec<&str> = out.lines().nth(1).unwrap().split_whitespace().collect();
+        assert_eq!(words[..1], ["merit"]);
+        assert_eq!(number(words[1]), job.evaluate().unwrap().merit);
+        assert_eq!(number(words[4]), job.with_surfaces(&surfaces).evaluate().unwrap().merit, "{name}");
+        assert!(number(words[4]) < 1e-15, "{name} comes out well");
+        assert!(out.contains(", converged\n"), "{name}");
+    }
+}
+
+/// Every number of JSON beside its bits.
+#[test]
+fn json_has_digits_and_bits() {
+    let (status, out, _) = lensbench(&["run", "--json", &example("triplet.lens"), &example("singlet.lens")], "");
+    assert_eq!((status, out.lines().count()), (0, 2));
+    let mut seen = 0;
+    for part in out.split("{\"value\":").skip(1) {
+        let (value, rest) = part.split_once(",\"bits\":\"").unwrap();
+        let bits = f64::from_bits(u64::from_str_radix(&rest[..16], 16).unwrap());
+        match value {
+            "null" => assert!(!bits.is_finite()),
+            value => assert_eq!(value.parse::<f64>().unwrap().to_bits(), bits.to_bits()),
+        }
+        seen += 1;
+    }
+    assert!(seen > 80, "{seen}");
+    assert!(out.contains("\"name\":\"Cooke triplet, 50 mm f/5\"") && out.contains("\"changed\":[\"radius_mm\"]"));
+}
+
+#[test]
+fn jobs_come_in_the_order_of_the_files() {
+    let text = std::fs::read_to_string(example("triplet.lens")).unwrap() + &std::fs::read_to_string(example("singlet.lens")).unwrap().repeat(6);
+    let (status, out, _) = lensbench(&["run", "-"], &text);
+    let names: Vec<&str> = out.lines().filter(|line| line.contains(" (-:")).collect();
+    assert_eq!((status, names.len()), (0, 7));
+    assert!(names[0].starts_with("Cooke") && names[1..].iter().all(|name| name.starts_with("plano")));
+}
+
+const GOOD: &str = "job one
+slots F d C
+pupil 10
+surface 60 4 12 0 1.52 1.51 1.50
+surface flat 0 12 0 air
+vary curvature 1 from 0.001 to 0.1 step 1e-6
+want focal-length d target 100 weight 2
+want centre-at-least 1 2
+run multi-start trials 3 seed 7 iterations 4
+";
+
+/// A typo in each field: the line, what stands there instead, and what is said of it.
+#[test]
+fn a_typo_in_each_field() {
+    assert_eq!(lensbench(&["run", "-"], GOOD).0, 0);
+    let typos = [
+        (1, "jib one", "`jib` is no keyword: there are job, slots, pupil, surface, vary, want, run; did you mean `job`?"),
+        (1, "job", "the job's name is missing"),
+        (2, "slots F d F", "slot `F` is there twice"),
+        (2, "slot F d C", "did you mean `slots`?"),
+        (3, "pupil 1o", "the pupil's diameter: `1o` is no number"),
+        (3, "pupil", "the pupil's diameter is missing"),
+        (3, "pupil 10 mm", "`mm` is one word too many"),
+        (3, "pupil 1e999", "`1e999` is too large for a number"),
+        (4, "surface 6O 4 12 0 1.52 1.51 1.50", "the radius: `6O` is no number, and not `flat`"),
+        (4, "surface 60,5 4 12 0 1.52 1.51 1.50", "write a point and no comma"),
+        (4, "surface 60 4,0 12 0 1.52 1.51 1.50", "the thickness: `4,0` is no number"),
+        (4, "surface 60 4 x 0 1.52 1.51 1.50", "the semi-diameter: `x` is no number"),
+        (4, "surface 60 4 12 - 1.52 1.51 1.50", "the conic: `-` is no number"),
+        (4, "surface 60 4 12 0 1.52 1.51", "2 indices for 3 slots (F d C)"),
+        (4, "surface 60 4 12 0", "the index is missing: `air`, or one for each slot (F d C)"),
+        (4, "surface 60 4 12 0 1.52 1.51 glass", "the index: `glass` is no number"),
+        (4, "surface 60 4", "the semi-diameter is missing"),
+        (5, "surface flat 0 12 0 Air", "the index: `Air` is no number"),
+        (6, "vary curvatur 1 from 0.001 to 0.1", "did you mean `curvature`?"),
+        (6, "vary curvature 0 from 0.001 to 0.1", "surfaces are numbered from 1"),
+        (6, "vary curvature one", "`one` is no surface's number"),
+        (6, "vary curvature 1 form 0.001 to 0.1", "`form` is none of from, to, step, off"),
+        (6, "vary curvature 1 from 0.001 to", "to is missing"),
+        (6, "vary curvature 1 from 0.00l", "from: `0.00l` is no number"),
+        (6, "vary curvature 1 from 0.1 from 0.2", "`from` is there twice"),
+        (7, "want focal-lenght d target 100", "did you mean `focal-length`?"),
+        (7, "want focal-length e target 100", "no slot `e`; there are F d C"),
+        (7, "want focal-length d", "focal-length has no target"),
+        (7, "want focal-length d target ten", "target: `ten` is no number"),
+        (7, "want focal-length d target 100 wieght 2", "`wieght` is none of target, weight"),
+        (8, "want centre-at-least 1", "the limit is missing"),
+        (8, "want centre-at-least first 2", "`first` is no surface's number"),
+        (9, "run multistart", "did you mean `multi-start`?"),
+        (9, "run", "run is missing: there are damped, multi-start, annealing"),
+        (9, "run damped trials 3", "`trials` is no setting of `run damped`"),
+        (9, "run multi-start trials 3.5", "trials: `3.5` is no whole number"),
+        (9, "run multi-start seed -1", "seed: `-1` is no whole number"),
+        (9, "run multi-start iteration 4", "did you mean `iterations`?"),
+        (9, "run damped\nrun damped", "the job has `run` already, on line 9"),
+    ];
+    for (line, typo, what) in typos {
+        let text: String = GOOD.lines().enumerate().map(|(i, good)| format!("{}\n", if i + 1 == line { typo } else { good })).collect();
+        let at = if typo.contains('\n') { line + 1 } else { line };
+        let (status, out, err) = lensbench(&["run", "-"], &text);
+        assert_eq!((status, out.as_str()), (2, ""), "{typo}");
+        let said = err.lines().find(|said| said.starts_with(&format!("-:{at}: ")));
+        assert!(said.is_some_and(|said| said.contains(what)), "{typo}\n{err}");
+    }
+    let (status, _, err) = lensbench(&["run", "-"], &GOOD.replace("run multi", "# run multi"));
+    assert_eq!((status, err.starts_with("-:1: job one has no line `run`")), (2, true));
+    assert!(lensbench(&["run", "-"], "# nothing\n").2.contains("-:1: there is no job"));
+    assert_eq!(lensbench(&["evaluate", "-"], &GOOD.replace("run multi", "# run multi")).0, 0);
+}
+
+/// What is in form and refused: the number, line, field and value.
+#[test]
+fn refusals_with_their_lines() {
+    let cases = [
+        (3, "pupil -1", "-:3: refused with 3: pupil -1 is not above 0 and up to 1e9"),
+        (4, "surface nan 4 12 0 1.52 1.51 11", "-:4: refused with 3: index of surface 1 in slot 3 11 is not above 0 and up to 10"),
+        (6, "vary curvature 9 from 2 to 1", "-:6: refused with 4: from 2 is above to 1"),
+        (7, "want focal-length 4 target 1e10", "-:7: refused with 5: slot 4 is not there: the job has 3"),
+        (9, "run multi-start trials 1001", "-:9: refused with 6: trials 1001 is above 1000"),
+        (6, "vary curvature 1 off", "-:1: refused with 7: no variable is enabled"),
+    ];
+    for (line, odd, what) in cases {
+        let text: String = GOOD.lines().enumerate().map(|(i, good)| format!("{}\n", if i + 1 == line { odd } else { good })).collect();
+        for command in ["run", "check"] {
+            let (status, _, err) = lensbench(&[command, "-"], &text);
+            assert_eq!(status, 1, "{odd}");
+            assert!(err.lines().any(|said| said == what), "{odd}\n{err}");
+        }
+        let (status, out, _) = lensbench(&["run", "--json", "-"], &text);
+        assert!(status == 1 && out.contains("\"status\":\"refused\",\"number\":"), "{out}");
+    }
+}
+
+#[test]
+fn warnings() {
+    let cases = [
+        ("vary curvature 1 from 20 to 100", "-:6: warning: bounds 20 to 100 look like radii"),
+        ("vary curvature 1 from 0.1 to 0.2", "-:6: warning: curvature of surface 1 starts at 0.016666666666666666, outside its bounds 0.1 to 0.2"),
+        ("vary thickness 1 from 4 to 4", "-:6: warning: thickness of surface 1 cannot move"),
+    ];
+    for (line, what) in cases {
+        let (status, out, err) = lensbench(&["check", "-"], &GOOD.replace("vary curvature 1 from 0.001 to 0.1 step 1e-6", line));
+        assert!(status == 0 && err.contains(what) && out.contains("would be taken"), "{err}");
+    }
+    let (status, _, err) = lensbench(&["check", "-"], &GOOD.replace("centre-at-least 1 2", "centre-at-least 3 2"));
+    assert!(status == 0 && err.contains("-:8: warning: surface 3 is not there"), "{err}");
+}
+
+#[test]
+fn usage_and_status() {
+    for words in [
+        &["frobnicate"][..],
+        &[],
+        &["run"],
+        &["run", "--jsn", "x"],
+        &["run", "/no/such/file"],
+        &["convert", "-"],
+        &["batch", "/no/such/folder"],
+        &["run", "--svg"],
+    ] {
+        let (status, out, err) = lensbench(words, "");
+        assert_eq!((status, out.as_str()), (2, ""), "{words:?}");
+        assert!(err.starts_with("lensbench: "), "{words:?} {err}");
+    }
+    for words in [&["--help"][..], &["help", "run"], &["check", "--help"], &["--version"]] {
+        let (status, out, err) = lensbench(words, "");
+        assert!(status == 0 && !out.is_empty() && err.is_empty(), "{words:?}");
+    }
+    assert_eq!(lensbench(&["--version"], "").1, format!("lensbench {}, records of layout {}\n", env!("CARGO_PKG_VERSION"), lensbench::ABI));
+}
+
+/// A write that fails is an error.
+#[test]
+fn a_full_disk() {
+    let full = std::fs::OpenOptions::new().write(true).open("/dev/full").unwrap();
+    let done = Command::new(env!("CARGO_BIN_EXE_lensbench")).args(["run", &example("singlet.lens")]).stdout(full).output().unwrap();
+    assert_eq!(done.status.code(), Some(2));
+    assert!(String::from_utf8(done.stderr).unwrap().starts_with("lensbench: standard output: "));
+    let (status, _, err) = lensbench(&["run", "--svg", "/no/such/folder/x.svg", &example("singlet.lens")], "");
+    assert!(status == 2 && err.contains("/no/such/folder/x.svg: "), "{err}");
+}
+
+#[test]
+fn pictures() {
+    let folder = folder("pictures");
+    let name = folder.join("lens.svg");
+    assert_eq!(lensbench(&["run", "--svg", name.to_str().unwrap(), &example("triplet.lens")], "").0, 0);
+    let text = std::fs::read_to_string(&name).unwrap();
+    assert!(text.starts_with("<svg ") && text.ends_with("</svg>\n") && !text.contains("NaN") && !text.contains("inf"));
+    assert_eq!((text.matches("class=\"glass\"").count(), text.matches("class=\"ray\"").count(), text.matches("class=\"image\"").count()), (3, 12, 1));
+    assert_eq!(lensbench(&["run", "--svg", name.to_str().unwrap(), &example("singlet.lens"), &example("scanner.lens")], "").0, 0);
+    assert!(folder.join("lens-1.svg").is_file() && folder.join("lens-2.svg").is_file());
+}
+
+#[test]
+fn lines_and_back() {
+    let files: Vec<String> = ["singlet.lens", "achromat.lens", "triplet.lens", "scanner.lens"].map(example).to_vec();
+    let words: Vec<&str> = ["convert", "--to-line"].into_iter().chain(files.iter().map(String::as_str)).collect();
+    let (status, lines, _) = lensbench(&words, "");
+    assert_eq!((status, lines.lines().count()), (0, 4));
+    let (status, text, _) = lensbench(&["convert", "--from-line", "-"], &lines);
+    let jobs: Vec<Job> = read(&text).unwrap().into_iter().map(|entry| entry.job).collect();
+    assert_eq!(status, 0);
+    assert_eq!(jobs, ["singlet.lens", "achromat.lens", "triplet.lens", "scanner.lens"].map(job));
+    let (status, _, err) = lensbench(&["convert", "--from-line", "-"], &format!("{lines}J broken\n"));
+    assert_eq!((status, err.as_str()), (2, "-:5: the line ends before the kind\n"));
+    assert!(lensbench(&["convert", "--to-line", "--trace", "C", &files[1]], "").1.trim_end().ends_with(" C 2"));
+}
+
+#[test]
+fn zemax() {
+    let file = PathBuf::from(env!("CARGO_MANIFEST_DIR")).join("tests/data/achromat.zmx");
+    let file = file.to_str().unwrap();
+    let (status, out, err) = lensbench(&["import", file], "");
+    assert_eq!((status, out.as_str()), (2, ""));
+    assert!(err.contains(":30: surface 1: no indices of N-BK7 are known here: --glass N-BK7=N,N,N gives them"), "{err}");
+    let glass = ["--glass", "N-BK7=1.52238,1.51680,1.51432", "--glass", "SF5=1.68876,1.67270,1.66661", "--semi", "12.7"];
+    let (status, out, err) = lensbench(&[&["import", file][..], &glass].concat(), "");
+    assert_eq!((status, err.as_str()), (0, ""));
+    let entry = read(&out).unwrap().remove(0);
+    let mut same = job("achromat.lens").lens;
+    same.surfaces[1].conic_constant = -0.5;
+    assert_eq!((entry.name.as_str(), &entry.slots[..]), ("achromat for tests", &["486.1nm".to_string(), "587.6nm".into(), "656.3nm".into()][..]));
+    assert_eq!(entry.job.lens, same);
+    // what is not known is named, with its line
+    let text = std::fs::read_to_string(file).unwrap();
+    for (from, to, what) in [
+        ("  TYPE STANDARD\n  CURV -2", "  TYPE EVENASPH\n  CURV -2", "TYPE EVENASPH: only STANDARD is known here"),
+        ("ENPD", "FNUM", "FNUM is not known here"),
+        ("GLAS SF5", "GLAS MIRROR", "a mirror is not known here"),
+        ("DISZ INFINITY", "DISZ 100", "the object (SURF 0) is not at infinity"),
+        ("UNIT MM", "UNIT IN", "UNIT IN: only MM is known here"),
+        ("DISZ 97.1", "DISZ 97,1", "DISZ: `97,1` is no number"),
+        ("MNUM 1", "MNUM 2", "MNUM 2: only 1 is known here"),
+    ] {
+        let (status, _, err) = lensbench(&[&["import", "-"][..], &glass].concat(), &text.replace(from, to));
+        assert!(status == 2 && err.starts_with("-:") && err.contains(what), "{to}: {err}");
+    }
+}
+
+#[test]
+fn a_folder_of_jobs() {
+    let folder = folder("batch");
+    for i in 0..9 {
+        std::fs::copy(example("singlet.lens"), folder.join(format!("job{i}.lens"))).unwrap();
+    }
+    let (name, into) = (folder.to_str().unwrap(), folder.join("out"));
+    let words = ["batch", name, "--jobs", "3", "--out", into.to_str().unwrap()];
+    let (status, out, _) = lensbench(&words, "");
+    assert_eq!((status, out.matches(": done\n").count()), (0, 9));
+    let all: Vec<String> = (0..9).map(|i| std::fs::read_to_string(into.join(format!("job{i}.json"))).unwrap()).collect();
+    let tail = |text: &str| text.split_once("\"line\"").unwrap().1.to_string();
+    assert!(all.iter().all(|text| tail(text) == tail(&all[0])));
+    assert_eq!(lensbench(&words, "").1.matches(": done before\n").count(), 9);
+    std::fs::write(folder.join("job9.lens"), "job typo\npupl 3\n").unwrap();
+    std::fs::write(folder.join("job3.lens"), GOOD.replace("pupil 10", "pupil 0")).unwrap();
+    let (status, out, _) = lensbench(&words, "");
+    assert_eq!(status, 2);
+    assert!(out.contains("job9.lens: not run\n") && out.contains("job3.lens: refused\n"), "{out}");
+    assert!(std::fs::read_to_string(into.join("job9.err")).unwrap().contains(":2: `pupl` is no keyword"));
+}

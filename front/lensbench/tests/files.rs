@@ -1,0 +1,55 @@
+//! Jobs through lines and files, and back to the same bits.
+#![allow(clippy::unwrap_used)]
+mod common;
+use common::{faulty, job, Dice};
+use lensbench::jobfile::{read, write, Entry, Lines};
+use lensbench::lines::{Call, Line};
+use lensbench::{shortest, Job};
+
+fn entry(job: Job) -> Entry {
+    let slots = (1..=job.lens.slots).map(|w| format!("w{w}")).collect();
+    Entry { name: "a job".into(), slots, job, lines: Lines { run: Some(1), ..Lines::default() } }
+}
+
+/// A line has every bit of a job but for which NaN it is, so two jobs with the same line are the same.
+fn text(job: &Job) -> String {
+    Line { id: "x".into(), call: Call::Run, job: job.clone() }.to_text()
+}
+
+#[test]
+fn there_and_back() {
+    let mut dice = Dice(77);
+    for i in 0..10_000 {
+        let job = if i % 2 == 0 { job(&mut dice) } else { faulty(&mut dice) };
+        let line = text(&job);
+        assert_eq!(text(&Line::of_text(&line).unwrap().job), line);
+        let file = write(&entry(job));
+        let again = read(&file).unwrap_or_else(|complaints| panic!("{complaints:?}\n{file}"));
+        assert_eq!(again.len(), 1);
+        assert_eq!(text(&again[0].job), line, "{file}");
+        assert_eq!(again[0].name, "a job");
+    }
+}
+
+#[test]
+fn numbers_read_back_to_the_same_bits() {
+    let mut dice = Dice(9);
+    for _ in 0..100_000 {
+        let x = f64::from_bits(dice.next());
+        if x.is_finite() {
+            assert_eq!(shortest(x).parse::<f64>().unwrap().to_bits(), x.to_bits());
+        }
+    }
+}
+
+#[test]
+fn lines_out_of_form() {
+    let good = text(&job(&mut Dice(3)));
+    let words: Vec<&str> = good.split(' ').collect();
+    for i in 0..words.len() {
+        let cut = words[..i].join(" ");
+        assert!(Line::of_text(&cut).is_err(), "{cut}");
+    }
+    assert!(Line::of_text(&format!("{good} 0")).unwrap_err().contains("one word too many"));
+    assert!(Line::of_text(&good.replacen("J", "K", 1)).is_err());
+}

@@ -1,0 +1,132 @@
+//! The specification's known values, through the crate.
+#![allow(clippy::unwrap_used)]
+mod common;
+use common::known_lens;
+use lensbench::*;
+
+const AIMS: [Aim; 5] =
+    [Aim::FocalLength { slot: 0 }, Aim::BackFocus { slot: 0 }, Aim::FNumber { slot: 0 }, Aim::Track, Aim::Magnification { slot: 0 }];
+
+fn values(lens: &Lens) -> Vec<f64> {
+    let operands: Vec<Operand> = AIMS.iter().map(|aim| Operand::new(*aim, 0.0)).collect();
+    lens.evaluate(&operands).unwrap().values
+}
+
+fn played(job: &Job) -> (Outcome, u64) {
+    let mut bench = Bench::new();
+    bench.admit(Place(0), job).unwrap();
+    let turns = bench.play(Place(0)).unwrap();
+    (bench.fetch(Place(0)).unwrap(), turns)
+}
+
+#[test]
+fn paraxial_values() {
+    assert_eq!(values(&known_lens()), [64.0, 56.0, 8.0, 16.0, 0.875]);
+}
+
+#[test]
+fn merit() {
+    let got = known_lens().evaluate(&[Operand::new(Aim::FocalLength { slot: 0 }, 60.0).weight(4.0)]).unwrap();
+    assert_eq!((got.residuals[0], got.merit), (8.0, 64.0));
+    assert_eq!(known_lens().evaluate(&[]).unwrap().merit.to_bits(), 0);
+}
+
+#[test]
+fn no_power_and_no_trace() {
+    let mut flat = known_lens();
+    flat.surfaces[0].radius_mm = f64::INFINITY;
+    assert_eq!(values(&flat), [10_000.0, 10_000.0, 100.0, 16.0, 100_000.0]);
+    let mut single = known_lens();
+    single.surfaces.truncate(1);
+    single.indices.truncate(1);
+    assert_eq!(values(&single)[4], 0.0);
+    assert_eq!(single.trace(0), Ok(None));
+}
+
+#[test]
+fn rays() {
+    // slope 4 / 64 / 2 down inside the glass, and 4 / 64 behind it
+    let rays = known_lens().trace(0).unwrap().unwrap();
+    assert_eq!(rays, [Ray { height_mm: 4.0, slope: -0.03125 }, Ray { height_mm: 3.5, slope: -0.0625 }]);
+}
+
+#[test]
+fn centre_thickness() {
+    let mut lens = known_lens();
+    let least = [Operand::new(Aim::LeastCentreThickness { surface: 0, limit_mm: 3.0 }, 0.0)];
+    lens.surfaces[0].thickness_mm = 2.0;
+    assert_eq!(lens.evaluate(&least).unwrap().values, [-1.0]);
+    lens.surfaces[0].thickness_mm = 3.0;
+    assert_eq!(lens.evaluate(&least).unwrap().values, [0.0]);
+}
+
+#[test]
+fn square_root_of_two() {
+    // track 16 against 15 with weight 2: the residual is the root times 1
+    let got = known_lens().evaluate(&[Operand::new(Aim::Track, 15.0).weight(2.0)]).unwrap();
+    assert_eq!(got.residuals[0].to_bits(), 0x3FF6A09E667F3BCD);
+}
+
+fn held() -> Job {
+    let variable = Variable::new(Quantity::Thickness, 0).between(16.0, 16.0);
+    Job::new(known_lens()).vary(variable).want(Operand::new(Aim::FocalLength { slot: 0 }, 60.0).weight(4.0))
+}
+
+#[test]
+fn held_jobs() {
+    let (out, turns) = played(&held());
+    assert_eq!((turns, out.iterations, out.converged, out.first_merit, out.final_merit), (3, 1, true, 64.0, 64.0));
+    let no_gradient = Damped { gradient_tolerance: Some(0.0), ..Damped::default() };
+    let (out, turns) = played(&held().run(Run::Damped(no_gradient)));
+    assert_eq!((turns, out.converged), (13, false));
+    let (_, turns) = played(&held().run(Run::Damped(Damped { initial_damping: Some(0.0), ..no_gradient })));
+    assert_eq!(turns, 3);
+    let (out, turns) = played(&held().run(Run::Damped(Damped { max_iterations: Some(0), ..Damped::default() })));
+    assert_eq!((turns, out.converged, out.iterations), (1, false, 0));
+}
+
+/// A multi-start of one trial without iterations, where the drawn lens is better than the base: its surfaces are the draw.
+fn drawn(quantity: Quantity, least: f64, greatest: f64, want: Operand, seed: u64) -> Surface {
+    let local = Damped { max_iterations: Some(0), ..Damped::default() };
+    let job = Job::new(known_lens()).vary(Variable::new(quantity, 0).between(least, greatest)).want(want);
+    let (out, turns) = played(&job.run(Run::MultiStart(MultiStart { local, trials: Some(1), seed: Some(seed) })));
+    assert_eq!(turns, 2);
+    out.surfaces[0]
+}
+
+#[test]
+fn first_draw_of_seed_one() {
+    let got = drawn(Quantity::Thickness, 0.0, 1.0, Operand::new(Aim::Track, 0.0), 1);
+    assert_eq!(got.thickness_mm, (0x40822041u64 >> 11) as f64 / (1u64 << 53) as f64);
+}
+
+#[test]
+fn small_curvatures() {
+    // without power the focal length counts 10,000
+    let want = Operand::new(Aim::FocalLength { slot: 0 }, 10_000.0);
+    assert_eq!(drawn(Quantity::Curvature, -1e-13, -1e-13, want, 1).radius_mm, f64::INFINITY);
+    // with little power the back focus is nearly the focal length
+    let want = Operand::new(Aim::Magnification { slot: 0 }, 1.0);
+    assert_eq!(drawn(Quantity::Curvature, 1e-12, 1e-12, want, 1).radius_mm, 1e12);
+}
+
+#[test]
+fn naming_a_default_makes_the_same_job() {
+    let runs = [
+        (Run::Damped(Damped::default()), Run::Damped(Damped::DEFAULT)),
+        (Run::MultiStart(MultiStart::default()), Run::MultiStart(MultiStart::DEFAULT)),
+        (Run::Annealing(Annealing::default()), Run::Annealing(Annealing::DEFAULT)),
+    ];
+    for (left_out, named) in runs {
+        let bytes = |run: Run| {
+            let mut bench = Bench::new();
+            bench.admit(Place(0), &held().run(run)).unwrap();
+            bench.saved()
+        };
+        assert_eq!(bytes(left_out), bytes(named), "{left_out:?}");
+        assert_eq!(held().run(left_out).turn_bound(), held().run(named).turn_bound());
+    }
+    assert_eq!(held().turn_bound(), 1 + 50 * 12);
+    assert_eq!(held().run(Run::MultiStart(MultiStart::default())).turn_bound(), 11 * (1 + 20 * 12));
+    assert_eq!(held().run(Run::Annealing(Annealing::default())).turn_bound(), 1 + 25 * 15 + 1 + 25 * 12);
+}
