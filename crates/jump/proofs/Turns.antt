@@ -1,8 +1,8 @@
 -- A turn of the loop over a table's words, and one of the loop over the tables. Assumes nothing.
 use mathlib.Core.Path.{_≡_, sym, ap, _∙_, subst}
 use mathlib.Core.List.{List}
-use Prim.Native.Nat.{ℕ, suc, _+_, _*_, _-_, _/_, _%_, _^_, _≤_, _<_}
-use native.Mathlib.Nat.{pow-suc, add-comm, mul-comm, mul-left-comm, add-mul}
+use Prim.Native.Nat.{ℕ, zero, suc, _+_, _*_, _-_, _/_, _%_, _^_, _≤_, _<_}
+use native.Mathlib.Nat.{pow-suc, mul-zero, mul-one, add-comm, mul-comm, mul-left-comm, add-mul}
 use native.Mathlib.Numerals.{add-one}
 use native.Mathlib.Omega.{arith}
 use lib.Bits.{bitXor, xor-zero-r}
@@ -20,6 +20,17 @@ use Rattle.jump.specs.Carried.{table-carries}
 pub last-clear : (n : ℕ) → (n % 2 ≡ 1 → ⊥) → n % 2 ≡ 0
 last-clear n h = omega arith
 
+-- a word times a bit is the word where the bit is set, and else 0
+taken-times : (b w r : ℕ) → b < 2 → taken b w r ≡ bitXor (w * b) r
+taken-times zero w r h = sym (ap (λ (z : ℕ). bitXor z r) (mul-zero w))
+taken-times (suc zero) w r h = sym (ap (λ (z : ℕ). bitXor z r) (mul-one w))
+taken-times (suc (suc b)) w r h = absurd (omega arith)
+
+pub times-fits : (w b : ℕ) → w < 2 ^ 64 → b < 2 → w * b < 2 ^ 64
+times-fits w zero h l = rw mul-zero (omega arith)
+times-fits w (suc zero) h l = rw mul-one h
+times-fits w (suc (suc b)) h l = absurd (omega arith)
+
 module _ (t : List ℕ) (k : ℕ) (inside : 64 * k + 64 ≤ length t) where
   long : length (row k t) ≡ 64
   long = length-take-le 64 (drop (64 * k) t) (rw length-drop (omega arith))
@@ -33,19 +44,12 @@ module _ (t : List ℕ) (k : ℕ) (inside : 64 * k + 64 ≤ length t) where
       ap (λ (l : List ℕ). apply l bits) (drop-cons (row k t) i 0 (omega (arith, long)))
       ∙ ap (λ (w : ℕ). taken (bits % 2) w (apply (drop (suc i) (row k t)) (bits / 2))) (row-word t k i h)
 
-  pub set-bit : (state sum bits i : ℕ) → i < 64 → bits % 2 ≡ 1 → Summed state sum bits i → Summed state (bitXor sum (getD t (64 * k + i) 0)) (bits / 2) (i + 1)
-  set-bit state sum bits i h b e =
+  pub next-bit : (state sum bits i : ℕ) → i < 64 → Summed state sum bits i → Summed state (bitXor sum (getD t (64 * k + i) 0 * (bits % 2))) (bits / 2) (i + 1)
+  next-bit state sum bits i h e =
       let w = getD t (64 * k + i) 0 in
       let rest = apply (drop (suc i) (row k t)) (bits / 2) in
-      ap (λ (j : ℕ). bitXor (bitXor sum w) (apply (drop j (row k t)) (bits / 2))) (add-one i) ∙ xor-assoc sum w rest
-      ∙ sym (ap (bitXor sum) (next-word bits i h ∙ ap (λ (d : ℕ). taken d w rest) b)) ∙ e
-
-  pub clear-bit : (state sum bits i : ℕ) → i < 64 → bits % 2 ≡ 0 → Summed state sum bits i → Summed state sum (bits / 2) (i + 1)
-  clear-bit state sum bits i h b e =
-      let w = getD t (64 * k + i) 0 in
-      let rest = apply (drop (suc i) (row k t)) (bits / 2) in
-      ap (λ (j : ℕ). bitXor sum (apply (drop j (row k t)) (bits / 2))) (add-one i)
-      ∙ sym (ap (bitXor sum) (next-word bits i h ∙ ap (λ (d : ℕ). taken d w rest) b)) ∙ e
+      ap (λ (j : ℕ). bitXor (bitXor sum (w * (bits % 2))) (apply (drop j (row k t)) (bits / 2))) (add-one i) ∙ xor-assoc sum (w * (bits % 2)) rest
+      ∙ sym (ap (bitXor sum) (next-word bits i h ∙ taken-times (bits % 2) w rest (omega arith))) ∙ e
 
   pub summed : (state sum bits i : ℕ) → i ≡ 64 → Summed state sum bits i → sum ≡ apply (row k t) state
   summed state sum bits i h e =

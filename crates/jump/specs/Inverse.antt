@@ -13,6 +13,7 @@ pub first-table : take 64 table ≡ words 64 stepOf
 unfolding table stepOf
 first-table = refl
 
+-- its words on 1, 2, 4, ..
 unfoldable back : List ℕ
 back =
     0xbe6df32f185a864d ∷ 0x7ccbe6de34b52c9b ∷ 0xf997cdbc696a5936 ∷ 0xf32f9b78d2d4b26c ∷

@@ -3,7 +3,7 @@ mod table;
 
 use xorshift::step;
 ghost use mathlib.Core.Path.{_≡_};
-ghost use Prim.Native.Nat.{_<_};
+ghost use Prim.Native.Nat.{_*_, _<_};
 ghost use lib.ListN.{length};
 ghost use Rattle.xorshift.specs.Xorshift.{stepTimes};
 ghost use Rattle.jump.specs.Table.{table};
@@ -18,6 +18,14 @@ fn stored() -> [u64; 4096]
     table::TABLE
 }
 
+// A word where the bit is set, and else 0.
+fn at_bit(word: u64, bit: u64) -> u64
+    requires { ⌜ bit < 2 ⌝ }
+    ensures { λ r. ⌜ r ≡ word * bit ⌝ }
+{
+    word * bit
+}
+
 // Table k applied to a state: the words at the state's set bits, xored.
 fn applied(tables: &[u64; 4096], k: usize, state: u64) -> u64
     requires { ⌜ (k < 64) × (length (now tables) ≡ 4096) ⌝ }
@@ -27,9 +35,7 @@ fn applied(tables: &[u64; 4096], k: usize, state: u64) -> u64
     let mut bits = state;
     let mut i = 0usize;
     while i < 64 {
-        if bits % 2 == 1 {
-            sum = sum ^ tables[64 * k + i];
-        }
+        sum = sum ^ at_bit(tables[64 * k + i], bits % 2);
         bits = bits / 2;
         i += 1;
     }

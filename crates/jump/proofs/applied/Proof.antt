@@ -1,11 +1,10 @@
 -- `jump::applied` meets its contract: what is summed, with what is left of the words at what is left of the bits, is the whole. Assumes nothing.
 use borrow.Author.Needs.{needs}
 use mathlib.Core.Path.{refl}
-use mathlib.Core.Logic.{⊎-elim}
 use Prim.Native.Nat.{_+_, _*_, _-_, _≤_}
 use native.Mathlib.Omega.{arith}
 use lib.ListN.{length}
-use Rattle.jump.proofs.Turns.{last-clear, Summed, set-bit, clear-bit, summed}
+use Rattle.jump.proofs.Turns.{Summed, next-bit, summed}
 use Rattle.jump.proofs.applied.Statement.{statement}
 use Rattle.jump.proofs.applied.Tie as tie
 
@@ -18,17 +17,20 @@ abbrev μ-loop : tie.MeasureT-loop
 loop-holds : tie.Need-loop-holds Inv-loop μ-loop
 loop-holds c = (omega arith, omega arith, refl)
 
-mul-sum : tie.Need-mul-sum Inv-loop μ-loop
-mul-sum c = search needs
+mul-at-bit : tie.Need-mul-at-bit Inv-loop μ-loop
+mul-at-bit c = search needs
 
-add-sum : tie.Need-add-sum Inv-loop μ-loop
-add-sum c = search needs
+add-at-bit : tie.Need-add-at-bit Inv-loop μ-loop
+add-at-bit c = search needs
 
-mul-sum-2 : tie.Need-mul-sum-2 Inv-loop μ-loop
-mul-sum-2 c = search needs
+mul-at-bit-2 : tie.Need-mul-at-bit-2 Inv-loop μ-loop
+mul-at-bit-2 c = search needs
 
-element-copy-out-sum : tie.Need-element-copy-out-sum Inv-loop μ-loop
-element-copy-out-sum c = search needs
+element-copy-out-at-bit : tie.Need-element-copy-out-at-bit Inv-loop μ-loop
+element-copy-out-at-bit c = search needs
+
+at-bit-requires : tie.Need-at-bit-requires Inv-loop μ-loop
+at-bit-requires c κs = omega arith
 
 add-i : tie.Need-add-i Inv-loop μ-loop
 add-i c = search needs
@@ -36,20 +38,13 @@ add-i c = search needs
 loop-less : tie.Need-loop-less Inv-loop μ-loop
 loop-less c = search needs
 
--- by the way that control came: the bit is set, or it is clear
 loop-again : tie.Need-loop-again Inv-loop μ-loop
 loop-again c =
-    let a = c .before .before .before .args in
-    let l = c .before .before .loop in
+    let a = c .before .before .before .before .args in
+    let l = c .before .before .before .loop in
     let inside = l .inv .0 in
-    let s = l .inv .2 in (
-      inside,
-      omega arith,
-      ⊎-elim
-          (λ w. rw (w .2) (set-bit (a .tables .now) (a .k) inside (a .state) (l .sum) (l .bits) (l .i) (search needs) (w .0 .taken) s))
-          (λ w. rw (w .1) (clear-bit (a .tables .now) (a .k) inside (a .state) (l .sum) (l .bits) (l .i) (search needs) (last-clear (l .bits) (w .0 .left)) s))
-          (c .if1 .came),
-    )
+    let summed = next-bit (a .tables .now) (a .k) inside (a .state) (l .sum) (l .bits) (l .i) (search needs) (l .inv .2) in
+    (inside, omega arith, rw (c .at-bit .ensures) summed)
 
 returns : tie.Need-returns Inv-loop μ-loop
 returns c =
@@ -64,10 +59,11 @@ applied-spec =
     Inv-loop
     μ-loop
     loop-holds
-    mul-sum
-    add-sum
-    mul-sum-2
-    element-copy-out-sum
+    mul-at-bit
+    add-at-bit
+    mul-at-bit-2
+    element-copy-out-at-bit
+    at-bit-requires
     add-i
     loop-less
     loop-again
