@@ -32,9 +32,9 @@ pub struct Damped {
     pub max_iterations: Option<u64>,
     /// Damping of the first attempt, 0 to 1e8.
     pub initial_damping: Option<f64>,
-    /// The run has converged where the merit falls by no more than this part of it.
+    /// The run has converged where an iteration gains less than this part of the merit.
     pub merit_tolerance: Option<f64>,
-    /// The run has converged where the gradient is no longer than this.
+    /// The run has converged where the gradient is shorter than this.
     pub gradient_tolerance: Option<f64>,
     /// Step of a derivative, as a part of the variable's value, 0 to 1.
     pub relative_step: Option<f64>,

@@ -32,6 +32,13 @@ fn there_and_back() {
 }
 
 #[test]
+fn a_name_is_no_comment() {
+    let mut odd = entry(job(&mut Dice(5)));
+    odd.name = "#7 of   #8".into();
+    assert_eq!(read(&write(&odd)).unwrap()[0].name, "_7 of _8");
+}
+
+#[test]
 fn numbers_read_back_to_the_same_bits() {
     let mut dice = Dice(9);
     for _ in 0..100_000 {

@@ -8,7 +8,8 @@ use crate::lens::{Aim, Operand, Surface, Variable};
 /// The job as a file has it. The line `run` is left out where the entry has none.
 pub fn write(entry: &Entry) -> String {
     let lens = &entry.job.lens;
-    let mut lines = vec![format!("job {}", entry.name), format!("slots {}", entry.slots.join(" ")), format!("pupil {}", shortest(lens.pupil_mm))];
+    let mut lines =
+        vec![format!("job {}", name(&entry.name)), format!("slots {}", entry.slots.join(" ")), format!("pupil {}", shortest(lens.pupil_mm))];
     lines.push("# radius, thickness, semi-diameter, conic, index behind it in each slot".to_string());
     lines.extend(lens.surfaces.iter().zip(&lens.indices).map(|(s, n)| surface(s, n)));
     lines.extend(entry.job.variables.iter().map(variable));
@@ -17,6 +18,11 @@ pub fn write(entry: &Entry) -> String {
         lines.push(run(&entry.job.run));
     }
     lines.join("\n") + "\n"
+}
+
+/// A word of a name that would read as a comment gets another first letter.
+fn name(of: &str) -> String {
+    of.split_whitespace().map(|word| word.strip_prefix('#').map_or(word.to_string(), |rest| format!("_{rest}"))).collect::<Vec<_>>().join(" ")
 }
 
 fn surface(s: &Surface, indices: &[f64]) -> String {

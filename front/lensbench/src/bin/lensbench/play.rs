@@ -29,17 +29,12 @@ impl Player {
         Player { bench: Bench::new(), next: 0, at: [None; 4] }
     }
 
-    /// Admits what there is room for and takes a stretch of turns at each place; answers the jobs that ended by it. Empty only at the very end.
+    /// Admits what there is room for and takes a stretch of turns at each place; answers the jobs that ended by it.
     pub fn round(&mut self, jobs: &[Source]) -> Result<Vec<(usize, Ended)>, String> {
         let mut ended = Vec::new();
-        while ended.is_empty() && (self.next < jobs.len() || self.at.iter().any(Option::is_some)) {
-            self.admit(jobs, &mut ended);
-            for place in Place::ALL {
-                self.stretch(place, &mut ended).map_err(|refusal| format!("{place}: {refusal}"))?;
-            }
-            if ended.is_empty() {
-                return Ok(ended);
-            }
+        self.admit(jobs, &mut ended);
+        for place in Place::ALL {
+            self.stretch(place, &mut ended).map_err(|refusal| format!("{place}: {refusal}"))?;
         }
         Ok(ended)
     }

@@ -1,0 +1,67 @@
+//! docs/JOBS.md is true: its example runs and prints what it says, its settings and bounds are the crate's.
+#![allow(clippy::unwrap_used)]
+mod common;
+use common::top;
+use lensbench::jobfile::read;
+use lensbench::{Annealing, Damped, MultiStart, Quantity, Run, Variable};
+use std::process::Command;
+
+fn document() -> String {
+    std::fs::read_to_string(top().join("docs/JOBS.md")).unwrap()
+}
+
+/// The texts between lines of three backquotes.
+fn blocks() -> Vec<String> {
+    document().split("\n```").skip(1).step_by(2).map(|block| block.trim_start_matches('\n').to_string() + "\n").collect()
+}
+
+#[test]
+fn the_example_prints_what_the_document_says() {
+    let blocks = blocks();
+    let file = std::path::PathBuf::from(env!("CARGO_TARGET_TMPDIR")).join("mine.lens");
+    std::fs::write(&file, &blocks[0]).unwrap();
+    let done = Command::new(env!("CARGO_BIN_EXE_lensbench")).args(["run", "mine.lens"]).current_dir(file.parent().unwrap()).output().unwrap();
+    assert_eq!((done.status.code(), &done.stderr[..]), (Some(0), &b""[..]));
+    let printed = String::from_utf8(done.stdout).unwrap();
+    let said = blocks.iter().find(|block| block.contains("changed by the run")).unwrap();
+    for line in said.lines().filter(|line| !line.trim().is_empty() && line.trim() != "..") {
+        assert!(printed.lines().any(|other| other == line), "{line}\n{printed}");
+    }
+}
+
+#[test]
+fn its_runs_are_in_form_and_its_defaults_are_the_crates() {
+    let (mut runs, text) = (0, document());
+    for block in blocks().iter().filter(|block| block.starts_with("run ")) {
+        assert!(read(&format!("job x\npupil 1\n{block}")).is_ok(), "{block}");
+        runs += 1;
+    }
+    assert_eq!(runs, 3);
+    let row = |name: &str, value: String| assert!(text.contains(&format!("| `{name}` | {value} |")), "{name} {value}");
+    let (damped, multi, anneal) = (Damped::DEFAULT, MultiStart::DEFAULT, Annealing::DEFAULT);
+    row("iterations", damped.max_iterations.unwrap().to_string());
+    row("damping", damped.initial_damping.unwrap().to_string());
+    row("merit-tolerance", format!("{:e}", damped.merit_tolerance.unwrap()));
+    row("gradient-tolerance", format!("{:e}", damped.gradient_tolerance.unwrap()));
+    row("relative-step", format!("{:e}", damped.relative_step.unwrap()));
+    row("trials", multi.trials.unwrap().to_string());
+    row("seed", multi.seed.unwrap().to_string());
+    assert!(text.contains(&format!("as there, but `iterations` {}", multi.local.max_iterations.unwrap())));
+    row("temperature", anneal.temperature.unwrap().to_string());
+    row("cooling", anneal.cooling_rate.unwrap().to_string());
+    row("steps", anneal.steps.unwrap().to_string());
+    row("cycles", anneal.cycles.unwrap().to_string());
+    row("seed", anneal.seed.unwrap().to_string());
+    for quantity in Quantity::ALL {
+        let v = Variable::new(quantity, 0);
+        row(lensbench::jobfile::quantity_name(quantity), format!("{} | {} | {:e}", v.least, v.greatest, v.step));
+    }
+}
+
+/// What the three kinds are good for is said with a file for each.
+#[test]
+fn the_examples_are_of_the_kinds_that_the_document_says() {
+    let kind = |name: &str| read(&std::fs::read_to_string(top().join("examples").join(name)).unwrap()).unwrap()[0].job.run;
+    assert!(matches!(kind("singlet.lens"), Run::Damped(_)) && matches!(kind("achromat.lens"), Run::Damped(_)));
+    assert!(matches!(kind("triplet.lens"), Run::MultiStart(_)) && matches!(kind("scanner.lens"), Run::Annealing(_)));
+}
