@@ -34,9 +34,8 @@ fn folder() -> Result<PathBuf, String> {
     Ok(Path::new(&here).join("../../target/front"))
 }
 
-/// The header that came with the archive has this crate's layout.
+/// The header that came with the archive has this crate's layout. It is not watched: front/lib copies it anew each time, and another layout is another archive.
 fn check_layout(header: &Path) -> Result<(), String> {
-    println!("cargo:rerun-if-changed={}", header.display());
     let text = std::fs::read_to_string(header).map_err(|e| format!("{}: {e}", header.display()))?;
     if text.lines().any(|line| line.trim() == ABI) {
         return Ok(());
