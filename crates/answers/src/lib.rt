@@ -6,6 +6,7 @@ mod result;
 pub use digest::START;
 pub use digest::with_float;
 pub use digest::with_surfaces;
+pub use pieces::put_cut;
 pub use pieces::put_number;
 pub use pieces::put_row;
 pub use pieces::put_unknown;

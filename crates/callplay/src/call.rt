@@ -7,13 +7,14 @@ use bench::Bench;
 use jobs::JobRequest;
 use text::cursor;
 use text::cursor::Cursor;
+use text::cursor::Why;
 use text::output;
-use text::words;
+use text::output::Waiting;
 
 // Answers a line from where its name ends.
 pub(crate) fn answer_call(
     out: &mut [u8],
-    waiting: usize,
+    waiting: Waiting,
     bench: Bench,
     line: &[u8],
     at: usize,
@@ -33,20 +34,35 @@ pub(crate) fn answer_call(
             bench: bench,
             waiting: listing::list(out, waiting, bench, line, at, number),
         },
-        _ => unknown(out, waiting, bench, number),
+        _ => unknown(
+            out,
+            waiting,
+            bench,
+            line,
+            number,
+            cursor::spoilt(Cursor::new(0), Why::Kind),
+        ),
     }
 }
 
 // A line out of form leaves the bench as it is.
-pub(crate) fn unknown(out: &mut [u8], waiting: usize, bench: Bench, number: u64) -> Answered {
+pub(crate) fn unknown(
+    out: &mut [u8],
+    waiting: Waiting,
+    bench: Bench,
+    line: &[u8],
+    number: u64,
+    c: Cursor,
+) -> Answered {
     Answered {
         bench: bench,
-        waiting: put_unknown(out, waiting, number),
+        waiting: put_unknown(out, waiting, line, number, c),
     }
 }
 
 // A call's name and its number, as a whole line.
-fn put_call(out: &mut [u8], waiting: usize, name: &[u8], number: u32) -> usize {
+fn put_call(out: &mut [u8], waiting: Waiting, name: &[u8], number: u32) -> Waiting {
+    let waiting = output::counted(waiting, number > 0);
     let waiting = answers::put_number(out, waiting, name, number as u64);
     output::put(out, waiting, b"\n")
 }
@@ -54,14 +70,15 @@ fn put_call(out: &mut [u8], waiting: usize, name: &[u8], number: u32) -> usize {
 // Z: the empty bench.
 fn empty(
     out: &mut [u8],
-    waiting: usize,
+    waiting: Waiting,
     bench: Bench,
     line: &[u8],
     at: usize,
     number: u64,
 ) -> Answered {
-    if !words::is_end(line, at) {
-        return unknown(out, waiting, bench, number);
+    let c = Cursor::new(at);
+    if !cursor::is_done(line, c) {
+        return unknown(out, waiting, bench, line, number, c);
     }
     Answered {
         bench: benchcalls::empty_bench(),
@@ -72,20 +89,19 @@ fn empty(
 // A place J id kind ..
 fn admit(
     out: &mut [u8],
-    waiting: usize,
+    waiting: Waiting,
     bench: Bench,
     line: &[u8],
     at: usize,
     number: u64,
 ) -> Answered {
     let place = cursor::decimal(line, Cursor::new(at));
-    let tagged = cursor::tag(line, place.next, b"J");
-    let id = words::next_word(line, tagged.at);
-    let kind = cursor::decimal(line, cursor::required(Cursor::new(id.to), tagged.is_good));
+    let named = cursor::word(line, cursor::tag(line, place.next, b"J"));
+    let kind = cursor::within(line, named, 1, 3, Why::Kind);
     let job = joblines::read_job(line, kind.next);
     let read = joblines::read_request(line, kind.value, job);
     if !cursor::is_done(line, read.next) {
-        return unknown(out, waiting, bench, number);
+        return unknown(out, waiting, bench, line, number, read.next);
     }
     let request = read.request;
     admit_request(out, waiting, bench, place.value as usize, request)
@@ -93,7 +109,7 @@ fn admit(
 
 fn admit_request(
     out: &mut [u8],
-    waiting: usize,
+    waiting: Waiting,
     bench: Bench,
     place: usize,
     request: JobRequest,
@@ -109,7 +125,7 @@ fn admit_request(
 // D place
 fn release(
     out: &mut [u8],
-    waiting: usize,
+    waiting: Waiting,
     bench: Bench,
     line: &[u8],
     at: usize,
@@ -117,7 +133,7 @@ fn release(
 ) -> Answered {
     let place = cursor::decimal(line, Cursor::new(at));
     if !cursor::is_done(line, place.next) {
-        return unknown(out, waiting, bench, number);
+        return unknown(out, waiting, bench, line, number, place.next);
     }
     let answer = benchcalls::released(bench, place.value as usize);
     let left = answer.bench;
@@ -130,21 +146,21 @@ fn release(
 // F place
 fn fetch(
     out: &mut [u8],
-    waiting: usize,
+    waiting: Waiting,
     bench: Bench,
     line: &[u8],
     at: usize,
     number: u64,
-) -> usize {
+) -> Waiting {
     let place = cursor::decimal(line, Cursor::new(at));
     if !cursor::is_done(line, place.next) {
-        return put_unknown(out, waiting, number);
+        return put_unknown(out, waiting, line, number, place.next);
     }
     put_fetched(out, waiting, bench, place.value as usize)
 }
 
 // A fetch that is done is one of the four places.
-fn put_fetched(out: &mut [u8], waiting: usize, bench: Bench, place: usize) -> usize {
+fn put_fetched(out: &mut [u8], waiting: Waiting, bench: Bench, place: usize) -> Waiting {
     let none = rows::zero_row().best;
     let fetched = benchcalls::fetched(bench, place, none);
     if fetched.number > 0 {

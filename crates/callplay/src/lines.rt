@@ -8,10 +8,12 @@ use text::input;
 use text::input::Input;
 use text::input::Line;
 use text::output;
+use text::output::Waiting;
+use text::session;
 use text::words;
 
 // An answer that leaves the bench as it is.
-fn with_waiting(state: Answered, waiting: usize) -> Answered {
+fn with_waiting(state: Answered, waiting: Waiting) -> Answered {
     let bench = state.bench;
     Answered {
         bench: bench,
@@ -33,21 +35,22 @@ fn answer_line(out: &mut [u8], state: Answered, line: &[u8], number: u64) -> Ans
         return state;
     }
     let letter = letter_of(&line[from..to]);
+    let waiting = state.waiting;
     let bench = state.bench;
-    call::answer_call(out, state.waiting, bench, line, to, letter, number)
+    call::answer_call(out, waiting, bench, line, to, letter, number)
 }
 
-// Answers a line of the input where it is there; one that is too long for the buffer has no form.
+// Answers a line of the input; while none is there, what waits is written.
 fn answer_found(out: &mut [u8], state: Answered, buf: &[u8], line: Line) -> Answered
     requires { ⌜ line .from ≤ line .to ⌝ }
     requires { ⌜ line .to ≤ length (now buf) ⌝ }
 {
+    let waiting = state.waiting;
     if !line.is_there {
-        return state;
+        return with_waiting(state, output::flush(out, waiting));
     }
     if line.is_cut {
-        let waiting = answers::put_unknown(out, state.waiting, line.number);
-        return with_waiting(state, waiting);
+        return with_waiting(state, answers::put_cut(out, waiting, line.number));
     }
     let from = line.from;
     let to = line.to;
@@ -58,7 +61,7 @@ fn answer_found(out: &mut [u8], state: Answered, buf: &[u8], line: Line) -> Answ
 fn at_start() -> Answered {
     Answered {
         bench: benchcalls::empty_bench(),
-        waiting: 0,
+        waiting: Waiting::new(),
     }
 }
 
@@ -68,11 +71,11 @@ pub(crate) fn answer_all(buf: &mut [u8], out: &mut [u8]) {
     let mut input = Input::new();
     let mut state = at_start();
     let mut steps = u64::MAX;
-    while steps > 0 && input.is_open {
+    while steps > 0 && input.is_open && state.waiting.is_good {
         let line = input::next_line(buf, input);
         state = answer_found(out, state, buf, line);
-        input = line.input;
+        input = input::go_on(buf, line);
         steps -= 1;
     }
-    output::flush(out, state.waiting);
+    session::finish(out, state.waiting, input);
 }

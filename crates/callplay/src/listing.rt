@@ -2,20 +2,23 @@
 use answers::put_unknown;
 use bench::Bench;
 use bench::Finished;
+use text::cursor;
+use text::cursor::Cursor;
 use text::output;
-use text::words;
+use text::output::Waiting;
 
 // L
 pub(crate) fn list(
     out: &mut [u8],
-    waiting: usize,
+    waiting: Waiting,
     bench: Bench,
     line: &[u8],
     at: usize,
     number: u64,
-) -> usize {
-    if !words::is_end(line, at) {
-        return put_unknown(out, waiting, number);
+) -> Waiting {
+    let c = Cursor::new(at);
+    if !cursor::is_done(line, c) {
+        return put_unknown(out, waiting, line, number, c);
     }
     let finished = benchcalls::listed(bench);
     let waiting = answers::put_number(out, waiting, b"L", finished.count as u64);
@@ -23,7 +26,7 @@ pub(crate) fn list(
     output::put(out, waiting, b"\n")
 }
 
-fn put_places(out: &mut [u8], waiting: usize, finished: Finished) -> usize {
+fn put_places(out: &mut [u8], waiting: Waiting, finished: Finished) -> Waiting {
     let mut held = waiting;
     let mut place = 0;
     while place < 4 {
@@ -34,7 +37,7 @@ fn put_places(out: &mut [u8], waiting: usize, finished: Finished) -> usize {
 }
 
 // The place, where the listing has it.
-fn put_place(out: &mut [u8], waiting: usize, finished: Finished, place: usize) -> usize {
+fn put_place(out: &mut [u8], waiting: Waiting, finished: Finished, place: usize) -> Waiting {
     if has_place(finished, place) {
         return answers::put_number(out, waiting, b"", place as u64);
     }

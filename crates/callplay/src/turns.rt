@@ -6,11 +6,12 @@ use benchcalls::Played;
 use text::cursor;
 use text::cursor::Cursor;
 use text::output;
+use text::output::Waiting;
 
 // T place length times
 pub(crate) fn turn(
     out: &mut [u8],
-    waiting: usize,
+    waiting: Waiting,
     bench: Bench,
     line: &[u8],
     at: usize,
@@ -20,7 +21,7 @@ pub(crate) fn turn(
     let room = cursor::decimal(line, place.next);
     let times = cursor::decimal(line, room.next);
     if !cursor::is_done(line, times.next) {
-        return call::unknown(out, waiting, bench, number);
+        return call::unknown(out, waiting, bench, line, number, times.next);
     }
     take_turns(
         out,
@@ -35,7 +36,7 @@ pub(crate) fn turn(
 // Scratch past the most that there is here would change nothing.
 fn take_turns(
     out: &mut [u8],
-    waiting: usize,
+    waiting: Waiting,
     bench: Bench,
     place: usize,
     room: usize,
@@ -43,6 +44,7 @@ fn take_turns(
 ) -> Answered {
     let mut scratch = [0.0; 1024];
     let played = turns_within(bench, place, times, &mut scratch, room);
+    let waiting = output::counted(waiting, played.number > 0);
     let waiting = answers::put_number(out, waiting, b"T", played.number as u64);
     let waiting = answers::put_number(out, waiting, b"", played.taken);
     let left = played.bench;

@@ -3,6 +3,7 @@ ghost use Prim.Native.Nat.{_≤_, _<_};
 ghost use lib.ListN.{length};
 use crate::table::ENTRIES;
 use text::output;
+use text::output::Waiting;
 
 pub(crate) struct Tally {
     pub tried: [u64; 52],
@@ -33,7 +34,7 @@ pub(crate) fn counted(t: Tally, entry: usize, is_right: bool) -> Tally
 }
 
 // One of four names, twelve letters each.
-fn put_name(out: &mut [u8], waiting: usize, names: &[u8], at: usize) -> usize
+fn put_name(out: &mut [u8], waiting: Waiting, names: &[u8], at: usize) -> Waiting
     requires { ⌜ 48 ≤ length (now names) ⌝ }
 {
     let from = at % 4 * 12;
@@ -42,7 +43,7 @@ fn put_name(out: &mut [u8], waiting: usize, names: &[u8], at: usize) -> usize
 }
 
 // The entries 0 to 27.
-fn put_first_name(out: &mut [u8], waiting: usize, e: usize) -> usize {
+fn put_first_name(out: &mut [u8], waiting: Waiting, e: usize) -> Waiting {
     match e / 4 {
         0 => put_name(
             out,
@@ -90,7 +91,7 @@ fn put_first_name(out: &mut [u8], waiting: usize, e: usize) -> usize {
 }
 
 // The entries from 28 on.
-fn put_last_name(out: &mut [u8], waiting: usize, e: usize) -> usize {
+fn put_last_name(out: &mut [u8], waiting: Waiting, e: usize) -> Waiting {
     match e / 4 {
         7 => put_name(
             out,
@@ -131,30 +132,28 @@ fn put_last_name(out: &mut [u8], waiting: usize, e: usize) -> usize {
     }
 }
 
-fn put_entry_name(out: &mut [u8], waiting: usize, e: usize) -> usize {
+fn put_entry_name(out: &mut [u8], waiting: Waiting, e: usize) -> Waiting {
     if e < 28 {
         return put_first_name(out, waiting, e);
     }
     put_last_name(out, waiting, e)
 }
 
-fn put_entry(out: &mut [u8], waiting: usize, e: usize, tried: u64, right: u64) -> usize {
+fn put_entry(out: &mut [u8], waiting: Waiting, e: usize, tried: u64, right: u64) -> Waiting {
     let waiting = put_entry_name(out, waiting, e);
-    let waiting = output::put(out, waiting, b" ");
-    let waiting = output::put_decimal(out, waiting, tried);
-    let waiting = output::put(out, waiting, b" ");
-    let waiting = output::put_decimal(out, waiting, right);
+    let waiting = answers::put_number(out, waiting, b"", tried);
+    let waiting = answers::put_number(out, waiting, b"", right);
     output::put(out, waiting, b"\n")
 }
 
-pub(crate) fn print(out: &mut [u8], t: Tally) {
+pub(crate) fn print(out: &mut [u8], waiting: Waiting, t: Tally) -> Waiting {
     let tried = t.tried;
     let right = t.right;
-    let mut waiting = 0;
+    let mut held = waiting;
     let mut e = 0;
     while e < ENTRIES {
-        waiting = put_entry(out, waiting, e, tried[e], right[e]);
+        held = put_entry(out, held, e, tried[e], right[e]);
         e += 1;
     }
-    output::flush(out, waiting);
+    held
 }

@@ -1,14 +1,14 @@
 -- Operands of a job line. Definitions only.
 use Prim.Native.Nat.{ℕ}
 use mathlib.Core.List.{List}
-use lib.Dec.{ltb}
 use lib.Ieee.{nan}
 use lib.ListN.{replicate}
 use Rattle.merit.specs.declared.types.MeritOperand.{MeritOperand}
 use Rattle.merit.specs.declared.types.OperandType.the-variants.{EffectiveFocalLength}
 use Rattle.jobs.specs.Entries.{operandType}
 use Rattle.text.specs.declared.cursor.Cursor.{Cursor}
-use Rattle.text.specs.Cursor.{decimalFrom, demanded, floatFrom}
+use Rattle.text.specs.declared.cursor.Why.the-variants.{Kind}
+use Rattle.text.specs.Cursor.{decimalFrom, withinFrom, floatFrom}
 use Rattle.joblines.specs.declared.operands.OperandRead.{OperandRead}
 use Rattle.joblines.specs.declared.operands.OperandsRead.{OperandsRead}
 use Rattle.joblines.specs.Entries.{past, filled, storedAt}
@@ -16,14 +16,14 @@ use Rattle.joblines.specs.Entries.{past, filled, storedAt}
 -- an operand: kind at limit target weight; there are kinds 0 to 6
 unfoldable pub operandFrom : List ℕ → Cursor → OperandRead
 operandFrom line c =
-    let kind = decimalFrom line c in
+    let kind = withinFrom 0 6 Kind line c in
     let at = decimalFrom line (kind .next) in
     let limit = floatFrom line (at .next) in
     let target = floatFrom line (limit .next) in
     let weight = floatFrom line (target .next) in
     record {
       operand = record { «operand_type» = operandType (kind .value) (at .value) (limit .value); target = target .value; weight = weight .value };
-      next = demanded (ltb (kind .value) 7) (weight .next);
+      next = weight .next;
     }
 
 abbrev pub pastOperand : List ℕ → Cursor → Cursor

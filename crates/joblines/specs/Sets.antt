@@ -1,15 +1,16 @@
 -- Variables of a job line. Definitions only.
 use Prim.Native.Nat.{ℕ}
-use mathlib.Core.Bool.{true, _&&_}
+use mathlib.Core.Bool.{true}
 use mathlib.Core.List.{List}
-use lib.Dec.{ltb, eqb}
+use lib.Dec.{eqb}
 use lib.Ieee.{nan}
 use lib.ListN.{replicate}
 use Rattle.variables.specs.declared.types.VariableDef.{VariableDef}
 use Rattle.variables.specs.declared.types.VariableType.the-variants.{Curvature}
 use Rattle.jobs.specs.Entries.{variableType}
 use Rattle.text.specs.declared.cursor.Cursor.{Cursor}
-use Rattle.text.specs.Cursor.{decimalFrom, demanded, floatFrom}
+use Rattle.text.specs.declared.cursor.Why.the-variants.{Kind, Range}
+use Rattle.text.specs.Cursor.{decimalFrom, withinFrom, floatFrom}
 use Rattle.joblines.specs.declared.sets.VariableRead.{VariableRead}
 use Rattle.joblines.specs.declared.sets.VariablesRead.{VariablesRead}
 use Rattle.joblines.specs.Entries.{past, filled, storedAt}
@@ -17,15 +18,15 @@ use Rattle.joblines.specs.Entries.{past, filled, storedAt}
 -- a variable: type surface enabled lo hi step; there are types 0 to 3, and the mark of an enabled variable is 1, that of another 0
 unfoldable pub variableFrom : List ℕ → Cursor → VariableRead
 variableFrom line c =
-    let kind = decimalFrom line c in
+    let kind = withinFrom 0 3 Kind line c in
     let surface = decimalFrom line (kind .next) in
-    let enabled = decimalFrom line (surface .next) in
+    let enabled = withinFrom 0 1 Range line (surface .next) in
     let lo = floatFrom line (enabled .next) in
     let hi = floatFrom line (lo .next) in
     let step = floatFrom line (hi .next) in
     record {
       variable = record { «var_type» = variableType (kind .value) (surface .value); «min_value» = lo .value; «max_value» = hi .value; «step_size» = step .value; enabled = eqb (enabled .value) 1 };
-      next = demanded (ltb (kind .value) 4 && ltb (enabled .value) 2) (step .next);
+      next = step .next;
     }
 
 abbrev pub pastVariable : List ℕ → Cursor → Cursor

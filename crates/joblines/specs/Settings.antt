@@ -7,13 +7,14 @@ use Rattle.jobs.specs.declared.types.CountSetting as count-setting
 use Rattle.jobs.specs.declared.types.NumberSetting as number-setting
 use Rattle.jobs.specs.declared.types.MethodRequest.the-variants.{Damped, MultiStart, Annealing}
 use Rattle.text.specs.declared.cursor.Cursor.{Cursor}
-use Rattle.text.specs.Cursor.{numberFrom, floatFrom, pastTag, spoiltFrom}
+use Rattle.text.specs.declared.cursor.Why.the-variants.{Kind}
+use Rattle.text.specs.Cursor.{numberFrom, floatFrom, pastTag, spoiltBy}
 use Rattle.joblines.specs.declared.settings.CountRead.{CountRead}
 use Rattle.joblines.specs.declared.settings.NumberSettingRead.{NumberSettingRead}
 use Rattle.joblines.specs.declared.settings.DlsRead.{DlsRead}
 use Rattle.joblines.specs.declared.settings.MethodRead.{MethodRead}
 
--- a setting that is left out is written `d`, which is looked for first: it is a hexadecimal digit too
+-- a setting that is left out is written `d`
 abbrev pub leftOut : List ℕ → Cursor → Cursor
 leftOut line c = pastTag line c (100 ∷ [])
 
@@ -90,4 +91,4 @@ unfoldable pub methodFrom : List ℕ → Cursor → (kind : ℕ) → MethodRead
 methodFrom line c kind =
     cond (eqb kind 1) (dampedMethodFrom line c)
     (cond (eqb kind 2) (multiStartFrom line c)
-    (cond (eqb kind 3) (annealingFrom line c) (dampedMethodFrom line (spoiltFrom c))))
+    (cond (eqb kind 3) (annealingFrom line c) (dampedMethodFrom line (spoiltBy Kind c))))

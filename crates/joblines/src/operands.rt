@@ -6,6 +6,7 @@ use merit::MeritOperand;
 use merit::OperandType;
 use text::cursor;
 use text::cursor::Cursor;
+use text::cursor::Why;
 
 struct OperandRead {
     pub operand: MeritOperand,
@@ -16,7 +17,7 @@ struct OperandRead {
 fn read_operand(line: &[u8], c: Cursor) -> OperandRead
     ensures { λ r. ⌜ r ≡ operandFrom (now (line .entry)) c ⌝ }
 {
-    let number = cursor::decimal(line, c);
+    let number = cursor::within(line, c, 0, 6, Why::Kind);
     let at = cursor::decimal(line, number.next);
     let limit = cursor::float(line, at.next);
     let target = cursor::float(line, limit.next);
@@ -27,7 +28,7 @@ fn read_operand(line: &[u8], c: Cursor) -> OperandRead
         target: target.value,
         weight: weight.value,
     };
-    let next = cursor::required(weight.next, number.value < 7);
+    let next = weight.next;
     OperandRead {
         operand: operand,
         next: next,

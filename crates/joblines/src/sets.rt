@@ -4,6 +4,7 @@ ghost use Rattle.jobs.specs.Entries.{variableType};
 ghost use Rattle.joblines.specs.Sets.{variableFrom, variablesFrom};
 use text::cursor;
 use text::cursor::Cursor;
+use text::cursor::Why;
 use variables::VariableDef;
 use variables::VariableType;
 
@@ -16,9 +17,9 @@ struct VariableRead {
 fn read_variable(line: &[u8], c: Cursor) -> VariableRead
     ensures { λ r. ⌜ r ≡ variableFrom (now (line .entry)) c ⌝ }
 {
-    let number = cursor::decimal(line, c);
+    let number = cursor::within(line, c, 0, 3, Why::Kind);
     let surface = cursor::decimal(line, number.next);
-    let enabled = cursor::decimal(line, surface.next);
+    let enabled = cursor::within(line, surface.next, 0, 1, Why::Range);
     let lo = cursor::float(line, enabled.next);
     let hi = cursor::float(line, lo.next);
     let step = cursor::float(line, hi.next);
@@ -30,7 +31,7 @@ fn read_variable(line: &[u8], c: Cursor) -> VariableRead
         step_size: step.value,
         enabled: enabled.value == 1,
     };
-    let next = cursor::required(step.next, number.value < 4 && enabled.value < 2);
+    let next = step.next;
     VariableRead {
         variable: variable,
         next: next,

@@ -9,6 +9,7 @@ use jobs::NumberSetting;
 use jobs::SimulatedAnnealingRequest;
 use text::cursor;
 use text::cursor::Cursor;
+use text::cursor::Why;
 
 struct CountRead {
     pub setting: CountSetting,
@@ -20,7 +21,7 @@ struct NumberSettingRead {
     pub next: Cursor,
 }
 
-// A count, in decimal. The mark `d` is looked for first here and below, since it is a hexadecimal digit too.
+// A count, in decimal.
 fn read_count(line: &[u8], c: Cursor) -> CountRead
     ensures { λ r. ⌜ r ≡ countFrom 10 (now (line .entry)) c ⌝ }
 {
@@ -183,6 +184,6 @@ pub(crate) fn read_method(line: &[u8], c: Cursor, kind: u64) -> MethodRead
         1 => read_damped_method(line, c),
         2 => read_multi_start(line, c),
         3 => read_annealing(line, c),
-        _ => read_damped_method(line, cursor::required(c, false)),
+        _ => read_damped_method(line, cursor::spoilt(c, Why::Kind)),
     }
 }

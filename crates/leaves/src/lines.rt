@@ -7,10 +7,12 @@ use text::input;
 use text::input::Input;
 use text::input::Line;
 use text::output;
+use text::output::Waiting;
+use text::session;
 use text::words;
 
 // Answers one line. Blanks alone have no answer.
-fn answer_line(out: &mut [u8], waiting: usize, line: &[u8], number: u64) -> usize {
+fn answer_line(out: &mut [u8], waiting: Waiting, line: &[u8], number: u64) -> Waiting {
     let w = words::next_word(line, 0);
     let from = w.from;
     let to = w.to;
@@ -27,16 +29,16 @@ fn answer_line(out: &mut [u8], waiting: usize, line: &[u8], number: u64) -> usiz
     leaf::answer_leaf(out, waiting, line, w, number)
 }
 
-// Answers a line of the input where it is there; one that is too long for the buffer has no form.
-fn answer_found(out: &mut [u8], waiting: usize, buf: &[u8], line: Line) -> usize
+// Answers a line of the input; while none is there, what waits is written.
+fn answer_found(out: &mut [u8], waiting: Waiting, buf: &[u8], line: Line) -> Waiting
     requires { ⌜ line .from ≤ line .to ⌝ }
     requires { ⌜ line .to ≤ length (now buf) ⌝ }
 {
     if !line.is_there {
-        return waiting;
+        return output::flush(out, waiting);
     }
     if line.is_cut {
-        return answers::put_unknown(out, waiting, line.number);
+        return answers::put_cut(out, waiting, line.number);
     }
     let from = line.from;
     let to = line.to;
@@ -47,13 +49,13 @@ fn answer_found(out: &mut [u8], waiting: usize, buf: &[u8], line: Line) -> usize
 // the steps are counted down, from a number that no run uses up.
 pub(crate) fn answer_all(buf: &mut [u8], out: &mut [u8]) {
     let mut input = Input::new();
-    let mut waiting = 0;
+    let mut waiting = Waiting::new();
     let mut steps = u64::MAX;
-    while steps > 0 && input.is_open {
+    while steps > 0 && input.is_open && waiting.is_good {
         let line = input::next_line(buf, input);
         waiting = answer_found(out, waiting, buf, line);
-        input = line.input;
+        input = input::go_on(buf, line);
         steps -= 1;
     }
-    output::flush(out, waiting);
+    session::finish(out, waiting, input);
 }

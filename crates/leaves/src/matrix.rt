@@ -11,7 +11,9 @@ use normal::place;
 use normal::system_place;
 use text::cursor;
 use text::cursor::Cursor;
+use text::cursor::Why;
 use text::output;
+use text::output::Waiting;
 
 // A system of p unknowns, row after row, then its right side.
 fn read_system(line: &[u8], c: Cursor, scratch: &mut [f64], p: usize) -> Cursor
@@ -44,20 +46,20 @@ fn read_right_side(line: &[u8], c: Cursor, scratch: &mut [f64], p: usize) -> Cur
 // SOLVE p {entries by rows} {right side}: the solution, or `none`.
 pub(crate) fn answer_solve(
     out: &mut [u8],
-    waiting: usize,
+    waiting: Waiting,
     line: &[u8],
     at: usize,
     number: u64,
-) -> usize {
-    let r = cursor::decimal(line, Cursor::new(at));
+) -> Waiting {
+    let r = cursor::within(line, Cursor::new(at), 1, 8, Why::Range);
     let p = r.value as usize;
     if p == 0 || p > 8 {
-        return put_unknown(out, waiting, number);
+        return put_unknown(out, waiting, line, number, r.next);
     }
     let mut scratch = [0.0; 256];
     let c = read_system(line, r.next, &mut scratch, p);
     if !cursor::is_done(line, c) {
-        return put_unknown(out, waiting, number);
+        return put_unknown(out, waiting, line, number, c);
     }
     let solved = normal::solve(&mut scratch, p);
     let waiting = put_line(out, waiting, line);
@@ -67,7 +69,7 @@ pub(crate) fn answer_solve(
     put_solution(out, waiting, &scratch, p)
 }
 
-fn put_solution(out: &mut [u8], waiting: usize, scratch: &[f64], p: usize) -> usize
+fn put_solution(out: &mut [u8], waiting: Waiting, scratch: &[f64], p: usize) -> Waiting
     requires { ⌜ scratchLength ≤ length (now scratch) ⌝ ∗ ⌜ p ≤ mostVariables ⌝ }
 {
     let to = STEP + p;
@@ -76,7 +78,7 @@ fn put_solution(out: &mut [u8], waiting: usize, scratch: &[f64], p: usize) -> us
 }
 
 // A line that is in form, up to its answer.
-fn put_line(out: &mut [u8], waiting: usize, line: &[u8]) -> usize {
+fn put_line(out: &mut [u8], waiting: Waiting, line: &[u8]) -> Waiting {
     let waiting = output::put(out, waiting, line);
     output::put(out, waiting, b" =")
 }
@@ -98,24 +100,24 @@ fn read_columns(line: &[u8], c: Cursor, jacobian: &mut [f64], m: usize, p: usize
 // NORMAL m p {entries by columns} {residuals}: J^T J by rows, J^T r, and its norm.
 pub(crate) fn answer_normal(
     out: &mut [u8],
-    waiting: usize,
+    waiting: Waiting,
     line: &[u8],
     at: usize,
     number: u64,
-) -> usize {
-    let r = cursor::decimal(line, Cursor::new(at));
+) -> Waiting {
+    let r = cursor::within(line, Cursor::new(at), 1, 12, Why::Range);
     let m = r.value as usize;
-    let r = cursor::decimal(line, r.next);
+    let r = cursor::within(line, r.next, 1, 8, Why::Range);
     let p = r.value as usize;
     if m == 0 || m > 12 || p == 0 || p > 8 {
-        return put_unknown(out, waiting, number);
+        return put_unknown(out, waiting, line, number, r.next);
     }
     let mut jacobian = [0.0; 96];
     let mut residuals = [0.0; 12];
     let c = read_columns(line, r.next, &mut jacobian, m, p);
     let c = cursor::floats(line, c, &mut residuals, m);
     if !cursor::is_done(line, c) {
-        return put_unknown(out, waiting, number);
+        return put_unknown(out, waiting, line, number, c);
     }
     let mut scratch = [0.0; 256];
     let norm = normal::normal_equations(&mut scratch, &jacobian, &residuals, m, p);
@@ -123,18 +125,18 @@ pub(crate) fn answer_normal(
     put_equations(out, waiting, &scratch, p, norm)
 }
 
-fn put_equations(out: &mut [u8], waiting: usize, scratch: &[f64], p: usize, norm: f64) -> usize
+fn put_equations(out: &mut [u8], waiting: Waiting, scratch: &[f64], p: usize, norm: f64) -> Waiting
     requires { ⌜ scratchLength ≤ length (now scratch) ⌝ ∗ ⌜ p ≤ mostVariables ⌝ }
 {
     let waiting = put_product(out, waiting, scratch, p);
     let to = GRADIENT + p;
     let waiting = output::put_floats(out, waiting, &scratch[GRADIENT..to]);
-    let waiting = output::put(out, waiting, b" ");
-    let waiting = output::put_float(out, waiting, norm);
+    let last = [norm];
+    let waiting = output::put_floats(out, waiting, &last);
     output::put(out, waiting, b"\n")
 }
 
-fn put_product(out: &mut [u8], waiting: usize, scratch: &[f64], p: usize) -> usize
+fn put_product(out: &mut [u8], waiting: Waiting, scratch: &[f64], p: usize) -> Waiting
     requires { ⌜ scratchLength ≤ length (now scratch) ⌝ ∗ ⌜ p ≤ mostVariables ⌝ }
 {
     let mut held = waiting;

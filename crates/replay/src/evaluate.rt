@@ -6,61 +6,62 @@ use crate::marks;
 use answers::put_unknown;
 use joblines::JobLine;
 use merit::MeritEvaluation;
+use merit::MeritFunction;
 use optics::OpticalPrescription;
 use text::cursor;
 use text::output;
+use text::output::Waiting;
 use text::words::Word;
 
 // Kind 4 has no settings.
 pub(crate) fn evaluate(
     out: &mut [u8],
-    waiting: usize,
+    waiting: Waiting,
     line: &[u8],
     id: Word,
     job: JobLine,
     number: u64,
-) -> usize
+) -> Waiting
     requires { ⌜ id .from ≤ id .to ⌝ }
     requires { ⌜ id .to ≤ length (now line) ⌝ }
 {
     if !cursor::is_done(line, job.next) {
-        return put_unknown(out, waiting, number);
+        return put_unknown(out, waiting, line, number, job.next);
     }
     let prescription = job.prescription;
     let function = job.merit_function;
     let waiting = job::put_head(out, waiting, line, id);
     let waiting = output::put(out, waiting, b" 4");
+    put_evaluated(out, waiting, prescription, function)
+}
+
+fn put_evaluated(
+    out: &mut [u8],
+    waiting: Waiting,
+    prescription: OpticalPrescription,
+    function: MeritFunction,
+) -> Waiting {
     let e = lending::evaluate_over(prescription, function, marks::marked_evaluation());
     let evaluation = e.evaluation;
     if e.number > 0 {
         return job::put_refused(out, waiting, e.number, marks::is_marked(evaluation));
     }
+    let surfaces = prescription.surfaces;
+    let hash = answers::with_surfaces(answers::START, surfaces, prescription.surface_count);
     let waiting = put_evaluation(out, waiting, evaluation, function.operand_count);
-    put_digest(out, waiting, prescription, evaluation.total_merit)
+    job::put_digest(
+        out,
+        waiting,
+        answers::with_float(hash, evaluation.total_merit),
+    )
 }
 
 // M total V m {values} D m {residuals}
-fn put_evaluation(out: &mut [u8], waiting: usize, e: MeritEvaluation, count: usize) -> usize {
+fn put_evaluation(out: &mut [u8], waiting: Waiting, e: MeritEvaluation, count: usize) -> Waiting {
     let values = e.values;
     let residuals = e.residuals;
     let waiting = output::put(out, waiting, b" M ");
     let waiting = output::put_float(out, waiting, e.total_merit);
-    let waiting = output::put(out, waiting, b" V ");
-    let waiting = answers::put_row(out, waiting, values, count);
-    let waiting = output::put(out, waiting, b" D ");
-    answers::put_row(out, waiting, residuals, count)
-}
-
-// H digest, of the one merit.
-fn put_digest(
-    out: &mut [u8],
-    waiting: usize,
-    prescription: OpticalPrescription,
-    total: f64,
-) -> usize {
-    let surfaces = prescription.surfaces;
-    let hash = answers::with_surfaces(answers::START, surfaces, prescription.surface_count);
-    let waiting = output::put(out, waiting, b" H ");
-    let waiting = output::put_hex(out, waiting, answers::with_float(hash, total));
-    output::put(out, waiting, b"\n")
+    let waiting = answers::put_row(out, waiting, b" V", values, count);
+    answers::put_row(out, waiting, b" D", residuals, count)
 }

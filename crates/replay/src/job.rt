@@ -5,52 +5,57 @@ use crate::evaluate;
 use crate::run;
 use crate::trace;
 use crate::types::Answered;
-use answers::put_unknown;
 use bench::Bench;
 use text::cursor;
 use text::cursor::Cursor;
+use text::cursor::NumberRead;
+use text::cursor::Why;
 use text::output;
+use text::output::Waiting;
 use text::words;
 use text::words::Word;
 
 // J id kind ..: evaluations and traces stand by themselves, runs are played on the bench.
 pub(crate) fn answer_job(
     out: &mut [u8],
-    waiting: usize,
+    waiting: Waiting,
     bench: Bench,
     line: &[u8],
-    at: usize,
     number: u64,
 ) -> Answered {
-    let id = words::next_word(line, at);
-    let kind = cursor::decimal(line, Cursor::new(id.to));
-    let k = kind.value;
-    if k < 4 {
-        return run::run(out, waiting, bench, line, id, number);
+    let head = cursor::tag(line, Cursor::new(0), b"J");
+    let id = words::next_word(line, head.at);
+    let kind = cursor::within(line, cursor::word(line, head), 1, 5, Why::Kind);
+    if kind.next.is_good && kind.value < 4 {
+        return run::run(out, waiting, bench, line, id, kind, number);
     }
     Answered {
         bench: bench,
-        waiting: put_plain(out, waiting, line, id, number),
+        waiting: put_plain(out, waiting, line, id, kind, number),
     }
 }
 
 // The kinds that need no bench.
-fn put_plain(out: &mut [u8], waiting: usize, line: &[u8], id: Word, number: u64) -> usize
+fn put_plain(
+    out: &mut [u8],
+    waiting: Waiting,
+    line: &[u8],
+    id: Word,
+    kind: NumberRead,
+    number: u64,
+) -> Waiting
     requires { ⌜ id .from ≤ id .to ⌝ }
     requires { ⌜ id .to ≤ length (now line) ⌝ }
 {
-    let kind = cursor::decimal(line, Cursor::new(id.to));
     let job = joblines::read_job(line, kind.next);
-    let k = kind.value;
-    match k {
-        4 => evaluate::evaluate(out, waiting, line, id, job, number),
-        5 => trace::trace(out, waiting, line, id, job, number),
-        _ => put_unknown(out, waiting, number),
+    if kind.value == 4 {
+        return evaluate::evaluate(out, waiting, line, id, job, number);
     }
+    trace::trace(out, waiting, line, id, job, number)
 }
 
 // R id
-pub(crate) fn put_head(out: &mut [u8], waiting: usize, line: &[u8], id: Word) -> usize
+pub(crate) fn put_head(out: &mut [u8], waiting: Waiting, line: &[u8], id: Word) -> Waiting
     requires { ⌜ id .from ≤ id .to ⌝ }
     requires { ⌜ id .to ≤ length (now line) ⌝ }
 {
@@ -61,11 +66,18 @@ pub(crate) fn put_head(out: &mut [u8], waiting: usize, line: &[u8], id: Word) ->
 }
 
 // `changed` where what was lent is not as it was, which the oracle never says.
-pub(crate) fn put_refused(out: &mut [u8], waiting: usize, number: u32, is_kept: bool) -> usize {
-    let waiting = output::put(out, waiting, b" refused ");
+pub(crate) fn put_refused(out: &mut [u8], waiting: Waiting, number: u32, is_kept: bool) -> Waiting {
+    let waiting = output::put(out, output::counted(waiting, true), b" refused ");
     let waiting = output::put_decimal(out, waiting, number as u64);
     if !is_kept {
         return output::put(out, waiting, b" changed\n");
     }
+    output::put(out, waiting, b"\n")
+}
+
+// H digest
+pub(crate) fn put_digest(out: &mut [u8], waiting: Waiting, hash: u64) -> Waiting {
+    let waiting = output::put(out, waiting, b" H ");
+    let waiting = output::put_hex(out, waiting, hash);
     output::put(out, waiting, b"\n")
 }

@@ -10,42 +10,41 @@ use answers::put_unknown;
 use bench::Bench;
 use jobs::JobRequest;
 use text::cursor;
-use text::cursor::Cursor;
-use text::output;
+use text::cursor::NumberRead;
+use text::output::Waiting;
 use text::words::Word;
 
 // Each line has the place of its number.
 pub(crate) fn run(
     out: &mut [u8],
-    waiting: usize,
+    waiting: Waiting,
     bench: Bench,
     line: &[u8],
     id: Word,
+    kind: NumberRead,
     number: u64,
 ) -> Answered
     requires { ⌜ id .from ≤ id .to ⌝ }
     requires { ⌜ id .to ≤ length (now line) ⌝ }
 {
-    let kind = cursor::decimal(line, Cursor::new(id.to));
     let job = joblines::read_job(line, kind.next);
     let read = joblines::read_request(line, kind.value, job);
     if !cursor::is_done(line, read.next) {
         return Answered {
             bench: bench,
-            waiting: put_unknown(out, waiting, number),
+            waiting: put_unknown(out, waiting, line, number, read.next),
         };
     }
     let request = read.request;
     let waiting = job::put_head(out, waiting, line, id);
-    let waiting = output::put(out, waiting, b" ");
-    let waiting = output::put_decimal(out, waiting, kind.value);
+    let waiting = answers::put_number(out, waiting, b"", kind.value);
     admit(out, waiting, bench, (number % 4) as usize, request)
 }
 
 // Admits the job to the place, from which another's may have to go.
 fn admit(
     out: &mut [u8],
-    waiting: usize,
+    waiting: Waiting,
     bench: Bench,
     place: usize,
     request: JobRequest,
@@ -80,11 +79,11 @@ fn again(bench: Bench, place: usize, request: JobRequest) -> Bench {
 // M first final N iterations converged turns S .. V .. D .. H digest
 fn put_played(
     out: &mut [u8],
-    waiting: usize,
+    waiting: Waiting,
     play: Play,
     place: usize,
     request: JobRequest,
-) -> usize {
+) -> Waiting {
     let bench = play.bench;
     let none = rows::zero_row().best;
     let fetched = benchcalls::fetched(bench, place, none);
@@ -93,8 +92,7 @@ fn put_played(
     }
     let found = fetched.result;
     let waiting = answers::put_outcome(out, waiting, found);
-    let waiting = output::put(out, waiting, b" ");
-    let waiting = output::put_decimal(out, waiting, play.turns);
+    let waiting = answers::put_number(out, waiting, b"", play.turns);
     let waiting = answers::put_lens(
         out,
         waiting,
@@ -102,7 +100,5 @@ fn put_played(
         request.prescription.surface_count,
         request.merit_function.operand_count,
     );
-    let waiting = output::put(out, waiting, b" H ");
-    let waiting = output::put_hex(out, waiting, play.hash);
-    output::put(out, waiting, b"\n")
+    job::put_digest(out, waiting, play.hash)
 }

@@ -12,23 +12,24 @@ use optics::ParaxialProperties;
 use optics::ParaxialRay;
 use text::cursor;
 use text::output;
+use text::output::Waiting;
 use text::words::Word;
 
 // Kind 5 has a slot as its setting.
 pub(crate) fn trace(
     out: &mut [u8],
-    waiting: usize,
+    waiting: Waiting,
     line: &[u8],
     id: Word,
     job: JobLine,
     number: u64,
-) -> usize
+) -> Waiting
     requires { ⌜ id .from ≤ id .to ⌝ }
     requires { ⌜ id .to ≤ length (now line) ⌝ }
 {
     let slot = cursor::decimal(line, job.next);
     if !cursor::is_done(line, slot.next) {
-        return put_unknown(out, waiting, number);
+        return put_unknown(out, waiting, line, number, slot.next);
     }
     let prescription = job.prescription;
     let waiting = job::put_head(out, waiting, line, id);
@@ -38,10 +39,10 @@ pub(crate) fn trace(
 
 fn put_trace(
     out: &mut [u8],
-    waiting: usize,
+    waiting: Waiting,
     prescription: OpticalPrescription,
     slot: usize,
-) -> usize {
+) -> Waiting {
     let count = prescription.surface_count;
     let t = lending::trace_over(prescription, slot, marks::marked_rays(), count);
     let answer = t.answer;
@@ -53,7 +54,7 @@ fn put_trace(
     }
 }
 
-fn put_failed(out: &mut [u8], waiting: usize, is_kept: bool) -> usize {
+fn put_failed(out: &mut [u8], waiting: Waiting, is_kept: bool) -> Waiting {
     if !is_kept {
         return output::put(out, waiting, b" failed changed\n");
     }
@@ -63,11 +64,11 @@ fn put_failed(out: &mut [u8], waiting: usize, is_kept: bool) -> usize {
 // ok T n {height slope} P ..
 fn put_done(
     out: &mut [u8],
-    waiting: usize,
+    waiting: Waiting,
     prescription: OpticalPrescription,
     slot: usize,
     rays: [ParaxialRay; 16],
-) -> usize {
+) -> Waiting {
     let count = prescription.surface_count;
     if !marks::are_marked(rays, count) || !lengths_refused(prescription, slot) {
         return output::put(out, waiting, b" changed\n");
@@ -103,15 +104,13 @@ fn is_refused(prescription: OpticalPrescription, slot: usize, length: usize) -> 
     n == 1 && marks::are_marked(rays, 0)
 }
 
-fn put_ray(out: &mut [u8], waiting: usize, ray: ParaxialRay) -> usize {
-    let waiting = output::put(out, waiting, b" ");
-    let waiting = output::put_float(out, waiting, ray.y);
-    let waiting = output::put(out, waiting, b" ");
-    output::put_float(out, waiting, ray.u)
+fn put_ray(out: &mut [u8], waiting: Waiting, ray: ParaxialRay) -> Waiting {
+    let row = [ray.y, ray.u];
+    output::put_floats(out, waiting, &row)
 }
 
 // A count, and the height and slope of each surface.
-fn put_rays(out: &mut [u8], waiting: usize, rays: [ParaxialRay; 16], count: usize) -> usize {
+fn put_rays(out: &mut [u8], waiting: Waiting, rays: [ParaxialRay; 16], count: usize) -> Waiting {
     let mut held = output::put_decimal(out, waiting, count as u64);
     let n = output::least(count, 16);
     let mut i = 0;
@@ -146,12 +145,9 @@ fn paraxial(prescription: OpticalPrescription, slot: usize) -> Paraxial {
 }
 
 // P efl bfl f-number
-fn put_paraxial(out: &mut [u8], waiting: usize, q: ParaxialProperties) -> usize {
-    let waiting = output::put(out, waiting, b" P ");
-    let waiting = output::put_float(out, waiting, q.efl_mm);
-    let waiting = output::put(out, waiting, b" ");
-    let waiting = output::put_float(out, waiting, q.bfl_mm);
-    let waiting = output::put(out, waiting, b" ");
-    let waiting = output::put_float(out, waiting, q.f_number);
+fn put_paraxial(out: &mut [u8], waiting: Waiting, q: ParaxialProperties) -> Waiting {
+    let row = [q.efl_mm, q.bfl_mm, q.f_number];
+    let waiting = output::put(out, waiting, b" P");
+    let waiting = output::put_floats(out, waiting, &row);
     output::put(out, waiting, b"\n")
 }

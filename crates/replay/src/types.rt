@@ -1,8 +1,9 @@
 // What a line leaves.
 use bench::Bench;
+use text::output::Waiting;
 
-// The bench that the jobs are played on, and how much of the output waits.
+// The bench that the jobs are played on, and what waits of the output.
 pub(crate) struct Answered {
     pub bench: Bench,
-    pub waiting: usize,
+    pub waiting: Waiting,
 }

@@ -1,6 +1,5 @@
 -- The fields of a line. Definitions only.
 use Prim.Native.Nat.{ℕ, _-_}
-use mathlib.Core.Bool.{cond}
 use mathlib.Core.List.{List}
 use lib.ListN.{take, drop}
 use lib.Ieee.{ofBits, binary64}
@@ -8,7 +7,7 @@ use Rattle.text.specs.declared.words.Word.{Word}
 use Rattle.text.specs.declared.numbers.Number as numbers
 use Rattle.text.specs.declared.fields.NumberField as number-field
 use Rattle.text.specs.declared.fields.FloatField as float-field
-use Rattle.text.specs.Words.{wordFrom, noneLeft}
+use Rattle.text.specs.Words.{wordFrom}
 use Rattle.text.specs.Numbers.{numberOf}
 
 abbrev pub textOf : List ℕ → Word → List ℕ
@@ -26,8 +25,3 @@ numberField base line at = let w = wordFrom line at in fieldOf (w .to) (numberOf
 abbrev pub floatOf : number-field.NumberField → float-field.FloatField
 floatOf (number-field.the-variants.Is bits to) = float-field.the-variants.Is (ofBits binary64 bits) to
 floatOf number-field.the-variants.Bad = float-field.the-variants.Bad
-
--- a float that no word comes after
-abbrev pub lastOf : List ℕ → float-field.FloatField → float-field.FloatField
-lastOf line (float-field.the-variants.Is x to) = cond (noneLeft line to) (float-field.the-variants.Is x to) float-field.the-variants.Bad
-lastOf line float-field.the-variants.Bad = float-field.the-variants.Bad

@@ -4,4 +4,5 @@ pub mod Input
 pub mod Numbers
 pub mod Output
 pub mod OutputLaws
+pub mod Session
 pub mod Words

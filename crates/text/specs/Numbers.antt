@@ -3,7 +3,7 @@ use Prim.Native.Nat.{ℕ, _+_, _-_, _*_, _^_}
 use mathlib.Core.Bool.{Bool, true, false, cond}
 use mathlib.Core.List.{List, [], _∷_}
 use lib.ListN.{length}
-use lib.Dec.{ltb}
+use lib.Dec.{ltb, eqb}
 use lib.Ieee.{Float, binary64, isNan, toBits}
 use Rattle.text.specs.Words.{between}
 use Rattle.text.specs.declared.numbers.Number.{Number}
@@ -26,9 +26,13 @@ digitsFrom base total (b ∷ rest) =
     ifGood (ltb (digitOf b) base)
     (ifGood (ltb (total * base + digitOf b) (2 ^ 64)) (digitsFrom base (total * base + digitOf b) rest))
 
--- the number that a text is in a base: one digit at least
+-- a number in hexadecimal has sixteen digits, and any other one at least
+abbrev pub isLong : (base length : ℕ) → Bool
+isLong base length = cond (eqb base 16) (eqb length 16) (ltb 0 length)
+
+-- the number that a text is in a base
 abbrev pub numberOf : ℕ → List ℕ → Number
-numberOf base text = ifGood (ltb 0 (length text)) (digitsFrom base 0 text)
+numberOf base text = ifGood (isLong base (length text)) (digitsFrom base 0 text)
 
 -- the bits of a float, one pattern for all NaN
 unfoldable pub bitsOf : Float → ℕ

@@ -2,7 +2,7 @@
 use Prim.Native.Nat.{ℕ, zero, suc, _+_, min}
 use mathlib.Core.Bool.{Bool, true, false, cond, Bool·beq}
 use mathlib.Core.List.{List, [], _∷_}
-use lib.ListN.{length, drop}
+use lib.ListN.{length, take, drop}
 use lib.Dec.{eqb, leb}
 use Rattle.text.specs.declared.words.Word.{Word}
 
@@ -29,6 +29,18 @@ wordFrom line at = let start = min at (length line) in wordAt line (start + lead
 -- no word is left from `at` on
 abbrev pub noneLeft : List ℕ → ℕ → Bool
 noneLeft line at = let w = wordFrom line at in eqb (w .from) (w .to)
+
+-- a byte begins a word where it is not blank, and comes between words
+abbrev pub begins : (between blank : Bool) → ℕ
+begins between blank = cond blank 0 (cond between 1 0)
+
+-- how many words begin among these bytes
+unfoldable pub begun : (between : Bool) → List ℕ → ℕ
+begun between [] = zero
+begun between (b ∷ rest) = begins between (isBlank b) + begun (isBlank b) rest
+
+abbrev pub wordsBefore : List ℕ → ℕ → ℕ
+wordsBefore line at = begun true (take at line)
 
 -- two texts are the same, byte for byte
 unfoldable pub sameText : List ℕ → List ℕ → Bool

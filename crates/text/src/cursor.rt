@@ -1,31 +1,50 @@
-// A line read field by field, without a test at each: a field that is missing or out of form spoils
-// the cursor, which stays spoilt, and whoever reads the line asks once, at its end.
+// A line read field by field, without a test at each: at a field that is missing or out of form the cursor stays for good, with
+// what is wrong there, and whoever reads the line asks once, at its end.
 ghost use mathlib.Core.Path.{_≡_};
-ghost use mathlib.Core.Bool.{true};
 ghost use Prim.Native.Nat.{_≤_};
 ghost use mathlib.Core.List.{_++_};
 ghost use lib.ListN.{length, drop};
 ghost use Rattle.lists.specs.Tab.{tab};
-ghost use Rattle.text.specs.Cursor.{movedTo, spoiltFrom, numberRead, numberFrom, decimalFrom, demanded, floatRead, floatFrom, pastFloats, floatAt, pastTag, doneWith};
+ghost use Rattle.text.specs.Words.{between};
+ghost use Rattle.text.specs.Cursor.{newCursor, movedTo, spoiltBy, numberRead, numberFrom, decimalFrom, withinFrom, floatRead, floatFrom, pastFloats, floatAt, pastTag, pastWord, doneWith};
 use crate::fields;
 use crate::fields::FloatField;
 use crate::fields::NumberField;
 use crate::words;
+
+// What is wrong with a word that is there.
+pub enum Why {
+    // The line should end before it.
+    TooMany,
+    // No number in decimal.
+    NoNumber,
+    // Not sixteen hexadecimal digits.
+    NoHex,
+    // Another word belongs there.
+    Another,
+    // No kind has that name or number.
+    Kind,
+    // The number is not one of those that may stand there.
+    Range,
+}
 
 pub struct Cursor {
     // Where the next field is looked for.
     pub at: usize,
     // Whether all fields so far were there and in form.
     pub is_good: bool,
+    // What is wrong with the next word.
+    pub why: Why,
 }
 
 impl Cursor {
     pub fn new(at: usize) -> Cursor
-        ensures { λ r. ⌜ r ≡ record { at = at; «is_good» = true } ⌝ }
+        ensures { λ r. ⌜ r ≡ newCursor at ⌝ }
     {
         Cursor {
             at: at,
             is_good: true,
+            why: Why::TooMany,
         }
     }
 }
@@ -42,41 +61,45 @@ pub struct FloatRead {
     pub next: Cursor,
 }
 
-fn spoilt(c: Cursor) -> Cursor
-    ensures { λ r. ⌜ r ≡ spoiltFrom c ⌝ }
+// A cursor that stays before the field that is out of form.
+pub fn spoilt(c: Cursor, why: Why) -> Cursor
+    ensures { λ r. ⌜ r ≡ spoiltBy why c ⌝ }
 {
-    Cursor {
-        at: c.at,
-        is_good: false,
+    if c.is_good {
+        return Cursor {
+            at: c.at,
+            is_good: false,
+            why: why,
+        };
     }
+    c
 }
 
 fn moved(c: Cursor, to: usize) -> Cursor
     ensures { λ r. ⌜ r ≡ movedTo to c ⌝ }
 {
-    Cursor {
-        at: to,
-        is_good: c.is_good,
+    if c.is_good {
+        let why = c.why;
+        return Cursor {
+            at: to,
+            is_good: true,
+            why: why,
+        };
     }
+    c
 }
 
-fn number_read(f: NumberField, c: Cursor) -> NumberRead
-    ensures { λ r. ⌜ r ≡ numberRead c f ⌝ }
+fn number_read(f: NumberField, c: Cursor, why: Why) -> NumberRead
+    ensures { λ r. ⌜ r ≡ numberRead why c f ⌝ }
 {
     match f {
         NumberField::Is(x, to) => NumberRead {
             value: x,
-            next: Cursor {
-                at: to,
-                is_good: c.is_good,
-            },
+            next: moved(c, to),
         },
         NumberField::Bad => NumberRead {
             value: 0,
-            next: Cursor {
-                at: c.at,
-                is_good: false,
-            },
+            next: spoilt(c, why),
         },
     }
 }
@@ -87,17 +110,11 @@ fn float_read(f: FloatField, c: Cursor) -> FloatRead
     match f {
         FloatField::Is(x, to) => FloatRead {
             value: x,
-            next: Cursor {
-                at: to,
-                is_good: c.is_good,
-            },
+            next: moved(c, to),
         },
         FloatField::Bad => FloatRead {
             value: 0.0,
-            next: Cursor {
-                at: c.at,
-                is_good: false,
-            },
+            next: spoilt(c, Why::NoHex),
         },
     }
 }
@@ -105,15 +122,38 @@ fn float_read(f: FloatField, c: Cursor) -> FloatRead
 pub fn decimal(line: &[u8], c: Cursor) -> NumberRead
     ensures { λ r. ⌜ r ≡ decimalFrom (now (line .entry)) c ⌝ }
 {
-    let f = fields::decimal_field(line, c.at);
-    number_read(f, c)
+    let f = fields::number_field(line, c.at, 10);
+    number_read(f, c, Why::NoNumber)
+}
+
+fn is_between(x: u64, low: u64, high: u64) -> bool
+    ensures { λ r. ⌜ r ≡ between low high x ⌝ }
+{
+    low <= x && x <= high
+}
+
+// A number from `low` to `high`; any other is out of form for the reason given.
+pub fn within(line: &[u8], c: Cursor, low: u64, high: u64, why: Why) -> NumberRead
+    ensures { λ r. ⌜ r ≡ withinFrom low high why (now (line .entry)) c ⌝ }
+{
+    let r = decimal(line, c);
+    if !r.next.is_good {
+        return r;
+    }
+    if is_between(r.value, low, high) {
+        return r;
+    }
+    NumberRead {
+        value: r.value,
+        next: spoilt(c, why),
+    }
 }
 
 pub fn hex(line: &[u8], c: Cursor) -> NumberRead
     ensures { λ r. ⌜ r ≡ numberFrom 16 (now (line .entry)) c ⌝ }
 {
-    let f = fields::hex_field(line, c.at);
-    number_read(f, c)
+    let f = fields::number_field(line, c.at, 16);
+    number_read(f, c, Why::NoHex)
 }
 
 pub fn float(line: &[u8], c: Cursor) -> FloatRead
@@ -140,16 +180,6 @@ pub fn floats(line: &[u8], c: Cursor, row: &mut [f64], n: usize) -> Cursor
     next
 }
 
-// A demand on what was read.
-pub fn required(c: Cursor, holds: bool) -> Cursor
-    ensures { λ r. ⌜ r ≡ demanded holds c ⌝ }
-{
-    if holds {
-        return c;
-    }
-    spoilt(c)
-}
-
 // Past a word that has to be there.
 pub fn tag(line: &[u8], c: Cursor, name: &[u8]) -> Cursor
     ensures { λ r. ⌜ r ≡ pastTag (now (line .entry)) c (now (name .entry)) ⌝ }
@@ -160,7 +190,15 @@ pub fn tag(line: &[u8], c: Cursor, name: &[u8]) -> Cursor
     if check::same(&line[from..to], name) {
         return moved(c, to);
     }
-    spoilt(c)
+    spoilt(c, Why::Another)
+}
+
+// Past a word that may be any.
+pub fn word(line: &[u8], c: Cursor) -> Cursor
+    ensures { λ r. ⌜ r ≡ pastWord (now (line .entry)) c ⌝ }
+{
+    let w = words::next_word(line, c.at);
+    moved(c, w.to)
 }
 
 // Whether all fields were in form, and none is left.

@@ -2,8 +2,9 @@
 ghost use mathlib.Core.Path.{_≡_};
 ghost use Prim.Native.Nat.{_-_, _<_, _≤_};
 ghost use lib.ListN.{length, take, drop};
-ghost use Rattle.text.specs.Input.{newInput, lineTo, heldLine, lastLine, notYet, Taken};
-use libc::STDIN_FILENO;
+ghost use Rattle.text.specs.Input.{newInput, linesOf, lineTo, heldLine, isLeft, lastLine, notYet, lineFrom, placedAt, roomed, heldBytes, ReadOn, WentOn};
+use crate::moves;
+use crate::numbers;
 
 // How far the input is read.
 pub struct Input {
@@ -18,6 +19,8 @@ pub struct Input {
     pub has_more: bool,
     // Whether there may be another line.
     pub is_open: bool,
+    // Whether every read went well.
+    pub is_good: bool,
 }
 
 impl Input {
@@ -31,8 +34,16 @@ impl Input {
             is_cut: false,
             has_more: true,
             is_open: true,
+            is_good: true,
         }
     }
+}
+
+// How many lines were taken: one less than the number of the line that comes next.
+pub fn lines_of(input: Input) -> u64
+    ensures { λ r. ⌜ r ≡ linesOf input ⌝ }
+{
+    std::num::wrapping_add_u64(input.number, u64::MAX)
 }
 
 // A line: the bytes of the buffer from `from` up to `to`. None is there while its end has yet to be read.
@@ -76,6 +87,7 @@ fn held_line(buf: &[u8], input: Input, end: usize) -> Line
         is_cut: false,
         has_more: input.has_more,
         is_open: true,
+        is_good: input.is_good,
     };
     Line {
         from: from,
@@ -87,24 +99,33 @@ fn held_line(buf: &[u8], input: Input, end: usize) -> Line
     }
 }
 
+// Whether something of a line is left at the end of the input.
+fn is_left(input: Input) -> bool
+    ensures { λ r. ⌜ r ≡ isLeft input ⌝ }
+{
+    input.from < input.to || input.is_cut
+}
+
 // What is left at the end of the input: a last line needs no line feed.
 fn last_line(input: Input) -> Line
     ensures { λ r. ⌜ r ≡ lastLine input ⌝ }
 {
+    let is_there = is_left(input);
     let rest = Input {
         from: input.to,
         to: input.to,
-        number: input.number,
+        number: std::num::wrapping_add_u64(input.number, numbers::one_if(is_there)),
         is_cut: false,
         has_more: false,
         is_open: false,
+        is_good: input.is_good,
     };
     Line {
         from: input.from,
         to: input.to,
         number: input.number,
         is_cut: input.is_cut,
-        is_there: input.from < input.to || input.is_cut,
+        is_there: is_there,
         input: rest,
     }
 }
@@ -122,13 +143,13 @@ fn not_yet(input: Input) -> Line
     }
 }
 
-// The next line where the buffer holds it whole or the input is at its end, and otherwise one more read.
-pub fn next_line(buf: &mut [u8], input: Input) -> Line
+// The next line where the buffer holds it whole or the input is at its end.
+pub fn next_line(buf: &[u8], input: Input) -> Line
     requires { ⌜ input .from ≤ input .to ⌝ }
     requires { ⌜ input .to ≤ length (now buf) ⌝ }
-    ensures { λ r. ⌜ (r .from ≤ r .to) × (r .to ≤ length (now (buf .exit))) ⌝ }
-    ensures { λ r. ⌜ (r .input .from ≤ r .input .to) × (r .input .to ≤ length (now (buf .exit))) ⌝ }
-    ensures { λ r. ⌜ Taken (now (buf .entry)) input r ⌝ }
+    ensures { λ r. ⌜ r ≡ lineFrom (now (buf .entry)) input ⌝ }
+    ensures { λ r. ⌜ (r .from ≤ r .to) × (r .to ≤ length (now (buf .entry))) ⌝ }
+    ensures { λ r. ⌜ (r .input .from ≤ r .input .to) × (r .input .to ≤ length (now (buf .entry))) ⌝ }
 {
     let from = input.from;
     let to = input.to;
@@ -137,9 +158,26 @@ pub fn next_line(buf: &mut [u8], input: Input) -> Line
         return held_line(buf, input, end);
     }
     if input.has_more {
-        return not_yet(read_on(buf, input));
+        return not_yet(input);
     }
     last_line(input)
+}
+
+// What comes after a line; where none was there yet, after one more read.
+pub fn go_on(buf: &mut [u8], line: Line) -> Input
+    requires { ⌜ line .input .from ≤ line .input .to ⌝ }
+    requires { ⌜ line .input .to ≤ length (now buf) ⌝ }
+    ensures { λ r. ⌜ (r .from ≤ r .to) × (r .to ≤ length (now (buf .exit))) ⌝ }
+    ensures { λ r. ⌜ WentOn (now (buf .entry)) line (now (buf .exit)) r ⌝ }
+{
+    let input = line.input;
+    if line.is_there {
+        return input;
+    }
+    if input.has_more {
+        return read_on(buf, input);
+    }
+    input
 }
 
 // Moves the bytes from `from` up to `to` to the front.
@@ -155,64 +193,55 @@ fn move_front(buf: &mut [u8], from: usize, to: usize)
     }
 }
 
-// The input with room for more in the buffer: what is not taken is moved to the front, and where
-// that fills the buffer it is dropped.
+// The input with room for more in the buffer: what is not taken is moved to the front, and where that fills the buffer it is
+// dropped.
 fn with_room(buf: &mut [u8], input: Input) -> Input
     requires { ⌜ input .from ≤ input .to ⌝ }
     requires { ⌜ input .to ≤ length (now buf) ⌝ }
-    ensures { λ r. ⌜ r .from ≤ r .to ⌝ }
-    ensures { λ r. ⌜ r .to ≤ length (now (buf .exit)) ⌝ }
+    ensures { λ r. ⌜ (r ≡ roomed (length (now (buf .entry))) input) × (r .to ≤ length (now (buf .exit))) ⌝ }
+    ensures { λ r. ⌜ take (r .to) (now (buf .exit)) ≡ heldBytes (now (buf .entry)) input ⌝ }
 {
     let from = input.from;
     let to = input.to;
-    if from > 0 {
-        move_front(buf, from, to);
-        return Input {
-            from: 0,
-            to: to - from,
-            number: input.number,
-            is_cut: input.is_cut,
-            has_more: true,
-            is_open: true,
-        };
+    if to - from == buf.len() {
+        return placed(input, 0, true);
     }
-    if to < buf.len() {
-        return input;
-    }
+    move_front(buf, from, to);
+    placed(input, to - from, input.is_cut)
+}
+
+// The same line in the first `to` bytes.
+fn placed(input: Input, to: usize, is_cut: bool) -> Input
+    ensures { λ r. ⌜ r ≡ placedAt to «is_cut» input ⌝ }
+{
     Input {
         from: 0,
-        to: 0,
+        to: to,
         number: input.number,
-        is_cut: true,
-        has_more: true,
-        is_open: true,
+        is_cut: is_cut,
+        has_more: input.has_more,
+        is_open: input.is_open,
+        is_good: input.is_good,
     }
 }
 
-// The input after one more read, after which there is no more where nothing came.
+// The input after one more read. There is no more where nothing came, and no further line where the read failed.
 fn read_on(buf: &mut [u8], input: Input) -> Input
     requires { ⌜ input .from ≤ input .to ⌝ }
     requires { ⌜ input .to ≤ length (now buf) ⌝ }
-    ensures { λ r. ⌜ r .from ≤ r .to ⌝ }
-    ensures { λ r. ⌜ r .to ≤ length (now (buf .exit)) ⌝ }
+    ensures { λ r. ⌜ (r .from ≤ r .to) × (r .to ≤ length (now (buf .exit))) ⌝ }
+    ensures { λ r. ⌜ ReadOn (now (buf .entry)) input (now (buf .exit)) r ⌝ }
 {
     let kept = with_room(buf, input);
     let to = kept.to;
-    let n = read_some(&mut buf[to..]);
+    let moved = moves::read_some(&mut buf[to..]);
     Input {
-        from: kept.from,
-        to: to + n,
+        from: 0,
+        to: to + moved.bytes,
         number: kept.number,
         is_cut: kept.is_cut,
-        has_more: n > 0,
-        is_open: true,
+        has_more: moved.bytes > 0,
+        is_open: moved.is_good,
+        is_good: moved.is_good,
     }
-}
-
-// One read: how many bytes it put at the start of room, 0 at the end of the input or on an error.
-fn read_some(room: &mut [u8]) -> usize
-    ensures { λ r. ⌜ r ≤ length (now (room .exit)) ⌝ }
-{
-    let got = libc::read(STDIN_FILENO, room);
-    io::count(got, room)
 }

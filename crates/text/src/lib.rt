@@ -1,7 +1,10 @@
 // Lines of text in and out: the input line by line, its words and numbers, and the output, gathered in a buffer.
 pub mod cursor;
-pub mod fields;
+mod fields;
 pub mod input;
+mod moves;
 pub mod numbers;
 pub mod output;
+mod pause;
+pub mod session;
 pub mod words;

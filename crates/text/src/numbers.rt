@@ -1,12 +1,21 @@
 // Numbers as text.
 ghost use mathlib.Core.Path.{_≡_};
+ghost use mathlib.Core.Bool.{cond};
 ghost use Prim.Native.Nat.{_≤_, _<_};
 ghost use lib.Ieee.{ofBits, binary64};
-ghost use Rattle.text.specs.Numbers.{digitOf, digitsFrom, numberOf, bitsOf};
+ghost use Rattle.text.specs.Numbers.{digitOf, digitsFrom, isLong, numberOf, bitsOf};
 
-pub enum Number {
+pub(crate) enum Number {
     Is(u64),
     Bad,
+}
+
+// 1 where it is so, and else 0.
+pub(crate) fn one_if(so: bool) -> u64
+    ensures { λ r. ⌜ r ≡ cond so 1 0 ⌝ }
+    ensures { λ r. ⌜ r ≤ 1 ⌝ }
+{
+    if so { 1 } else { 0 }
 }
 
 // What a digit counts, in either case, or 16 where b is none.
@@ -43,16 +52,23 @@ fn digits_value(text: &[u8], base: u64) -> Number
     Number::Is(total)
 }
 
-// The number that a text is in a base: one digit at least.
+// How many digits a number has: sixteen in hexadecimal, and else one at least.
+fn is_long(length: usize, base: u64) -> bool
+    ensures { λ r. ⌜ r ≡ isLong base length ⌝ }
+{
+    if base == 16 { length == 16 } else { length > 0 }
+}
+
+// The number that a text is in a base.
 pub(crate) fn number_in(text: &[u8], base: u64) -> Number
     requires { ⌜ 0 < base ⌝ }
     requires { ⌜ base ≤ 16 ⌝ }
     ensures { λ r. ⌜ r ≡ numberOf base (now (text .entry)) ⌝ }
 {
-    if text.len() == 0 {
-        return Number::Bad;
+    if is_long(text.len(), base) {
+        return digits_value(text, base);
     }
-    digits_value(text, base)
+    Number::Bad
 }
 
 // The float of a bit pattern.

@@ -2,7 +2,8 @@
 ghost use mathlib.Core.Path.{_≡_};
 ghost use Prim.Native.Nat.{_+_, _≤_, min};
 ghost use lib.ListN.{length, drop};
-ghost use Rattle.text.specs.Words.{isBlank, leading, wordFrom, noneLeft};
+ghost use Rattle.text.specs.Words.{isBlank, leading, wordFrom, noneLeft, begins, wordsBefore};
+use crate::numbers;
 
 // A word: the bytes of its line from `from` up to `to`. There is none where the two are equal.
 pub struct Word {
@@ -66,4 +67,32 @@ pub fn is_end(line: &[u8], at: usize) -> bool
 {
     let w = next_word(line, at);
     w.from == w.to
+}
+
+// 1 where a byte begins a word, and else 0.
+fn begins(is_between: bool, blank: bool) -> u64
+    ensures { λ r. ⌜ r ≡ begins «is_between» blank ⌝ }
+    ensures { λ r. ⌜ r ≤ 1 ⌝ }
+{
+    if blank {
+        return 0;
+    }
+    numbers::one_if(is_between)
+}
+
+// How many words begin before `at`.
+pub fn words_before(line: &[u8], at: usize) -> u64
+    ensures { λ r. ⌜ r ≡ wordsBefore (now (line .entry)) at ⌝ }
+{
+    let to = least(at, line.len());
+    let mut count = 0;
+    let mut is_between = true;
+    let mut i = 0;
+    while i < to {
+        let blank = is_blank(line[i]);
+        count += begins(is_between, blank);
+        is_between = blank;
+        i += 1;
+    }
+    count
 }

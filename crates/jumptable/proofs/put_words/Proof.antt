@@ -7,34 +7,25 @@ use Rattle.jumptable.proofs.put_words.Statement.{statement}
 use Rattle.jumptable.proofs.put_words.Tie as tie
 
 abbrev Inv-loop : tie.InvT-loop
-Inv-loop out₀ words held₀ i₀ t5 t6 out held i = (i ≤ length words) × (length out ≡ length out₀)
+Inv-loop out₀ words waiting₀ i₀ out waiting i = (i ≤ length words) × (length out ≡ length out₀)
 
 abbrev μ-loop : tie.MeasureT-loop
-μ-loop out₀ words held₀ i₀ t5 t6 out held i = length words - i
+μ-loop out₀ words waiting₀ i₀ out waiting i = length words - i
+
+new-requires : tie.Need-new-requires Inv-loop μ-loop
+new-requires c κs = search needs
 
 loop-holds : tie.Need-loop-holds Inv-loop μ-loop
 loop-holds c = search needs
 
-slice-aggregate-put : tie.Need-slice-aggregate-put Inv-loop μ-loop
-slice-aggregate-put c = search needs
+mul-put-word : tie.Need-mul-put-word Inv-loop μ-loop
+mul-put-word c = search needs
 
-put-requires : tie.Need-put-requires Inv-loop μ-loop
-put-requires c κs = search needs
+shared-slice-read-put-word : tie.Need-shared-slice-read-put-word Inv-loop μ-loop
+shared-slice-read-put-word c = search needs
 
-mul-put-hex : tie.Need-mul-put-hex Inv-loop μ-loop
-mul-put-hex c = search needs
-
-shared-slice-read-put-hex : tie.Need-shared-slice-read-put-hex Inv-loop μ-loop
-shared-slice-read-put-hex c = search needs
-
-put-hex-requires : tie.Need-put-hex-requires Inv-loop μ-loop
-put-hex-requires c κs = search needs
-
-slice-aggregate-put-2 : tie.Need-slice-aggregate-put-2 Inv-loop μ-loop
-slice-aggregate-put-2 c = search needs
-
-put-requires-2 : tie.Need-put-requires-2 Inv-loop μ-loop
-put-requires-2 c κs = search needs
+put-word-requires : tie.Need-put-word-requires Inv-loop μ-loop
+put-word-requires c κs = search needs
 
 add-i : tie.Need-add-i Inv-loop μ-loop
 add-i c = search needs
@@ -57,14 +48,11 @@ put-words-spec =
     (tie.spec
     Inv-loop
     μ-loop
+    new-requires
     loop-holds
-    slice-aggregate-put
-    put-requires
-    mul-put-hex
-    shared-slice-read-put-hex
-    put-hex-requires
-    slice-aggregate-put-2
-    put-requires-2
+    mul-put-word
+    shared-slice-read-put-word
+    put-word-requires
     add-i
     loop-less
     loop-again

@@ -1,7 +1,4 @@
 -- `answers::pieces::put_number` meets its contract: its texts come one after the other. Assumes nothing.
-use mathlib.Core.List.{[], _∷_, _++_}
-use Rattle.text.specs.Output.{blank, decimalText}
-use denote.Ref.{now}
 use Rattle.text.specs.OutputLaws.{then}
 use borrow.Author.Needs.{needs}
 use Rattle.answers.proofs.pieces.put_number.Statement.{statement}
@@ -23,12 +20,7 @@ same-length : tie.Need-same-length
 same-length c = search needs
 
 returns : tie.Need-returns
-returns c =
-    let a = c .before .before .before .before .before .before .before .before .before .before .before .before .before .before .before .args in
-    let one = c .before .before .before .before .before .before .before .before .before .before .before .put .ensures .1 in
-    let two = then (a .waiting) (now (a .out)) (now (a .name) ∷ []) (c .before .before .before .before .before .before .before .before .before .before .before .put .result) _ (blank ∷ []) one (c .before .before .before .before .before .before .put2 .ensures .1) (search needs) in
-    let three = then (a .waiting) (now (a .out)) ((now (a .name) ∷ []) ++ (blank ∷ [])) (c .before .before .before .before .before .before .put2 .result) _ (decimalText (a .number) ∷ []) two (c .before .before .put-decimal .ensures .1) (search needs) in
-    (search needs, three)
+returns c = (search needs, then (then (c .before .before .before .before .before .before .before .before .before .before .before .put .ensures .1) (c .before .before .before .before .before .before .put2 .ensures .1) (search needs)) (c .before .before .put-decimal .ensures .1) (search needs))
 
 pub put-number-spec : {M : Type 1} → statement M
 put-number-spec =

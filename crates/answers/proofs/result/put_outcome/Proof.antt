@@ -1,8 +1,4 @@
--- `answers::result::put_outcome` meets its contract: its texts come one after the other. Assumes nothing.
-use mathlib.Core.List.{[], _∷_, _++_}
-use Rattle.text.specs.Output.{blank, decimalText, floatTexts}
-use Rattle.answers.specs.Pieces.{mark}
-use denote.Ref.{now}
+-- `answers::result::put_outcome` meets its contract. Assumes nothing.
 use Rattle.text.specs.OutputLaws.{then}
 use borrow.Author.Needs.{needs}
 use Rattle.answers.proofs.result.put_outcome.Statement.{statement}
@@ -20,38 +16,26 @@ slice-aggregate-put-floats c = search needs
 put-floats-requires : tie.Need-put-floats-requires
 put-floats-requires c κs = search needs
 
-slice-aggregate-put-2 : tie.Need-slice-aggregate-put-2
-slice-aggregate-put-2 c = search needs
+slice-aggregate-put-number : tie.Need-slice-aggregate-put-number
+slice-aggregate-put-number c = search needs
 
-put-requires-2 : tie.Need-put-requires-2
-put-requires-2 c κs = search needs
+put-number-requires : tie.Need-put-number-requires
+put-number-requires c κs = search needs
 
-put-decimal-requires : tie.Need-put-decimal-requires
-put-decimal-requires c κs = search needs
+slice-aggregate-put-number-2 : tie.Need-slice-aggregate-put-number-2
+slice-aggregate-put-number-2 c = search needs
 
-slice-aggregate-put-3 : tie.Need-slice-aggregate-put-3
-slice-aggregate-put-3 c = search needs
-
-put-requires-3 : tie.Need-put-requires-3
-put-requires-3 c κs = search needs
-
-put-decimal-requires-2 : tie.Need-put-decimal-requires-2
-put-decimal-requires-2 c κs = search needs
+put-number-requires-2 : tie.Need-put-number-requires-2
+put-number-requires-2 c κs = search needs
 
 same-length : tie.Need-same-length
 same-length c = search needs
 
 returns : tie.Need-returns
-unfolding floatTexts
 returns c =
-    let a = c .before .before .before .before .before .before .before .before .before .before .before .before .before .before .before .before .before .before .before .before .before .before .before .before .before .before .before .before .before .args in
-    let one = c .before .before .before .before .before .before .before .before .before .before .before .before .before .before .before .before .before .before .before .before .before .before .before .before .before .put .ensures .1 in
-    let two = then (a .waiting) (now (a .out)) ((32 ∷ 77 ∷ []) ∷ []) (c .before .before .before .before .before .before .before .before .before .before .before .before .before .before .before .before .before .before .before .before .before .before .before .before .before .put .result) _ (floatTexts (a .result .«initial_merit» ∷ a .result .«final_merit» ∷ [])) one (c .before .before .before .before .before .before .before .before .before .before .before .before .before .before .before .before .before .before .before .before .put-floats .ensures .1) (search needs) in
-    let three = then (a .waiting) (now (a .out)) (((32 ∷ 77 ∷ []) ∷ []) ++ (floatTexts (a .result .«initial_merit» ∷ a .result .«final_merit» ∷ []))) (c .before .before .before .before .before .before .before .before .before .before .before .before .before .before .before .before .before .before .before .before .put-floats .result) _ (mark 78 ∷ []) two (c .before .before .before .before .before .before .before .before .before .before .before .before .before .before .before .put2 .ensures .1) (search needs) in
-    let four = then (a .waiting) (now (a .out)) ((((32 ∷ 77 ∷ []) ∷ []) ++ (floatTexts (a .result .«initial_merit» ∷ a .result .«final_merit» ∷ []))) ++ (mark 78 ∷ [])) (c .before .before .before .before .before .before .before .before .before .before .before .before .before .before .before .put2 .result) _ (decimalText (a .result .iterations) ∷ []) three (c .before .before .before .before .before .before .before .before .before .before .before .put-decimal .ensures .1) (search needs) in
-    let five = then (a .waiting) (now (a .out)) (((((32 ∷ 77 ∷ []) ∷ []) ++ (floatTexts (a .result .«initial_merit» ∷ a .result .«final_merit» ∷ []))) ++ (mark 78 ∷ [])) ++ (decimalText (a .result .iterations) ∷ [])) (c .before .before .before .before .before .before .before .before .before .before .before .put-decimal .result) _ (blank ∷ []) four (c .before .before .before .before .before .before .put3 .ensures .1) (search needs) in
-    let six = then (a .waiting) (now (a .out)) ((((((32 ∷ 77 ∷ []) ∷ []) ++ (floatTexts (a .result .«initial_merit» ∷ a .result .«final_merit» ∷ []))) ++ (mark 78 ∷ [])) ++ (decimalText (a .result .iterations) ∷ [])) ++ (blank ∷ [])) (c .before .before .before .before .before .before .put3 .result) _ (decimalText (a .result .converged) ∷ []) five (c .before .before .put-decimal2 .ensures .1) (search needs) in
-    (search needs, six)
+    let merits = then (c .before .before .before .before .before .before .before .before .before .before .before .before .before .before .before .before .before .put .ensures .1) (c .before .before .before .before .before .before .before .before .before .before .before .before .put-floats .ensures .1) (search needs) in
+    let iterations = then merits (c .before .before .before .before .before .before .before .put-number .ensures .1) (search needs) in
+    (search needs, then iterations (c .before .before .put-number2 .ensures .1) (search needs))
 
 pub put-outcome-spec : {M : Type 1} → statement M
 put-outcome-spec =
@@ -61,11 +45,9 @@ put-outcome-spec =
     put-requires
     slice-aggregate-put-floats
     put-floats-requires
-    slice-aggregate-put-2
-    put-requires-2
-    put-decimal-requires
-    slice-aggregate-put-3
-    put-requires-3
-    put-decimal-requires-2
+    slice-aggregate-put-number
+    put-number-requires
+    slice-aggregate-put-number-2
+    put-number-requires-2
     same-length
     returns)

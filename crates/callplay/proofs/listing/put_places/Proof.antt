@@ -7,10 +7,10 @@ use Rattle.callplay.proofs.listing.put_places.Statement.{statement}
 use Rattle.callplay.proofs.listing.put_places.Tie as tie
 
 abbrev Inv-loop : tie.InvT-loop
-Inv-loop out₀ waiting finished held₀ place₀ out held place = (place ≤ 4) × (length out ≡ length out₀)
+Inv-loop out₀ finished held₀ place₀ out held place = (place ≤ 4) × (length out ≡ length out₀)
 
 abbrev μ-loop : tie.MeasureT-loop
-μ-loop out₀ waiting finished held₀ place₀ out held place = 4 - place
+μ-loop out₀ finished held₀ place₀ out held place = 4 - place
 
 loop-holds : tie.Need-loop-holds Inv-loop μ-loop
 loop-holds c = search needs

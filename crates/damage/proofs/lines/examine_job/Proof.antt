@@ -10,9 +10,6 @@ Inv-loop request bench₀ finished t₀ stop₀ count₀ bench t stop count = st
 abbrev μ-loop : tie.MeasureT-loop
 μ-loop request bench₀ finished t₀ stop₀ count₀ bench t stop count = 12 - stop
 
-admitted-requires : tie.Need-admitted-requires Inv-loop μ-loop
-admitted-requires c κs = search needs
-
 played-requires : tie.Need-played-requires Inv-loop μ-loop
 played-requires c κs = search needs
 
@@ -52,7 +49,6 @@ examine-job-spec =
     (tie.spec
     Inv-loop
     μ-loop
-    admitted-requires
     played-requires
     first-row-requires
     loop-holds

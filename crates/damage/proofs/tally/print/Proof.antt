@@ -39,9 +39,6 @@ loop-less c = search needs
 loop-again : tie.Need-loop-again Inv-loop μ-loop
 loop-again c = search needs
 
-flush-requires : tie.Need-flush-requires Inv-loop μ-loop
-flush-requires c κs = search needs
-
 same-length : tie.Need-same-length Inv-loop μ-loop
 same-length c = search needs
 
@@ -63,6 +60,5 @@ print-spec =
     add-e
     loop-less
     loop-again
-    flush-requires
     same-length
     returns)

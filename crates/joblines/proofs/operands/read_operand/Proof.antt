@@ -1,20 +1,19 @@
 -- `joblines::operands::read_operand` meets its contract. Assumes nothing.
 use mathlib.Core.Path.{ap, _∙_}
-use lib.Dec.{ltb}
 use Rattle.text.specs.declared.cursor.FloatRead.{FloatRead}
 use Rattle.text.specs.declared.cursor.NumberRead.{NumberRead}
-use Rattle.text.specs.Cursor.{decimalFrom, demanded, floatFrom}
+use Rattle.text.specs.Cursor.{decimalFrom, floatFrom}
 use Rattle.jobs.specs.Entries.{operandType}
 use Rattle.joblines.specs.Operands.{operandFrom}
 use borrow.Author.Needs.{needs}
 use Rattle.joblines.proofs.operands.read_operand.Statement.{statement}
 use Rattle.joblines.proofs.operands.read_operand.Tie as tie
 
+within-requires : tie.Need-within-requires
+within-requires c κs = search needs
+
 decimal-requires : tie.Need-decimal-requires
 decimal-requires c κs = search needs
-
-decimal-requires-2 : tie.Need-decimal-requires-2
-decimal-requires-2 c κs = search needs
 
 float-requires : tie.Need-float-requires
 float-requires c κs = search needs
@@ -28,31 +27,26 @@ float-requires-3 c κs = search needs
 operand-type-requires : tie.Need-operand-type-requires
 operand-type-requires c κs = search needs
 
-required-requires : tie.Need-required-requires
-required-requires c κs = search needs
-
 returns : tie.Need-returns
 unfolding operandFrom
 returns c =
-    let line = c .before .before .before .before .before .before .before .before .before .args .line .now in
-    let kind = c .before .before .before .before .before .before .before .decimal .ensures in
-    let at = c .before .before .before .before .before .before .decimal2 .ensures ∙ ap (λ (r : NumberRead). decimalFrom line (r .next)) kind in
-    let limit = c .before .before .before .before .before .float .ensures ∙ ap (λ (r : NumberRead). floatFrom line (r .next)) at in
-    let target = c .before .before .before .before .float2 .ensures ∙ ap (λ (r : FloatRead). floatFrom line (r .next)) limit in
-    let weight = c .before .before .before .float3 .ensures ∙ ap (λ (r : FloatRead). floatFrom line (r .next)) target in
-    let type = c .before .before .operand-type .ensures ∙ (λ i. operandType (kind i .value) (at i .value) (limit i .value)) in
-    let next = c .required .ensures ∙ (λ i. demanded (ltb (kind i .value) 7) (weight i .next)) in
-    λ i. record { operand = record { «operand_type» = type i; target = target i .value; weight = weight i .value }; next = next i }
+    let line = c .before .before .before .before .before .before .before .before .args .line .now in
+    let kind = c .before .before .before .before .before .before .within .ensures in
+    let at = c .before .before .before .before .before .decimal .ensures ∙ ap (λ (r : NumberRead). decimalFrom line (r .next)) kind in
+    let limit = c .before .before .before .before .float .ensures ∙ ap (λ (r : NumberRead). floatFrom line (r .next)) at in
+    let target = c .before .before .before .float2 .ensures ∙ ap (λ (r : FloatRead). floatFrom line (r .next)) limit in
+    let weight = c .before .before .float3 .ensures ∙ ap (λ (r : FloatRead). floatFrom line (r .next)) target in
+    let type = c .before .operand-type .ensures ∙ (λ i. operandType (kind i .value) (at i .value) (limit i .value)) in
+    λ i. record { operand = record { «operand_type» = type i; target = target i .value; weight = weight i .value }; next = weight i .next }
 
 pub read-operand-spec : {M : Type 1} → statement M
 read-operand-spec =
     tie.close
     (tie.spec
+    within-requires
     decimal-requires
-    decimal-requires-2
     float-requires
     float-requires-2
     float-requires-3
     operand-type-requires
-    required-requires
     returns)

@@ -17,6 +17,9 @@ abbrev μ-loop : tie.MeasureT-loop
 new-requires : tie.Need-new-requires Inv-loop μ-loop
 new-requires c κs = search needs
 
+new-requires-2 : tie.Need-new-requires-2 Inv-loop μ-loop
+new-requires-2 c κs = search needs
+
 loop-holds : tie.Need-loop-holds Inv-loop μ-loop
 loop-holds c = search needs
 
@@ -25,6 +28,9 @@ next-line-requires c κs = search needs
 
 answer-found-requires : tie.Need-answer-found-requires Inv-loop μ-loop
 answer-found-requires c κs = search needs
+
+go-on-requires : tie.Need-go-on-requires Inv-loop μ-loop
+go-on-requires c κs = search needs
 
 sub-steps : tie.Need-sub-steps Inv-loop μ-loop
 sub-steps c = search needs
@@ -35,8 +41,8 @@ loop-less c = search needs
 loop-again : tie.Need-loop-again Inv-loop μ-loop
 loop-again c = search needs
 
-flush-requires : tie.Need-flush-requires Inv-loop μ-loop
-flush-requires c κs = search needs
+finish-requires : tie.Need-finish-requires Inv-loop μ-loop
+finish-requires c κs = search needs
 
 same-length : tie.Need-same-length Inv-loop μ-loop
 same-length c = search needs
@@ -54,13 +60,15 @@ answer-all-spec =
     Inv-loop
     μ-loop
     new-requires
+    new-requires-2
     loop-holds
     next-line-requires
     answer-found-requires
+    go-on-requires
     sub-steps
     loop-less
     loop-again
-    flush-requires
+    finish-requires
     same-length
     same-length-2
     returns)

@@ -7,10 +7,10 @@ use Rattle.leaves.proofs.matrix.put_product.Statement.{statement}
 use Rattle.leaves.proofs.matrix.put_product.Tie as tie
 
 abbrev Inv-loop : tie.InvT-loop
-Inv-loop out₀ waiting scratch p held₀ i₀ out held i = (i ≤ p) × (length out ≡ length out₀)
+Inv-loop out₀ scratch p held₀ i₀ out held i = (i ≤ p) × (length out ≡ length out₀)
 
 abbrev μ-loop : tie.MeasureT-loop
-μ-loop out₀ waiting scratch p held₀ i₀ out held i = p - i
+μ-loop out₀ scratch p held₀ i₀ out held i = p - i
 
 loop-holds : tie.Need-loop-holds Inv-loop μ-loop
 loop-holds c = search needs

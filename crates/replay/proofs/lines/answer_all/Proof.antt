@@ -29,6 +29,9 @@ next-line-requires c κs = search needs
 answer-found-requires : tie.Need-answer-found-requires Inv-loop μ-loop
 answer-found-requires c κs = search needs
 
+go-on-requires : tie.Need-go-on-requires Inv-loop μ-loop
+go-on-requires c κs = search needs
+
 sub-steps : tie.Need-sub-steps Inv-loop μ-loop
 sub-steps c = search needs
 
@@ -38,8 +41,8 @@ loop-less c = search needs
 loop-again : tie.Need-loop-again Inv-loop μ-loop
 loop-again c = search needs
 
-flush-requires : tie.Need-flush-requires Inv-loop μ-loop
-flush-requires c κs = search needs
+finish-requires : tie.Need-finish-requires Inv-loop μ-loop
+finish-requires c κs = search needs
 
 same-length : tie.Need-same-length Inv-loop μ-loop
 same-length c = search needs
@@ -61,10 +64,11 @@ answer-all-spec =
     loop-holds
     next-line-requires
     answer-found-requires
+    go-on-requires
     sub-steps
     loop-less
     loop-again
-    flush-requires
+    finish-requires
     same-length
     same-length-2
     returns)

@@ -1,18 +1,19 @@
 -- `text::cursor::decimal` meets its contract. Assumes nothing.
 use mathlib.Core.Path.{ap, _∙_}
-use borrow.Author.Needs.{needs}
+use Rattle.text.specs.declared.cursor.Why.the-variants.{NoNumber}
 use Rattle.text.specs.Cursor.{numberRead}
+use borrow.Author.Needs.{needs}
 use Rattle.text.proofs.cursor.decimal.Statement.{statement}
 use Rattle.text.proofs.cursor.decimal.Tie as tie
 
-decimal-field-requires : tie.Need-decimal-field-requires
-decimal-field-requires c κs = search needs
+number-field-requires : tie.Need-number-field-requires
+number-field-requires c κs = search needs
 
 number-read-requires : tie.Need-number-read-requires
 number-read-requires c κs = search needs
 
 returns : tie.Need-returns
-returns c = c .number-read .ensures ∙ ap (numberRead (c .before .before .before .args .c)) (c .before .decimal-field .ensures)
+returns c = c .number-read .ensures ∙ ap (numberRead NoNumber (c .before .before .before .args .c)) (c .before .number-field .ensures)
 
 pub decimal-spec : {M : Type 1} → statement M
-decimal-spec = tie.close (tie.spec decimal-field-requires number-read-requires returns)
+decimal-spec = tie.close (tie.spec number-field-requires number-read-requires returns)

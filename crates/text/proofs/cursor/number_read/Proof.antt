@@ -1,4 +1,7 @@
 -- `text::cursor::number_read` meets its contract. Assumes nothing.
+use mathlib.Core.Path.{sym, ap, _∙_}
+use Rattle.text.specs.declared.cursor.Cursor.{Cursor}
+use Rattle.text.specs.Cursor.{numberRead}
 use borrow.Author.Needs.{needs}
 use Rattle.text.proofs.cursor.number_read.Statement.{statement}
 use Rattle.text.proofs.cursor.number_read.Tie as tie
@@ -6,14 +9,25 @@ use Rattle.text.proofs.cursor.number_read.Tie as tie
 enum-known-f : tie.Need-enum-known-f
 enum-known-f c = search needs
 
+moved-requires : tie.Need-moved-requires
+moved-requires c κs = search needs
+
 enum-told : tie.Need-enum-told
 enum-told c = search needs
 
+spoilt-requires : tie.Need-spoilt-requires
+spoilt-requires c κs = search needs
+
 returns : tie.Need-returns
-returns c = cc
+returns c =
+    ap (λ (d : Cursor). record { value = c .before .before .f .given .0 .0; next = d }) (c .moved .ensures)
+    ∙ ap (numberRead (c .before .before .before .before .args .why) (c .before .before .before .before .args .c)) (sym (c .before .before .f .given .1))
 
 returns-2 : tie.Need-returns-2
-returns-2 c = cc
+returns-2 c =
+    ap (λ (d : Cursor). record { value = _; next = d }) (c .spoilt .ensures)
+    ∙ ap (numberRead (c .before .before .before .args .why) (c .before .before .before .args .c)) (sym (c .before .enum-told .given .1))
 
 pub number-read-spec : {M : Type 1} → statement M
-number-read-spec = tie.close (tie.spec enum-known-f enum-told returns returns-2)
+number-read-spec =
+    tie.close (tie.spec enum-known-f moved-requires enum-told spoilt-requires returns returns-2)

@@ -7,10 +7,11 @@ use borrow.Author.Tests.{eqb-true, eq-eqb}
 use Prim.Native.Nat.{ℕ}
 use borrow.Author.Needs.{needs}
 use Rattle.text.specs.declared.cursor.Cursor.{Cursor}
+use Rattle.text.specs.declared.cursor.Why.the-variants.{Another}
 use Rattle.text.specs.declared.words.Word.{Word}
 use Rattle.text.specs.Fields.{textOf}
 use Rattle.text.specs.Words.{wordFrom, sameText}
-use Rattle.text.specs.Cursor.{movedTo, spoiltFrom, pastTag}
+use Rattle.text.specs.Cursor.{movedTo, spoiltBy, pastTag}
 use Rattle.text.proofs.cursor.tag.Statement.{statement}
 use Rattle.text.proofs.cursor.tag.Tie as tie
 
@@ -41,12 +42,12 @@ module _ (line : List ℕ) (from : Cursor) (name : List ℕ) {w : Word} (is : w 
   past : textOf line w ≡ name → r ≡ movedTo (w .to) from → r ≡ pastTag line from name
   past e m =
       let same : sameText (textOf line w) name ≡ true = ap (λ (t : List ℕ). sameText t name) e ∙ same-self name in
-      subst (λ (v : Word). r ≡ cond (sameText (textOf line v) name) (movedTo (v .to) from) (spoiltFrom from)) is (simp same m)
+      subst (λ (v : Word). r ≡ cond (sameText (textOf line v) name) (movedTo (v .to) from) (spoiltBy Another from)) is (simp same m)
 
-  not-past : (textOf line w ≡ name → ⊥) → r ≡ spoiltFrom from → r ≡ pastTag line from name
+  not-past : (textOf line w ≡ name → ⊥) → r ≡ spoiltBy Another from → r ≡ pastTag line from name
   not-past n s =
       let other : sameText (textOf line w) name ≡ false = differ (textOf line w) name n in
-      subst (λ (v : Word). r ≡ cond (sameText (textOf line v) name) (movedTo (v .to) from) (spoiltFrom from)) is (simp other s)
+      subst (λ (v : Word). r ≡ cond (sameText (textOf line v) name) (movedTo (v .to) from) (spoiltBy Another from)) is (simp other s)
 
 next-word-requires : tie.Need-next-word-requires
 next-word-requires c κs = search needs

@@ -5,12 +5,12 @@ use mathlib.Core.List.{List, [], _∷_}
 use Prim.Native.Nat.{ℕ, zero, suc, _+_, _-_, _^_, _≤_, _<_}
 use native.Mathlib.Nat.{eq-or-lt-of-le, le-of-suc-le-suc, lt-of-not-le, pow-le-pow-right}
 use native.Mathlib.Omega.{arith}
-use denote.Ref.{now}
 use lib.Dec.{lit<}
 use Rattle.io.specs.Digits.{digits, Fewest}
+use Rattle.text.specs.OutputLaws.{put-as}
 use borrow.Author.Needs.{needs}
 use borrow.Author.Tests.{lt-ltb, le-ltb}
-use Rattle.text.specs.Output.{after, placesFrom, decimalText}
+use Rattle.text.specs.Output.{placesFrom, decimalText}
 use Rattle.text.proofs.output.put_decimal.Statement.{statement}
 use Rattle.text.proofs.output.put_decimal.Tie as tie
 
@@ -65,7 +65,7 @@ returns c =
     let a = c .before .before .before .before .before .before .before .before .args in
     let d = c .before .before .before .before .before .decimal in
     let p = c .before .before .put in
-    (p .ensures .0, p .ensures .1 ∙ ap (λ (text : List ℕ). after (a .waiting) (now (a .out)) (text ∷ [])) (all-digits (a .x) (d .result) _ (d .ensures .1 .0) (search needs) (d .ensures .1 .1)))
+    (p .ensures .0, put-as (ap (λ (text : List ℕ). text ∷ []) (all-digits (a .x) (d .result) _ (d .ensures .1 .0) (search needs) (d .ensures .1 .1))) (p .ensures .1))
 
 pub put-decimal-spec : {M : Type 1} → statement M
 put-decimal-spec =

@@ -3,11 +3,11 @@ use mathlib.Core.Path.{_≡_, refl, ap, _∙_}
 use mathlib.Core.Bool.{true, not}
 use mathlib.Core.List.{List, [], _∷_}
 use Prim.Native.Nat.{ℕ}
-use denote.Ref.{now}
 use lib.Dec.{T}
 use lib.Ieee.{Float, nan, inf, fin, binary64, ne, isNan, toBits}
+use Rattle.text.specs.OutputLaws.{put-as}
 use borrow.Author.Needs.{needs}
-use Rattle.text.specs.Output.{after, hexText, floatText}
+use Rattle.text.specs.Output.{hexText, floatText}
 use Rattle.text.proofs.Nan.{is-nan, is-number}
 use Rattle.text.proofs.output.put_float.Statement.{statement}
 use Rattle.text.proofs.output.put_float.Tie as tie
@@ -41,7 +41,7 @@ returns : tie.Need-returns
 returns c =
     let a = c .before .before .before .before .before .before .before .args in
     let p = c .before .before .put in
-    (p .ensures .0, p .ensures .1 ∙ ap (λ (text : List ℕ). after (a .waiting) (now (a .out)) (text ∷ [])) (nan-text (a .x) (c .before .before .before .before .before .if1 .taken)))
+    (p .ensures .0, put-as (ap (λ (text : List ℕ). text ∷ []) (nan-text (a .x) (c .before .before .before .before .before .if1 .taken))) (p .ensures .1))
 
 same-length-2 : tie.Need-same-length-2
 same-length-2 c = search needs
@@ -50,7 +50,7 @@ returns-2 : tie.Need-returns-2
 returns-2 c =
     let a = c .before .before .before .before .before .before .args in
     let p = c .before .before .put-hex in
-    (p .ensures .0, p .ensures .1 ∙ ap (λ (text : List ℕ). after (a .waiting) (now (a .out)) (text ∷ [])) (number-text (a .x) (is-number (a .x) (c .before .before .before .before .if1 .left))))
+    (p .ensures .0, put-as (ap (λ (text : List ℕ). text ∷ []) (number-text (a .x) (is-number (a .x) (c .before .before .before .before .if1 .left)))) (p .ensures .1))
 
 pub put-float-spec : {M : Type 1} → statement M
 put-float-spec =

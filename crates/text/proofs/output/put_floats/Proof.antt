@@ -5,27 +5,27 @@ use mathlib.Core.Path.{_≡_, sym, ap, _∙_}
 use denote.Ref.{now}
 use lib.Ieee.{Float}
 use lib.Seq.{take-all}
-use Rattle.text.specs.OutputLaws.{then, take-min, nothing-put, next-float}
 use lib.ListN.{length, take}
-use Rattle.text.specs.Output.{after, blank, floatText, floatTexts}
+use Rattle.text.specs.OutputLaws.{then, put-as, nothing-put, put-from-clip, next-float}
+use Rattle.text.specs.Output.{Put, blank, floatText, floatTexts}
 use borrow.Author.Needs.{needs}
 use Rattle.text.proofs.output.put_floats.Statement.{statement}
 use Rattle.text.proofs.output.put_floats.Tie as tie
 
 abbrev Inv-loop : tie.InvT-loop
-Inv-loop out₀ waiting row now₀ i₀ t6 out held i = (i ≤ length row) × (length out ≡ length out₀) × (held ≤ length out) × (take held out ≡ after waiting out₀ (floatTexts (take i row)))
+Inv-loop out₀ row held₀ i₀ t6 out held i = (i ≤ length row) × (length out ≡ length out₀) × (held .bytes ≤ length out) × Put held₀ out₀ (floatTexts (take i row)) held out
 
 abbrev μ-loop : tie.MeasureT-loop
-μ-loop out₀ waiting row now₀ i₀ t6 out held i = length row - i
+μ-loop out₀ row held₀ i₀ t6 out held i = length row - i
 
-least-requires : tie.Need-least-requires Inv-loop μ-loop
-least-requires c κs = search needs
+within-requires : tie.Need-within-requires Inv-loop μ-loop
+within-requires c κs = search needs
 
 loop-holds : tie.Need-loop-holds Inv-loop μ-loop
 unfolding floatTexts
 loop-holds c =
     let a = c .before .before .before .args in
-    (search needs, search needs, search needs, ap (λ (n : ℕ). take n (now (a .out))) (c .least .ensures) ∙ take-min (a .waiting) (now (a .out)) ∙ nothing-put (a .waiting) (now (a .out)))
+    (search needs, search needs, rw (c .within .ensures) (search needs), nothing-put (c .within .result) (now (a .out)))
 
 slice-aggregate-put : tie.Need-slice-aggregate-put Inv-loop μ-loop
 slice-aggregate-put c = search needs
@@ -55,10 +55,8 @@ loop-again c =
     let p = c .before .before .before .before .before .before .before .put in
     let f = c .before .before .put-float in
     let ts = floatTexts (take (l .i) (now (a .row))) in
-    let one = then (a .waiting) (now (a .out)) ts (l .held) (l .out) (blank ∷ []) (l .inv .3) (p .ensures .1) (l .inv .1) in
-    let two = then (a .waiting) (now (a .out)) (ts ++ (blank ∷ [])) (p .result) _ (floatText _ ∷ []) one (f .ensures .1) (search needs) in
-    let texts = ap (λ (t : List (List ℕ)). after (a .waiting) (now (a .out)) t) (append-assoc ts (blank ∷ []) _ ∙ sym (next-float (now (a .row)) (l .i) _ (search needs))) in
-    (search needs, search needs, search needs, two ∙ texts)
+    let both = then (then (l .inv .3) (p .ensures .1) (l .inv .1)) (f .ensures .1) (search needs) in
+    (search needs, search needs, search needs, put-as (append-assoc ts (blank ∷ []) _ ∙ sym (next-float (now (a .row)) (l .i) _ (search needs))) both)
 
 same-length : tie.Need-same-length Inv-loop μ-loop
 same-length c = search needs
@@ -67,7 +65,8 @@ returns : tie.Need-returns Inv-loop μ-loop
 returns c =
     let l = c .before .loop in
     let a = c .before .before .before .before .before .args in
-    (search needs, l .inv .3 ∙ ap (λ (row : List Float). after (a .waiting) (now (a .out)) (floatTexts row)) (take-all (l .i) (now (a .row)) (search needs)))
+    let start = put-from-clip (a .waiting) (now (a .out)) (c .before .before .within .ensures) in
+    (search needs, put-as (ap floatTexts (take-all (l .i) (now (a .row)) (search needs))) (then start (l .inv .3) (search needs)))
 
 pub put-floats-spec : {M : Type 1} → statement M
 put-floats-spec =
@@ -75,7 +74,7 @@ put-floats-spec =
     (tie.spec
     Inv-loop
     μ-loop
-    least-requires
+    within-requires
     loop-holds
     slice-aggregate-put
     put-requires

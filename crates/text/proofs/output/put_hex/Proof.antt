@@ -5,11 +5,11 @@ use Prim.Native.Nat.{ℕ, _-_, _^_, _≤_, _<_}
 use native.Mathlib.Nat.{eq-or-lt-of-le, pow-le-pow-right}
 use mathlib.Core.List.{List, [], _∷_}
 use native.Mathlib.Omega.{arith}
-use denote.Ref.{now}
 use lib.Dec.{lit<}
 use Rattle.io.specs.Digits.{digits, Fewest}
+use Rattle.text.specs.OutputLaws.{put-as}
 use borrow.Author.Needs.{needs}
-use Rattle.text.specs.Output.{after, hexText}
+use Rattle.text.specs.Output.{hexText}
 use Rattle.text.proofs.output.put_hex.Statement.{statement}
 use Rattle.text.proofs.output.put_hex.Tie as tie
 
@@ -48,7 +48,7 @@ returns c =
     let a = c .before .before .before .before .before .before .before .before .args in
     let h = c .before .before .before .before .before .hex in
     let p = c .before .before .put in
-    (p .ensures .0, p .ensures .1 ∙ ap (λ (text : List ℕ). after (a .waiting) (now (a .out)) (text ∷ [])) (all-digits (a .x) (h .result) _ (sixteen (a .x) (h .result) (search needs) (h .ensures .1 .0)) (h .ensures .1 .1)))
+    (p .ensures .0, put-as (ap (λ (text : List ℕ). text ∷ []) (all-digits (a .x) (h .result) _ (sixteen (a .x) (h .result) (search needs) (h .ensures .1 .0)) (h .ensures .1 .1))) (p .ensures .1))
 
 pub put-hex-spec : {M : Type 1} → statement M
 put-hex-spec =

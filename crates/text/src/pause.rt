@@ -1,0 +1,4 @@
+// A pause between two tries.
+pub(crate) fn pause() {
+    libc::sched_yield();
+}
