@@ -226,6 +226,13 @@ fn usage_and_status() {
     assert_eq!(lensbench(&["--version"], "").1, format!("lensbench {}, records of layout {}\n", env!("CARGO_PKG_VERSION"), lensbench::ABI));
 }
 
+/// A file that cannot be read keeps no other from being played.
+#[test]
+fn a_missing_file_among_others() {
+    let (status, out, err) = lensbench(&["run", "/no/such/file", &example("singlet.lens")], "");
+    assert!(status == 2 && out.starts_with("plano-convex") && err.starts_with("lensbench: /no/such/file: "), "{err}");
+}
+
 /// A write that fails is an error.
 #[test]
 fn a_full_disk() {

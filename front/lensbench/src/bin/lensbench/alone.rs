@@ -58,7 +58,7 @@ type Shown = Result<Result<String, Refusal>, String>;
 
 /// The same for each job of each file.
 fn each(args: &Args, show: impl Fn(&Source) -> Shown) -> Done {
-    let sources = read_all(args.some_files()?, false)?;
+    let sources = read_all(args.some_files()?, false);
     let mut out = Out::new();
     let mut status = 0;
     for source in &sources.jobs {

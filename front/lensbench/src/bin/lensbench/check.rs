@@ -7,7 +7,7 @@ use lensbench::{Bench, Place};
 
 pub fn check(words: &[String]) -> Done {
     let args = Args::read(words, &Known { marks: &[], values: &[] })?;
-    let sources = read_all(args.some_files()?, true)?;
+    let sources = read_all(args.some_files()?, true);
     let mut out = Out::new();
     let mut status = 0;
     for source in &sources.jobs {

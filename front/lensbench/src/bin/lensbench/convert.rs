@@ -19,7 +19,7 @@ pub fn convert(words: &[String]) -> Done {
 
 fn to_line(args: &Args) -> Done {
     let (alone, slot) = (args.has("--evaluate"), args.one("--trace")?);
-    let sources = read_all(args.some_files()?, !alone && slot.is_none())?;
+    let sources = read_all(args.some_files()?, !alone && slot.is_none());
     let mut out = Out::new();
     for source in &sources.jobs {
         let call = call_of(source, alone, slot)?;

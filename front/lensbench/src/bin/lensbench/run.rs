@@ -18,7 +18,7 @@ struct Show<'a> {
 
 pub fn run(words: &[String]) -> Done {
     let args = Args::read(words, &KNOWN)?;
-    let sources = read_all(args.some_files()?, true)?;
+    let sources = read_all(args.some_files()?, true);
     let show = Show { json: args.has("--json"), bits: args.has("--bits"), svg: args.one("--svg")? };
     for source in &sources.jobs {
         warnings::print(source);

@@ -32,22 +32,19 @@ impl Sources {
     }
 }
 
-pub fn read_all(files: &[String], need_run: bool) -> Result<Sources, String> {
+/// Reads what can be read; a file that is wrong keeps no other from being played.
+pub fn read_all(files: &[String], need_run: bool) -> Sources {
     let mut sources = Sources { jobs: Vec::new(), in_form: true };
     for file in files {
-        let complaints = match read_one(file, need_run)? {
-            Ok(jobs) => {
-                sources.jobs.extend(jobs);
-                continue;
+        match read_one(file, need_run).unwrap_or_else(|what| Err(vec![format!("lensbench: {what}")])) {
+            Ok(jobs) => sources.jobs.extend(jobs),
+            Err(complaints) => {
+                sources.in_form = false;
+                complaints.iter().for_each(|complaint| eprintln!("{complaint}"));
             }
-            Err(complaints) => complaints,
-        };
-        sources.in_form = false;
-        for complaint in complaints {
-            eprintln!("{complaint}");
         }
     }
-    Ok(sources)
+    sources
 }
 
 /// The jobs of a file, or what is wrong with it. The outer error is one of input and output.

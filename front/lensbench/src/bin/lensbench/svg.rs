@@ -47,15 +47,34 @@ fn part(page: &Page, layout: &Layout, i: usize) -> String {
     }
 }
 
-/// Blue, green and red for the lines that have these colours, by their usual names; else one after the other.
+const RED: &str = "#c0392b";
+const GREEN: &str = "#1e8449";
+const BLUE: &str = "#2060b0";
+const OTHERS: [&str; 4] = [RED, GREEN, BLUE, "#7d3c98"];
+
+/// The colour of the light where every slot's name tells one and no two the same; else one after the other.
 fn colour(entry: &Entry, slot: usize) -> &'static str {
-    const COLOURS: [&str; 4] = ["#c0392b", "#1e8449", "#2060b0", "#7d3c98"];
-    match entry.slots.get(slot).map_or("", String::as_str) {
-        _ if entry.slots.len() == 1 => COLOURS[0],
-        "F" | "F'" | "g" => COLOURS[2],
-        "d" | "e" => COLOURS[1],
-        "C" | "C'" | "r" => COLOURS[0],
-        _ => COLOURS[slot % 4],
+    let told: Option<Vec<&str>> = entry.slots.iter().map(|name| light(name)).collect();
+    let apart = |of: &Vec<&str>| of.iter().enumerate().all(|(i, one)| !of[..i].contains(one));
+    told.filter(apart).and_then(|of| of.get(slot).copied()).unwrap_or(OTHERS[slot % 4])
+}
+
+/// By the names of spectral lines, of colours, or a wavelength in nm.
+fn light(name: &str) -> Option<&'static str> {
+    match name {
+        "F" | "F'" | "g" | "h" | "blue" => Some(BLUE),
+        "d" | "e" | "D" | "green" | "yellow" => Some(GREEN),
+        "C" | "C'" | "r" | "red" | "HeNe" => Some(RED),
+        other => {
+            let nm: f64 = other.trim_end_matches("nm").parse().ok()?;
+            Some(if nm < 500.0 {
+                BLUE
+            } else if nm < 600.0 {
+                GREEN
+            } else {
+                RED
+            })
+        }
     }
 }
 
