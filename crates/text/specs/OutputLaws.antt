@@ -80,10 +80,6 @@ put-as {w} {r} {out} {left} e p = subst (λ (texts : List (List ℕ)). Put w out
 pub put-from : {w z r : Waiting} {out left : List ℕ} {ts : List (List ℕ)} → w ≡ z → Put w out ts r left → Put z out ts r left
 put-from {r = r} {out = out} {left = left} {ts = ts} e p = subst (λ (x : Waiting). Put x out ts r left) e p
 
-pub one-put : (w : ℕ) (out text : List ℕ) → after w out (text ∷ []) ≡ added (length out) (take w out) text
-unfolding addedAll
-one-put w out text = refl
-
 pub floats-append : (row more : List Float) → floatTexts (row ++ more) ≡ floatTexts row ++ floatTexts more
 unfolding floatTexts
 floats-append [] more = refl

@@ -40,7 +40,7 @@ impl Input {
 }
 
 // How many lines were taken: one less than the number of the line that comes next.
-pub fn lines_of(input: Input) -> u64
+pub(crate) fn lines_of(input: Input) -> u64
     ensures { λ r. ⌜ r ≡ linesOf input ⌝ }
 {
     std::num::wrapping_add_u64(input.number, u64::MAX)

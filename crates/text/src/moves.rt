@@ -81,7 +81,10 @@ pub(crate) fn write_all(text: &[u8]) -> bool
 {
     let mut done = 0;
     let mut tries = u64::MAX;
-    while tries > 0 && done < text.len() {
+    while done < text.len() {
+        if tries == 0 {
+            return failed(b"standard output").is_good;
+        }
         let moved = write_some(&text[done..]);
         if !moved.is_good {
             return false;
@@ -89,5 +92,5 @@ pub(crate) fn write_all(text: &[u8]) -> bool
         done += moved.bytes;
         tries -= 1;
     }
-    done == text.len()
+    true
 }

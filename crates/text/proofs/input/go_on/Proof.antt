@@ -1,6 +1,6 @@
 -- `text::input::go_on` meets its contract. Assumes nothing.
-use mathlib.Core.Path.{_≡_, refl, sym, _∙_}
-use mathlib.Core.Bool.{true, false, true≢false}
+use mathlib.Core.Path.{refl, sym, _∙_}
+use mathlib.Core.Bool.{true≢false}
 use borrow.Author.Needs.{needs}
 use Rattle.text.proofs.input.go_on.Statement.{statement}
 use Rattle.text.proofs.input.go_on.Tie as tie

@@ -1,22 +1,30 @@
 -- `text::moves::write_all` meets its contract. Each write takes some of what is left; the measure is the number of tries that are left.
 -- Assumes nothing.
 use Prim.Native.Nat.{_≤_}
+use mathlib.Core.Path.{refl}
 use native.Mathlib.Omega.{arith}
-use denote.Ref.{now}
 use lib.ListN.{length}
-use borrow.Author.Tests.{ltb-true, eq-eqb}
 use borrow.Author.Needs.{needs}
 use Rattle.text.proofs.moves.write_all.Statement.{statement}
 use Rattle.text.proofs.moves.write_all.Tie as tie
 
 abbrev Inv-loop : tie.InvT-loop
-Inv-loop text done₀ tries₀ done tries = done ≤ length text
+Inv-loop text done₀ tries₀ t5 done tries = done ≤ length text
 
 abbrev μ-loop : tie.MeasureT-loop
-μ-loop text done₀ tries₀ done tries = tries
+μ-loop text done₀ tries₀ t5 done tries = tries
 
 loop-holds : tie.Need-loop-holds Inv-loop μ-loop
 loop-holds c = search needs
+
+slice-aggregate-failed : tie.Need-slice-aggregate-failed Inv-loop μ-loop
+slice-aggregate-failed c = search needs
+
+failed-requires : tie.Need-failed-requires Inv-loop μ-loop
+failed-requires c κs = search needs
+
+returns : tie.Need-returns Inv-loop μ-loop
+returns c = λ e. absurd (omega (arith, e))
 
 sub-write-some : tie.Need-sub-write-some Inv-loop μ-loop
 sub-write-some c = search needs
@@ -30,8 +38,8 @@ part-write-some-end c = search needs
 write-some-requires : tie.Need-write-some-requires Inv-loop μ-loop
 write-some-requires c κs = search needs
 
-returns : tie.Need-returns Inv-loop μ-loop
-returns c = λ e. absurd (omega (arith, e, ltb-true (c .before .before .before .before .before .before .loop .done) (length (now (c .before .before .before .before .before .before .before .before .args .text))) (c .before .before .before .before .if1 .taken)))
+returns-2 : tie.Need-returns-2 Inv-loop μ-loop
+returns-2 c = λ e. absurd (omega (arith, e))
 
 add-done : tie.Need-add-done Inv-loop μ-loop
 add-done c = search needs
@@ -45,8 +53,8 @@ loop-less c = search needs
 loop-again : tie.Need-loop-again Inv-loop μ-loop
 loop-again c = search needs
 
-returns-2 : tie.Need-returns-2 Inv-loop μ-loop
-returns-2 c = λ e. eq-eqb (c .before .loop .done) (length (now (c .before .before .before .args .text))) (omega (arith, e))
+returns-3 : tie.Need-returns-3 Inv-loop μ-loop
+returns-3 c = λ e. refl
 
 pub write-all-spec : {M : Type 1} → statement M
 write-all-spec =
@@ -55,13 +63,16 @@ write-all-spec =
     Inv-loop
     μ-loop
     loop-holds
+    slice-aggregate-failed
+    failed-requires
+    returns
     sub-write-some
     part-write-some-start
     part-write-some-end
     write-some-requires
-    returns
+    returns-2
     add-done
     sub-tries
     loop-less
     loop-again
-    returns-2)
+    returns-3)

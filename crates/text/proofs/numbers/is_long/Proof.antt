@@ -1,5 +1,4 @@
 -- `text::numbers::is_long` meets its contract. Assumes nothing.
-use borrow.Author.Needs.{needs}
 use borrow.Author.Tests.{ne-eqb}
 use Rattle.text.proofs.numbers.is_long.Statement.{statement}
 use Rattle.text.proofs.numbers.is_long.Tie as tie

@@ -1,13 +1,12 @@
 -- `text::output::put_floats` meets its contract: after i floats what waits is what i floats add. Assumes nothing.
-use Prim.Native.Nat.{ℕ, _-_, _≤_}
-use mathlib.Core.List.{List, [], _∷_, _++_, append-assoc}
+use Prim.Native.Nat.{_-_, _≤_}
+use mathlib.Core.List.{[], _∷_, append-assoc}
 use mathlib.Core.Path.{_≡_, sym, ap, _∙_}
 use denote.Ref.{now}
-use lib.Ieee.{Float}
 use lib.Seq.{take-all}
 use lib.ListN.{length, take}
 use Rattle.text.specs.OutputLaws.{then, put-as, nothing-put, put-from-clip, next-float}
-use Rattle.text.specs.Output.{Put, blank, floatText, floatTexts}
+use Rattle.text.specs.Output.{Put, blank, floatTexts}
 use borrow.Author.Needs.{needs}
 use Rattle.text.proofs.output.put_floats.Statement.{statement}
 use Rattle.text.proofs.output.put_floats.Tie as tie

@@ -1,6 +1,6 @@
 -- `text::output::written` meets its contract. Assumes nothing.
-use mathlib.Core.Path.{_≡_, refl, sym, ap, _∙_}
-use mathlib.Core.Bool.{true, false, true≢false}
+use mathlib.Core.Path.{refl, sym, ap, _∙_}
+use mathlib.Core.Bool.{true≢false}
 use Rattle.text.specs.declared.output.Waiting.{Waiting}
 use Rattle.text.specs.OutputLaws.{same-lines}
 use borrow.Author.Tests.{not-false}
