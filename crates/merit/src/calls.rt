@@ -108,7 +108,7 @@ pub fn evaluate(
 }
 
 // What a trace is refused with, 0 where it is not.
-fn trace_number(prescription: OpticalPrescription, slot: usize, length: usize) -> u32
+pub fn trace_number(prescription: OpticalPrescription, slot: usize, length: usize) -> u32
     ensures { λ r. ⌜ r ≡ traceNumber prescription slot length ⌝ }
 {
     if !optics::lens_counts_taken(prescription.surface_count, prescription.slot_count) {

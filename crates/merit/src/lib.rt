@@ -7,6 +7,7 @@ mod types;
 
 pub use calls::evaluate;
 pub use calls::trace;
+pub use calls::trace_number;
 pub use checks::operands_taken;
 pub use evaluation::evaluate_flat;
 pub use types::Evaluated;

@@ -1,0 +1,3 @@
+pub mod Passing
+pub mod Working
+pub mod Answers
