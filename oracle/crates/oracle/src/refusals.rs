@@ -32,6 +32,7 @@ fn base(kind: u8) -> Job {
     for kind in 0..7 {
         j.ops.push(Op { kind, at: kind as usize % 2, limit: if kind < 5 { 0.0 } else { 3.0 }, target: 60.0, weight: 4.0 });
     }
+    j.limits = vec![Ends { low: 15.0, high: 17.0 }, Ends { low: 2.0, high: 2.0 }, Ends { low: -0.5, high: 0.5 }];
     j.maxit = 2;
     j.trials = 1;
     j.steps = 2;
@@ -50,6 +51,7 @@ fn float_at(j: &mut Job, n: usize) -> Option<&mut f64> {
     match kind {
         1 | 2 => v.extend([&mut j.damping, &mut j.reltol, &mut j.gradtol, &mut j.relstep]),
         3 => v.extend([&mut j.temp, &mut j.cooling]),
+        6 => j.limits.iter_mut().for_each(|l| v.extend([&mut l.low, &mut l.high])),
         _ => {}
     }
     v.into_iter().nth(n)
@@ -65,7 +67,7 @@ fn count_at(j: &mut Job, n: usize) -> Option<&mut usize> {
         1 => v.push(&mut j.maxit),
         2 => v.extend([&mut j.maxit, &mut j.trials]),
         3 => v.extend([&mut j.steps, &mut j.cycles]),
-        5 => v.push(&mut j.slot),
+        5 | 6 => v.push(&mut j.slot),
         _ => {}
     }
     v.into_iter().nth(n)
@@ -78,6 +80,7 @@ fn lengths(kind: u8) -> Vec<Job> {
         let mut j = base(kind);
         j.surfs.resize(n, Surf { r: 50.0, k: 0.0, t: 1.0, s: 5.0 });
         j.idx.resize(n * 2, 1.5);
+        j.limits.resize(n, Ends { low: 1.0, high: 2.0 });
         j.vars.retain(|x| x.surf < n);
         v.push(j);
     }
@@ -98,7 +101,7 @@ fn lengths(kind: u8) -> Vec<Job> {
         j.vars.iter_mut().for_each(|x| x.on = false);
         v.push(j);
     }
-    if kind != 5 {
+    if kind < 5 {
         for n in [0, 1, 11, 12, 13, 14, 40] {
             let mut j = base(kind);
             let last = j.ops[6];
