@@ -1,7 +1,7 @@
 /* lensbench.h: the lens bench for C and C++ on x86-64 Linux. Link liblensbench.a, which front/lib builds; it needs memcpy, memmove and memset, and nothing else.
  *
  * A bench has four places, 0 to 3. A job is admitted to an empty place and takes turns, one merit each, until a turn answers LENS_FINISHED; then its result
- * is fetched and its place released. Each job's number of turns is bounded beforehand. lens_evaluate and lens_trace need no bench.
+ * is fetched and its place released. Each job's number of turns is bounded beforehand. lens_evaluate, lens_trace and lens_trace_limits need no bench.
  *
  * A call answers 0 where it is done. Else it answers the lowest number that applies of those it refuses with, and no byte of what it was lent has changed.
  * Any bench, place, record and length may be handed in: no value makes a call misbehave. What the caller owes, and nothing can check:
@@ -34,7 +34,7 @@ extern "C" {
 #endif
 
 /* goes up with every change of a record: lens_abi() of the library that is linked must answer the same */
-#define LENS_ABI 1
+#define LENS_ABI 2
 
 enum LensLimits { LENS_PLACES = 4, LENS_SURFACES = 16, LENS_SLOTS = 4, LENS_VARIABLES = 8, LENS_OPERANDS = 12, LENS_SCRATCH = 256 };
 
@@ -55,6 +55,7 @@ enum LensNumbers {
     LENS_DAMAGED = 12,       /* the place's bytes are none that the calls leave: release it */
     LENS_FINISHED = 13,      /* the job is at its end: fetch it */
     LENS_UNFINISHED = 14,    /* the job is not at its end */
+    LENS_BAD_LIMITS = 19,    /* lens_trace_limits: fewer than two surfaces, limits crossed, or an end given or worked out that is not finite */
     LENS_NOT_TRACED = 100    /* lens_trace alone: nothing is refused, but fewer than two surfaces have no trace, and the rays are as they were */
 };
 
@@ -146,6 +147,21 @@ typedef struct LensRay {
     double y, u;
 } LensRay;
 
+/* the two ends of an interval */
+typedef struct LensInterval {
+    double low, high;
+} LensInterval;
+
+/* the least and the greatest thickness behind each surface, the last too; entries past the surfaces are not looked at */
+typedef struct LensThicknessLimits {
+    LensInterval thicknesses[16];
+} LensThicknessLimits;
+
+/* the least and the greatest track, and for each surface those of the height at it and of the slope behind it; zero past the surfaces */
+typedef struct LensTraceLimits {
+    LensInterval track, heights[16], slopes[16];
+} LensTraceLimits;
+
 /* the first `count` of `places`; 0 past them */
 typedef struct LensFinished {
     size_t places[4], count;
@@ -160,6 +176,7 @@ LENS_ASSERT(sizeof(size_t) == 8 && sizeof(double) == 8, "lensbench.h is for x86-
 LENS_ASSERT(sizeof(LensSurface) == 32 && sizeof(LensVariable) == 48 && sizeof(LensOperand) == 40, "lensbench.h: a record has padding");
 LENS_ASSERT(sizeof(LensSettings) == 88 && sizeof(LensJob) == 2016 && sizeof(LensRequest) == 2032, "lensbench.h: a record has padding");
 LENS_ASSERT(sizeof(LensResult) == 736 && sizeof(LensEvaluation) == 200 && sizeof(LensRay) == 16, "lensbench.h: a record has padding");
+LENS_ASSERT(sizeof(LensInterval) == 16 && sizeof(LensThicknessLimits) == 256 && sizeof(LensTraceLimits) == 528, "lensbench.h: a record has padding");
 LENS_ASSERT(sizeof(LensFinished) == 40 && sizeof(LensBench) == 18304, "lensbench.h: a record has padding");
 
 /* LENS_ABI of the library that is linked */
@@ -185,6 +202,10 @@ LENS_CALL uint32_t lens_evaluate(const LensJob *job, LensEvaluation *evaluation)
 
 /* the paraxial rays of the job's lens in a slot, one per surface: ray_count is the job's surface_count. Operands are not looked at either. 1, 3, 5 and 100 */
 LENS_CALL uint32_t lens_trace(const LensJob *job, size_t slot, LensRay *rays, size_t ray_count);
+
+/* the same with each thickness known only within limits: ends that every trace with thicknesses inside the limits, and its track, lie between. The job's own
+ * thicknesses are checked and else not looked at; limits equal to them give its trace on both ends, to the bit. 1, 3, 5 and 19 */
+LENS_CALL uint32_t lens_trace_limits(const LensJob *job, const LensThicknessLimits *limits, size_t slot, LensTraceLimits *traced);
 
 #ifdef __cplusplus
 }

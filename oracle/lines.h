@@ -4,11 +4,12 @@
 #include <stdlib.h>
 #include <string.h>
 
-/* a job line: its name, its request, and the slot where it is a trace (kind 5); kind 4 is an evaluation */
+/* a job line: its name, its request, the slot where it is a trace (kind 5), and the limits too where it is one within limits (kind 6); kind 4 is an evaluation */
 typedef struct {
     char name[64];
     LensRequest request;
     uint64_t slot;
+    LensThicknessLimits limits;
 } Line;
 
 static char *word(void) {
@@ -87,6 +88,8 @@ static int read_line(char *line, Line *to) {
     }
     word();
     if (q->kind <= LENS_ANNEALING) read_settings(q);
-    if (q->kind == 5) to->slot = count();
+    if (q->kind == 5 || q->kind == 6) to->slot = count();
+    if (q->kind == 6)
+        for (size_t i = 0; i < j->surface_count; i++) to->limits.thicknesses[i].low = number(), to->limits.thicknesses[i].high = number();
     return 1;
 }

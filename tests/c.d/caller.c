@@ -64,6 +64,8 @@ static void run_all(void) {
     static LensResult result;
     static LensEvaluation evaluation;
     static LensRay rays[LENS_SURFACES];
+    static LensThicknessLimits limits;
+    static LensTraceLimits traced, before;
     for (uint64_t kind = LENS_DAMPED; kind <= LENS_ANNEALING; kind++) {
         LensRequest request = plano_convex(kind);
         LensJob *job = &request.job;
@@ -76,6 +78,14 @@ static void run_all(void) {
         while (lens_turn(&bench, 0, scratch, LENS_SCRATCH) == LENS_DONE) continue;
         must(lens_finished_places(&bench).count == 1 && lens_fetch(&bench, 0, &result) == LENS_DONE && lens_release(&bench, 0) == LENS_DONE, "a run");
         must(lens_evaluate(job, &evaluation) == LENS_DONE && lens_trace(job, 3, rays, 16) == LENS_DONE, "a lens by itself");
+        for (size_t i = 0; i < 16; i++) limits.thicknesses[i] = (LensInterval){job->surfaces[i].thickness_mm, job->surfaces[i].thickness_mm};
+        must(lens_trace_limits(job, &limits, 3, &traced) == LENS_DONE, "limits");
+        for (size_t i = 0; i < 16; i++)
+            must(!memcmp(&traced.heights[i].low, &rays[i].y, 8) && !memcmp(&traced.heights[i].high, &rays[i].y, 8) && !memcmp(&traced.slopes[i].low, &rays[i].u, 8) &&
+                 !memcmp(&traced.slopes[i].high, &rays[i].u, 8), "limits equal to the nominal give its trace on both ends");
+        limits.thicknesses[15].low += 1;
+        before = traced;
+        must(lens_trace_limits(job, &limits, 3, &traced) == LENS_BAD_LIMITS && !memcmp(&before, &traced, sizeof traced), "crossed limits");
     }
 }
 

@@ -1,6 +1,9 @@
 // A lens by itself in numbers alone, by value.
 ghost use mathlib.Core.Path.{_≡_};
+ghost use Rattle.intervals.specs.Calls.{limitsTraced};
 ghost use Rattle.exports.specs.Lenses.{lensOf, areOperands, recordEvaluated, numberOf};
+use intervals::ThicknessLimits;
+use intervals::TracedLimits;
 use jobs::JobRecord;
 use merit::Evaluated;
 use merit::MeritEvaluation;
@@ -48,6 +51,14 @@ pub(crate) fn evaluated(held: JobRecord) -> Evaluated
     let prescription = job.prescription;
     let function = job.merit_function;
     lending::evaluate_over(prescription, function, none)
+}
+
+// The record's lens traced within limits.
+pub(crate) fn limits_traced(held: JobRecord, limits: ThicknessLimits, slot: usize) -> TracedLimits
+    ensures { λ r. ⌜ r ≡ limitsTraced (lensOf held) limits slot ⌝ }
+{
+    let prescription = lens_of(held);
+    intervals::limits_traced(prescription, limits, slot)
 }
 
 // The number of a trace's answer.

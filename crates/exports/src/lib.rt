@@ -9,13 +9,14 @@ mod lent;
 
 pub use lent::lens_evaluate;
 pub use lent::lens_trace;
+pub use lent::lens_trace_limits;
 
 // The number of the records' layout: a caller holds it against the header's.
 #[no_mangle]
 pub extern "C" fn lens_abi() -> u32
     ensures { λ r. ⌜ r ≡ abiNumber ⌝ }
 {
-    1
+    2
 }
 
 #[no_mangle]
