@@ -5,7 +5,7 @@
 use std::mem::{offset_of, size_of};
 
 /// `LENS_ABI` of the header that the records below were written from.
-pub const ABI: u32 = 1;
+pub const ABI: u32 = 2;
 /// Places of a bench.
 pub const PLACES: usize = 4;
 /// Surfaces of a job at most.
@@ -143,6 +143,30 @@ pub struct Ray {
     pub slope: f64,
 }
 
+/// The two ends of an interval.
+#[repr(C)]
+#[derive(Clone, Copy, Debug, Default, PartialEq)]
+pub struct Interval {
+    /// The least.
+    pub low: f64,
+    /// The greatest.
+    pub high: f64,
+}
+
+#[repr(C)]
+#[derive(Clone, Copy, Default)]
+pub struct ThicknessLimitsRecord {
+    pub thicknesses: [Interval; SURFACES],
+}
+
+#[repr(C)]
+#[derive(Clone, Copy, Default)]
+pub struct TraceLimitsRecord {
+    pub track: Interval,
+    pub heights: [Interval; SURFACES],
+    pub slopes: [Interval; SURFACES],
+}
+
 #[repr(C)]
 #[derive(Clone, Copy, Default)]
 pub struct FinishedRecord {
@@ -161,6 +185,8 @@ const _: () = assert!(size_of::<usize>() == 8);
 const _: () = assert!(size_of::<Surface>() == 32 && size_of::<VariableRecord>() == 48 && size_of::<OperandRecord>() == 40);
 const _: () = assert!(size_of::<SettingsRecord>() == 88 && size_of::<JobRecord>() == 2016 && size_of::<RequestRecord>() == 2032);
 const _: () = assert!(size_of::<ResultRecord>() == 736 && size_of::<EvaluationRecord>() == 200 && size_of::<Ray>() == 16);
+const _: () =
+    assert!(size_of::<Interval>() == 16 && size_of::<ThicknessLimitsRecord>() == 256 && size_of::<TraceLimitsRecord>() == 528);
 const _: () = assert!(size_of::<FinishedRecord>() == 40 && size_of::<BenchRecord>() == 18304);
 // and where the parts of the larger records begin
 const _: () = assert!(offset_of!(JobRecord, indices) == 512 && offset_of!(JobRecord, variables) == 1024 && offset_of!(JobRecord, operands) == 1408);
@@ -178,6 +204,7 @@ extern "C" {
     fn lens_finished_places(bench: *const BenchRecord) -> FinishedRecord;
     fn lens_evaluate(job: *const JobRecord, evaluation: *mut EvaluationRecord) -> u32;
     fn lens_trace(job: *const JobRecord, slot: usize, rays: *mut Ray, ray_count: usize) -> u32;
+    fn lens_trace_limits(job: *const JobRecord, limits: *const ThicknessLimitsRecord, slot: usize, traced: *mut TraceLimitsRecord) -> u32;
 }
 
 pub fn abi() -> u32 {
@@ -218,4 +245,9 @@ pub fn evaluate(job: &JobRecord, evaluation: &mut EvaluationRecord) -> u32 {
 pub fn trace(job: &JobRecord, slot: usize, rays: &mut [Ray]) -> u32 {
     // SAFETY: by the types, see above.
     unsafe { lens_trace(job, slot, rays.as_mut_ptr(), rays.len()) }
+}
+
+pub fn trace_limits(job: &JobRecord, limits: &ThicknessLimitsRecord, slot: usize, traced: &mut TraceLimitsRecord) -> u32 {
+    // SAFETY: by the types, see above.
+    unsafe { lens_trace_limits(job, limits, slot, traced) }
 }

@@ -45,11 +45,11 @@ mod record;
 mod refusal;
 
 pub use bench::{Bench, Place};
-pub use ffi::ABI;
+pub use ffi::{Interval, ABI};
 pub use format::shortest;
 pub use job::{Annealing, Damped, Job, MultiStart, Run};
 pub use lens::{Aim, Lens, Operand, Quantity, Ray, Surface, Variable};
-pub use outcome::{Evaluation, Outcome};
+pub use outcome::{Evaluation, Outcome, TraceLimits};
 pub use refusal::Refusal;
 
 /// The layout of the records in the library that is linked; the same as [`ABI`], or [`Bench::new`] panics.

@@ -1,5 +1,5 @@
-//! What the calls answer, and the two calls that need no bench.
-use crate::ffi::{self, EvaluationRecord, ResultRecord};
+//! What the calls answer, and the calls that need no bench.
+use crate::ffi::{self, EvaluationRecord, Interval, ResultRecord, ThicknessLimitsRecord, TraceLimitsRecord};
 use crate::job::Job;
 use crate::lens::{Lens, Operand, Ray, Surface};
 use crate::record::lens_record;
@@ -33,6 +33,17 @@ pub struct Evaluation {
     pub residuals: Vec<f64>,
     /// The merit; 0 without operands.
     pub merit: f64,
+}
+
+/// The ends that every trace with thicknesses inside their limits lies between, and its track.
+#[derive(Clone, Debug, PartialEq)]
+pub struct TraceLimits {
+    /// The sum of the thicknesses.
+    pub track_mm: Interval,
+    /// The height at each surface.
+    pub heights_mm: Vec<Interval>,
+    /// The slope behind each surface.
+    pub slopes: Vec<Interval>,
 }
 
 impl Outcome {
@@ -76,6 +87,23 @@ impl Lens {
             ffi::NOT_TRACED => Ok(false),
             number => Refusal::answer(number).map(|()| true),
         }
+    }
+}
+
+impl Lens {
+    /// The paraxial trace with each thickness known only within limits, one pair for each surface. The lens's own thicknesses are checked and else not looked at.
+    /// Refuses with 1, 3, for the slot 5, and 19.
+    pub fn trace_limits(&self, thicknesses: &[Interval], slot: usize) -> Result<TraceLimits, Refusal> {
+        let record = lens_record(self, &[])?;
+        if thicknesses.len() != self.surfaces.len() {
+            return Err(Refusal::Counts);
+        }
+        let mut limits = ThicknessLimitsRecord::default();
+        limits.thicknesses.iter_mut().zip(thicknesses).for_each(|(to, from)| *to = *from);
+        let mut traced = TraceLimitsRecord::default();
+        Refusal::answer(ffi::trace_limits(&record, &limits, slot, &mut traced))?;
+        let first = |of: &[Interval]| of.iter().take(self.surfaces.len()).copied().collect();
+        Ok(TraceLimits { track_mm: traced.track, heights_mm: first(&traced.heights), slopes: first(&traced.slopes) })
     }
 }
 

@@ -33,12 +33,14 @@ pub enum Refusal {
     Finished,
     /// 14: the job is not at its end.
     Unfinished,
+    /// 19: the limits of a trace within limits.
+    ThicknessLimits,
     /// A number that this crate has no name for.
     Unlisted(u32),
 }
 
-/// In the order of their numbers, from 1.
-const LISTED: [Refusal; 14] = [
+/// In the order of their numbers: from 1 upward, and 19 behind 14.
+const LISTED: [Refusal; 15] = [
     Refusal::Counts,
     Refusal::NoSuchPlace,
     Refusal::Lens,
@@ -53,7 +55,11 @@ const LISTED: [Refusal; 14] = [
     Refusal::Damaged,
     Refusal::Finished,
     Refusal::Unfinished,
+    Refusal::ThicknessLimits,
 ];
+
+/// The number of the last, which does not follow on the one before it.
+const THICKNESS_LIMITS: u32 = 19;
 
 impl Refusal {
     /// All that have a name, in the order of their numbers.
@@ -63,16 +69,20 @@ impl Refusal {
 
     /// The number by which the bench, and its C header, know it.
     pub fn number(self) -> u32 {
-        if let Refusal::Unlisted(number) = self {
-            return number;
+        match self {
+            Refusal::Unlisted(number) => return number,
+            Refusal::ThicknessLimits => return THICKNESS_LIMITS,
+            _ => {}
         }
         LISTED.iter().position(|&r| r == self).map_or(0, |i| i as u32 + 1)
     }
 
     /// The refusal of a number; none for 0.
     pub fn of_number(number: u32) -> Option<Refusal> {
-        let listed = LISTED.get((number as usize).wrapping_sub(1)).copied();
-        listed.or((number != 0).then_some(Refusal::Unlisted(number)))
+        if number == 0 {
+            return None;
+        }
+        Some(LISTED.iter().copied().find(|listed| listed.number() == number).unwrap_or(Refusal::Unlisted(number)))
     }
 
     /// What a person is told.
@@ -98,6 +108,7 @@ impl Refusal {
             Refusal::Damaged => "what the place holds was not left there by the bench's calls; it can be released",
             Refusal::Finished => "the job is at its end and can be fetched",
             Refusal::Unfinished => "the job is not at its end yet",
+            Refusal::ThicknessLimits => "a trace within limits has two surfaces or more, limits that are finite and not crossed, and no end that overflows",
             Refusal::Unlisted(_) => "a number that this version has no name for",
         }
     }

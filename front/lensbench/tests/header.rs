@@ -51,6 +51,7 @@ fn limits_and_numbers() {
         ("LENS_DAMAGED", Refusal::Damaged),
         ("LENS_FINISHED", Refusal::Finished),
         ("LENS_UNFINISHED", Refusal::Unfinished),
+        ("LENS_BAD_LIMITS", Refusal::ThicknessLimits),
     ];
     for (name, refusal) in by_name {
         assert_eq!(found[name] as u32, refusal.number(), "{name}");

@@ -130,3 +130,32 @@ fn naming_a_default_makes_the_same_job() {
     assert_eq!(held().run(Run::MultiStart(MultiStart::default())).turn_bound(), 11 * (1 + 20 * 12));
     assert_eq!(held().run(Run::Annealing(Annealing::default())).turn_bound(), 1 + 25 * 15 + 1 + 25 * 12);
 }
+
+/// Limits equal to the thicknesses give the trace on both ends; wider ones hold every trace between them; crossed ones are refused.
+#[test]
+fn thickness_within_limits() {
+    let lens = known_lens();
+    let exact: Vec<Interval> = lens.surfaces.iter().map(|s| Interval { low: s.thickness_mm, high: s.thickness_mm }).collect();
+    let rays = lens.trace(0).unwrap().unwrap();
+    let nominal = lens.trace_limits(&exact, 0).unwrap();
+    assert_eq!(nominal.track_mm, Interval { low: 16.0, high: 16.0 });
+    for (k, ray) in rays.iter().enumerate() {
+        assert_eq!(nominal.heights_mm[k], Interval { low: ray.height_mm, high: ray.height_mm });
+        assert_eq!(nominal.slopes[k], Interval { low: ray.slope, high: ray.slope });
+    }
+    let mut wide = exact.clone();
+    wide[0] = Interval { low: 8.0, high: 24.0 };
+    let limits = lens.trace_limits(&wide, 0).unwrap();
+    for thickness_mm in [8.0, 11.5, 16.0, 24.0] {
+        let mut other = lens.clone();
+        other.surfaces[0].thickness_mm = thickness_mm;
+        for (k, ray) in other.trace(0).unwrap().unwrap().iter().enumerate() {
+            assert!(limits.heights_mm[k].low <= ray.height_mm && ray.height_mm <= limits.heights_mm[k].high);
+            assert!(limits.slopes[k].low <= ray.slope && ray.slope <= limits.slopes[k].high);
+        }
+    }
+    assert!(limits.heights_mm[1].low < limits.heights_mm[1].high);
+    wide[0] = Interval { low: 24.0, high: 8.0 };
+    assert_eq!(lens.trace_limits(&wide, 0), Err(Refusal::ThicknessLimits));
+    assert_eq!(lens.trace_limits(&exact[..1], 0), Err(Refusal::Counts));
+}

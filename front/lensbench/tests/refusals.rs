@@ -100,12 +100,13 @@ fn scratch_is_left_zero_and_the_rest_untouched() {
 
 #[test]
 fn numbers_names_and_sentences() {
-    for (i, refusal) in Refusal::listed().iter().enumerate() {
-        assert_eq!(refusal.number() as usize, i + 1);
-        assert_eq!(Refusal::of_number(refusal.number()), Some(*refusal));
-        assert!(refusal.to_string().starts_with(&format!("refused with {}: ", i + 1)));
+    let numbers: Vec<u32> = (1..=14).chain([19]).collect();
+    assert_eq!(Refusal::listed().len(), numbers.len());
+    for (number, refusal) in numbers.into_iter().zip(Refusal::listed()) {
+        assert_eq!(refusal.number(), number);
+        assert_eq!(Refusal::of_number(number), Some(*refusal));
+        assert!(refusal.to_string().starts_with(&format!("refused with {number}: ")));
     }
-    assert_eq!(Refusal::listed().len(), 14);
     assert_eq!((Refusal::of_number(0), Refusal::of_number(15)), (None, Some(Refusal::Unlisted(15))));
 }
 
