@@ -185,8 +185,7 @@ const _: () = assert!(size_of::<usize>() == 8);
 const _: () = assert!(size_of::<Surface>() == 32 && size_of::<VariableRecord>() == 48 && size_of::<OperandRecord>() == 40);
 const _: () = assert!(size_of::<SettingsRecord>() == 88 && size_of::<JobRecord>() == 2016 && size_of::<RequestRecord>() == 2032);
 const _: () = assert!(size_of::<ResultRecord>() == 736 && size_of::<EvaluationRecord>() == 200 && size_of::<Ray>() == 16);
-const _: () =
-    assert!(size_of::<Interval>() == 16 && size_of::<ThicknessLimitsRecord>() == 256 && size_of::<TraceLimitsRecord>() == 528);
+const _: () = assert!(size_of::<Interval>() == 16 && size_of::<ThicknessLimitsRecord>() == 256 && size_of::<TraceLimitsRecord>() == 528);
 const _: () = assert!(size_of::<FinishedRecord>() == 40 && size_of::<BenchRecord>() == 18304);
 // and where the parts of the larger records begin
 const _: () = assert!(offset_of!(JobRecord, indices) == 512 && offset_of!(JobRecord, variables) == 1024 && offset_of!(JobRecord, operands) == 1408);

@@ -35,7 +35,10 @@ fn answers(program: &Path, lines: &str) -> Vec<String> {
 
 fn compare(program: &Path, lines: &[Line]) {
     let text: String = lines.iter().map(|line| line.to_text() + "\n").collect();
-    let theirs = answers(program, &text);
+    let mut theirs = answers(program, &text);
+    let refused = lines.iter().filter(|line| answer(line).contains(" refused ")).count();
+    // the program's last line counts what it answered: a cut output has none
+    assert_eq!(theirs.pop(), Some(format!("end {} lines, {refused} refused, 0 out of form", lines.len())));
     assert_eq!(theirs.len(), lines.len());
     for (line, theirs) in lines.iter().zip(&theirs) {
         assert_eq!(&answer(line), theirs, "{}", line.to_text());
