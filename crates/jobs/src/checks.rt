@@ -5,7 +5,7 @@ ghost use Rattle.lists.specs.Refusals.{firstRefusal};
 ghost use Rattle.jobs.specs.Checks.{fromZeroTo, dlsTaken, multiStartTaken, annealingTaken, settingsTaken, countsTaken, jobRefusals, admissionRefusals, jobTaken};
 ghost use Rattle.jobs.specs.Records.{knownKinds};
 use crate::filled;
-use crate::records;
+use crate::jobrecords;
 use crate::types::DlsConfig;
 use crate::types::Job;
 use crate::types::JobRecord;
@@ -141,5 +141,5 @@ pub fn read_taken(job: Job, held: JobRecord) -> bool
     if !job_taken(job) {
         return false;
     }
-    records::known_kinds(held)
+    jobrecords::known_kinds(held)
 }

@@ -2,8 +2,8 @@
 mod checks;
 mod entries;
 mod filled;
+mod jobrecords;
 mod kept;
-mod records;
 mod types;
 
 pub use checks::read_taken;
@@ -13,10 +13,10 @@ pub use entries::variable_type;
 pub use entries::zero_operand_record;
 pub use entries::zero_variable_record;
 pub use filled::polish_settings;
+pub use jobrecords::job_of;
+pub use jobrecords::known_kinds;
+pub use jobrecords::record_of;
 pub use kept::job_from;
-pub use records::job_of;
-pub use records::known_kinds;
-pub use records::record_of;
 pub use types::CountSetting;
 pub use types::DlsConfig;
 pub use types::DlsRequest;

@@ -1,8 +1,8 @@
--- `jobs::records::record_of` meets its contract. Assumes nothing.
+-- `jobs::jobrecords::record_of` meets its contract. Assumes nothing.
 use Rattle.jobs.specs.Records.{recordOf}
 use borrow.Author.Needs.{needs}
-use Rattle.jobs.proofs.records.record_of.Statement.{statement}
-use Rattle.jobs.proofs.records.record_of.Tie as tie
+use Rattle.jobs.proofs.jobrecords.record_of.Statement.{statement}
+use Rattle.jobs.proofs.jobrecords.record_of.Tie as tie
 
 variable-records-requires : tie.Need-variable-records-requires
 variable-records-requires c κs = search needs

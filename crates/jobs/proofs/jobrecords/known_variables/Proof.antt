@@ -1,4 +1,4 @@
--- `jobs::records::known_variables` meets its contract. The loop's invariant: every kind passed is known. Assumes nothing.
+-- `jobs::jobrecords::known_variables` meets its contract. The loop's invariant: every kind passed is known. Assumes nothing.
 use mathlib.Core.Path.{_≡_, refl, sym, _∙_}
 use mathlib.Core.Bool.{Bool, true}
 use mathlib.Core.List.{List}
@@ -10,8 +10,8 @@ use Rattle.jobs.specs.declared.types.VariableRecord.{VariableRecord}
 use Rattle.jobs.specs.Entries.{noVariableRecord, variableKnown}
 use borrow.Author.Needs.{needs}
 use native.Mathlib.Omega.{arith}
-use Rattle.jobs.proofs.records.known_variables.Statement.{statement}
-use Rattle.jobs.proofs.records.known_variables.Tie as tie
+use Rattle.jobs.proofs.jobrecords.known_variables.Statement.{statement}
+use Rattle.jobs.proofs.jobrecords.known_variables.Tie as tie
 
 abbrev known : List VariableRecord → ℕ → Bool
 known records k = variableKnown (getD records k noVariableRecord)

@@ -1,4 +1,4 @@
--- `jobs::records::known_operands` meets its contract. The loop's invariant: every kind passed is known. Assumes nothing.
+-- `jobs::jobrecords::known_operands` meets its contract. The loop's invariant: every kind passed is known. Assumes nothing.
 use mathlib.Core.Path.{_≡_, refl, sym, _∙_}
 use mathlib.Core.Bool.{Bool, true}
 use mathlib.Core.List.{List}
@@ -10,8 +10,8 @@ use Rattle.jobs.specs.declared.types.OperandRecord.{OperandRecord}
 use Rattle.jobs.specs.Entries.{noOperandRecord, operandKnown}
 use borrow.Author.Needs.{needs}
 use native.Mathlib.Omega.{arith}
-use Rattle.jobs.proofs.records.known_operands.Statement.{statement}
-use Rattle.jobs.proofs.records.known_operands.Tie as tie
+use Rattle.jobs.proofs.jobrecords.known_operands.Statement.{statement}
+use Rattle.jobs.proofs.jobrecords.known_operands.Tie as tie
 
 abbrev known : List OperandRecord → ℕ → Bool
 known records k = operandKnown (getD records k noOperandRecord)

@@ -1,7 +1,7 @@
--- `jobs::records::multi_start_config` meets its contract. Assumes nothing.
+-- `jobs::jobrecords::multi_start_config` meets its contract. Assumes nothing.
 use borrow.Author.Needs.{needs}
-use Rattle.jobs.proofs.records.multi_start_config.Statement.{statement}
-use Rattle.jobs.proofs.records.multi_start_config.Tie as tie
+use Rattle.jobs.proofs.jobrecords.multi_start_config.Statement.{statement}
+use Rattle.jobs.proofs.jobrecords.multi_start_config.Tie as tie
 
 dls-config-requires : tie.Need-dls-config-requires
 dls-config-requires c κs = search needs

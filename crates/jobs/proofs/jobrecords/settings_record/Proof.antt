@@ -1,9 +1,9 @@
--- `jobs::records::settings_record` meets its contract. Assumes nothing.
+-- `jobs::jobrecords::settings_record` meets its contract. Assumes nothing.
 use mathlib.Core.Path.{sym, ap, _∙_}
 use Rattle.jobs.specs.Records.{settingsRecord}
 use borrow.Author.Needs.{needs}
-use Rattle.jobs.proofs.records.settings_record.Statement.{statement}
-use Rattle.jobs.proofs.records.settings_record.Tie as tie
+use Rattle.jobs.proofs.jobrecords.settings_record.Statement.{statement}
+use Rattle.jobs.proofs.jobrecords.settings_record.Tie as tie
 
 enum-known-m : tie.Need-enum-known-m
 enum-known-m c = search needs

@@ -1,4 +1,4 @@
--- `jobs::records::operands_of` meets its contract. The loop's invariant: the entries passed are by the rule. Assumes nothing.
+-- `jobs::jobrecords::operands_of` meets its contract. The loop's invariant: the entries passed are by the rule. Assumes nothing.
 use mathlib.Core.Path.{_≡_, refl}
 use mathlib.Core.List.{_++_}
 use Prim.Native.Nat.{ℕ, _≤_, _-_}
@@ -9,8 +9,8 @@ use Rattle.merit.specs.OperandTable.{noOperand as past}
 use Rattle.jobs.specs.Entries.{operandOf, noOperandRecord}
 use borrow.Author.Needs.{needs}
 use native.Mathlib.Omega.{arith}
-use Rattle.jobs.proofs.records.operands_of.Statement.{statement}
-use Rattle.jobs.proofs.records.operands_of.Tie as tie
+use Rattle.jobs.proofs.jobrecords.operands_of.Statement.{statement}
+use Rattle.jobs.proofs.jobrecords.operands_of.Tie as tie
 
 abbrev Inv-loop : tie.InvT-loop
 Inv-loop records operands₀ i₀ operands i = (length operands₀ ≡ 12) × (i ≤ 12) × (operands ≡ tab (λ (k : ℕ). operandOf (getD records k noOperandRecord)) i ++ drop i operands₀)

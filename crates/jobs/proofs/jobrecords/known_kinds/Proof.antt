@@ -1,9 +1,9 @@
--- `jobs::records::known_kinds` meets its contract. Assumes nothing.
+-- `jobs::jobrecords::known_kinds` meets its contract. Assumes nothing.
 use mathlib.Core.Path.{sym, _∙_}
 use borrow.Author.Tests.{not-true, not-false}
 use borrow.Author.Needs.{needs}
-use Rattle.jobs.proofs.records.known_kinds.Statement.{statement}
-use Rattle.jobs.proofs.records.known_kinds.Tie as tie
+use Rattle.jobs.proofs.jobrecords.known_kinds.Statement.{statement}
+use Rattle.jobs.proofs.jobrecords.known_kinds.Tie as tie
 
 known-variables-requires : tie.Need-known-variables-requires
 known-variables-requires c κs = search needs

@@ -1,11 +1,11 @@
--- `jobs::records::method_from` meets its contract. Assumes nothing.
+-- `jobs::jobrecords::method_from` meets its contract. Assumes nothing.
 use mathlib.Core.Path.{ap}
 use borrow.Author.Tests.{ne-eqb}
 use Rattle.jobs.specs.declared.types.Method.the-variants.{Damped, MultiStart, Annealing}
 use Rattle.jobs.specs.Records.{method}
 use borrow.Author.Needs.{needs}
-use Rattle.jobs.proofs.records.method_from.Statement.{statement}
-use Rattle.jobs.proofs.records.method_from.Tie as tie
+use Rattle.jobs.proofs.jobrecords.method_from.Statement.{statement}
+use Rattle.jobs.proofs.jobrecords.method_from.Tie as tie
 
 dls-config-requires : tie.Need-dls-config-requires
 dls-config-requires c κs = search needs

@@ -1,4 +1,4 @@
--- `jobs::records::operand_records` meets its contract. The loop's invariant: the entries passed are by the rule. Assumes nothing.
+-- `jobs::jobrecords::operand_records` meets its contract. The loop's invariant: the entries passed are by the rule. Assumes nothing.
 use mathlib.Core.Path.{_≡_, refl}
 use mathlib.Core.List.{_++_}
 use Prim.Native.Nat.{ℕ, _≤_, _-_}
@@ -8,8 +8,8 @@ use Rattle.merit.specs.OperandTable.{operandAt}
 use Rattle.jobs.specs.Entries.{operandRecord, noOperandRecord as past}
 use borrow.Author.Needs.{needs}
 use native.Mathlib.Omega.{arith}
-use Rattle.jobs.proofs.records.operand_records.Statement.{statement}
-use Rattle.jobs.proofs.records.operand_records.Tie as tie
+use Rattle.jobs.proofs.jobrecords.operand_records.Statement.{statement}
+use Rattle.jobs.proofs.jobrecords.operand_records.Tie as tie
 
 abbrev Inv-loop : tie.InvT-loop
 Inv-loop f records₀ i₀ records i = (length records₀ ≡ 12) × (i ≤ 12) × (records ≡ tab (λ (k : ℕ). operandRecord (operandAt f k)) i ++ drop i records₀)

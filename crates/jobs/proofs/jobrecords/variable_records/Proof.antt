@@ -1,4 +1,4 @@
--- `jobs::records::variable_records` meets its contract. The loop's invariant: the entries passed are by the rule. Assumes nothing.
+-- `jobs::jobrecords::variable_records` meets its contract. The loop's invariant: the entries passed are by the rule. Assumes nothing.
 use mathlib.Core.Path.{_≡_, refl}
 use mathlib.Core.List.{_++_}
 use Prim.Native.Nat.{ℕ, _≤_, _-_}
@@ -8,8 +8,8 @@ use Rattle.variables.specs.Active.{variableAt}
 use Rattle.jobs.specs.Entries.{variableRecord, noVariableRecord as past}
 use borrow.Author.Needs.{needs}
 use native.Mathlib.Omega.{arith}
-use Rattle.jobs.proofs.records.variable_records.Statement.{statement}
-use Rattle.jobs.proofs.records.variable_records.Tie as tie
+use Rattle.jobs.proofs.jobrecords.variable_records.Statement.{statement}
+use Rattle.jobs.proofs.jobrecords.variable_records.Tie as tie
 
 abbrev Inv-loop : tie.InvT-loop
 Inv-loop v records₀ i₀ records i = (length records₀ ≡ 8) × (i ≤ 8) × (records ≡ tab (λ (k : ℕ). variableRecord (variableAt v k)) i ++ drop i records₀)

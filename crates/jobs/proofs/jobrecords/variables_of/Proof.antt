@@ -1,4 +1,4 @@
--- `jobs::records::variables_of` meets its contract. The loop's invariant: the entries passed are by the rule. Assumes nothing.
+-- `jobs::jobrecords::variables_of` meets its contract. The loop's invariant: the entries passed are by the rule. Assumes nothing.
 use mathlib.Core.Path.{_≡_, refl}
 use mathlib.Core.List.{_++_}
 use Prim.Native.Nat.{ℕ, _≤_, _-_}
@@ -9,8 +9,8 @@ use Rattle.variables.specs.Active.{noVariable as past}
 use Rattle.jobs.specs.Entries.{variableOf, noVariableRecord}
 use borrow.Author.Needs.{needs}
 use native.Mathlib.Omega.{arith}
-use Rattle.jobs.proofs.records.variables_of.Statement.{statement}
-use Rattle.jobs.proofs.records.variables_of.Tie as tie
+use Rattle.jobs.proofs.jobrecords.variables_of.Statement.{statement}
+use Rattle.jobs.proofs.jobrecords.variables_of.Tie as tie
 
 abbrev Inv-loop : tie.InvT-loop
 Inv-loop records variables₀ i₀ variables i = (length variables₀ ≡ 8) × (i ≤ 8) × (variables ≡ tab (λ (k : ℕ). variableOf (getD records k noVariableRecord)) i ++ drop i variables₀)

@@ -1,8 +1,8 @@
--- `jobs::records::job_of` meets its contract. Assumes nothing.
+-- `jobs::jobrecords::job_of` meets its contract. Assumes nothing.
 use Rattle.jobs.specs.Records.{jobOf}
 use borrow.Author.Needs.{needs}
-use Rattle.jobs.proofs.records.job_of.Statement.{statement}
-use Rattle.jobs.proofs.records.job_of.Tie as tie
+use Rattle.jobs.proofs.jobrecords.job_of.Statement.{statement}
+use Rattle.jobs.proofs.jobrecords.job_of.Tie as tie
 
 variables-of-requires : tie.Need-variables-of-requires
 variables-of-requires c κs = search needs
