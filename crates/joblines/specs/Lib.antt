@@ -1,5 +1,6 @@
 pub mod Entries
 pub mod Lens
+pub mod Limits
 pub mod Line
 pub mod Operands
 pub mod Request

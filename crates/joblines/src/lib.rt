@@ -2,12 +2,15 @@
 // limits; of the entries, those that there is room for. What stands past the counts is what no call takes: an answer that looked
 // there would show it.
 mod lens;
+mod limits;
 mod line;
 mod operands;
 mod request;
 mod sets;
 mod settings;
 
+pub use limits::LimitsRead;
+pub use limits::read_limits;
 pub use line::JobLine;
 pub use line::read_job;
 pub use request::RequestRead;
