@@ -2,6 +2,7 @@
 ghost use Prim.Native.Nat.{_≤_};
 ghost use lib.ListN.{length};
 use crate::evaluate;
+use crate::limits;
 use crate::run;
 use crate::trace;
 use crate::types::Answered;
@@ -25,7 +26,7 @@ pub(crate) fn answer_job(
 ) -> Answered {
     let head = cursor::tag(line, Cursor::new(0), b"J");
     let id = words::next_word(line, head.at);
-    let kind = cursor::within(line, cursor::word(line, head), 1, 5, Why::Kind);
+    let kind = cursor::within(line, cursor::word(line, head), 1, 6, Why::Kind);
     if kind.next.is_good && kind.value < 4 {
         return run::run(out, waiting, bench, line, id, kind, number);
     }
@@ -50,6 +51,9 @@ fn put_plain(
     let job = joblines::read_job(line, kind.next);
     if kind.value == 4 {
         return evaluate::evaluate(out, waiting, line, id, job, number);
+    }
+    if kind.value == 6 {
+        return limits::limits(out, waiting, line, id, job, number);
     }
     trace::trace(out, waiting, line, id, job, number)
 }

@@ -3,6 +3,7 @@
 // is wrong there. A line of blanks alone counts and has no answer, as there. The last line counts the lines.
 mod evaluate;
 mod job;
+mod limits;
 mod lines;
 mod marks;
 mod play;

@@ -1,0 +1,84 @@
+// Job lines of kind 6: a lens traced in one slot, its thicknesses within limits.
+ghost use Prim.Native.Nat.{_≤_};
+ghost use lib.ListN.{length};
+use crate::job;
+use answers::put_unknown;
+use intervals::Interval;
+use intervals::ThicknessLimits;
+use intervals::TraceLimits;
+use joblines::JobLine;
+use optics::OpticalPrescription;
+use text::cursor;
+use text::output;
+use text::output::Waiting;
+use text::words::Word;
+
+// Kind 6 has a slot and a pair for each surface as its settings.
+pub(crate) fn limits(
+    out: &mut [u8],
+    waiting: Waiting,
+    line: &[u8],
+    id: Word,
+    job: JobLine,
+    number: u64,
+) -> Waiting
+    requires { ⌜ id .from ≤ id .to ⌝ }
+    requires { ⌜ id .to ≤ length (now line) ⌝ }
+{
+    let read = joblines::read_limits(line, job.next, job.prescription.surface_count);
+    if !cursor::is_done(line, read.next) {
+        return put_unknown(out, waiting, line, number, read.next);
+    }
+    let prescription = job.prescription;
+    let known = read.limits;
+    let waiting = job::put_head(out, waiting, line, id);
+    let waiting = output::put(out, waiting, b" 6");
+    put_limits(out, waiting, prescription, known, read.slot)
+}
+
+fn put_limits(
+    out: &mut [u8],
+    waiting: Waiting,
+    prescription: OpticalPrescription,
+    known: ThicknessLimits,
+    slot: usize,
+) -> Waiting {
+    let t = intervals::limits_traced(prescription, known, slot);
+    if t.number > 0 {
+        return job::put_refused(out, waiting, t.number, true);
+    }
+    let traced = t.traced;
+    let waiting = put_track(out, waiting, traced.track);
+    let waiting = output::put(out, waiting, b" T ");
+    let waiting = put_surfaces(out, waiting, traced, prescription.surface_count);
+    output::put(out, waiting, b"\n")
+}
+
+// K least greatest
+fn put_track(out: &mut [u8], waiting: Waiting, track: Interval) -> Waiting {
+    let row = [track.low, track.high];
+    let waiting = output::put(out, waiting, b" K");
+    output::put_floats(out, waiting, &row)
+}
+
+// least-height greatest-height least-slope greatest-slope
+fn put_surface(out: &mut [u8], waiting: Waiting, height: Interval, slope: Interval) -> Waiting {
+    let row = [height.low, height.high, slope.low, slope.high];
+    output::put_floats(out, waiting, &row)
+}
+
+// A count, and the ends of each surface's height and slope.
+fn put_surfaces(out: &mut [u8], waiting: Waiting, traced: TraceLimits, count: usize) -> Waiting {
+    let heights = traced.heights;
+    let slopes = traced.slopes;
+    let mut held = output::put_decimal(out, waiting, count as u64);
+    let n = output::least(count, 16);
+    let mut i = 0;
+    while i < n {
+        let height = heights[i];
+        let slope = slopes[i];
+        held = put_surface(out, held, height, slope);
+        i += 1;
+    }
+    held
+}
