@@ -1,5 +1,5 @@
 /* The exported calls from C, against the oracle's answers to the same job lines (oracle/README.md): each result bit for bit, each refusal's number; and
-   after every refused call, and every listing, every byte of bench, result, evaluation, rays and scratch as it was, with a NaN of another payload in each
+   after every refused call, and every listing, every byte of bench, result, evaluation, rays, limits and scratch as it was, with a NaN of another payload in each
    f64 of theirs. Usage: lent ANSWERS < lines. Prints how many calls of each sort were tried; ends with status 1 at the first that is wrong. */
 #include "lines.h"
 #include "rows.h"
@@ -11,11 +11,12 @@ static struct Lent {
     LensResult result;
     LensEvaluation evaluation;
     LensRay rays[LENS_SURFACES + 1];
+    LensTraceLimits limits;
     double scratch[LONG];
 } now, before, safe;
 
 static Line line;
-static size_t lines, skipped, admits, turns, fetches, releases, listings, evaluations, traces, results;
+static size_t lines, skipped, admits, turns, fetches, releases, listings, evaluations, traces, within, results;
 static int finished[4]; /* the places whose jobs are at their end */
 
 static void fail(const char *what, ...) {
@@ -30,7 +31,7 @@ static void fail(const char *what, ...) {
 
 static void mark_lent(void) {
     MARK(now.result.surfaces), MARK(now.result.values), MARK(now.result.residuals), MARK(now.result.initial_merit), MARK(now.result.final_merit);
-    MARK(now.evaluation), MARK(now.rays), MARK(now.scratch);
+    MARK(now.evaluation), MARK(now.rays), MARK(now.limits), MARK(now.scratch);
 }
 
 static void keep(void) { memcpy(&before, &now, sizeof now); }
@@ -301,6 +302,35 @@ static void trace(uint32_t wanted, int fails, const char *answer) {
     compare(answer);
 }
 
+static void say_ends(LensInterval ends) { say_number(ends.low), say_number(ends.high); }
+
+static void limits(uint32_t wanted, const char *answer) {
+    LensJob job = line.request.job, *j = &job;
+    LensThicknessLimits known = line.limits;
+    size_t many = j->surface_count;
+    if (wanted != 0) {
+        ALL("trace within limits", lens_trace_limits(j, &known, line.slot, &now.limits), wanted);
+        within++;
+        return;
+    }
+    /* neither what a trace does not take nor the limits past the surfaces have a part in it */
+    memset(j->variables, 0xa5, sizeof j->variables), memset(j->operands, 0xa5, sizeof j->operands), memset(&j->settings, 0xa5, sizeof j->settings);
+    j->variable_count = lines, j->operand_count = UINT64_MAX - lines;
+    mark_entries(j, many, 8, 12);
+    MARK_FROM(known.thicknesses, many);
+    mark_lent();
+    keep();
+    if (lens_trace_limits(j, &known, line.slot, &now.limits) != LENS_DONE) fail("trace within limits: refused");
+    LensTraceLimits t = now.limits;
+    now.limits = before.limits;
+    if (!kept()) fail("trace within limits: something else has changed");
+    begin(), say(" K"), say_ends(t.track), say(" T %zu", many);
+    for (size_t i = 0; i < many; i++) say_ends(t.heights[i]), say_ends(t.slopes[i]);
+    compare(answer);
+    size_t past = (LENS_SURFACES - many) * sizeof(LensInterval);
+    if (!all_zero(t.heights + many, past) || !all_zero(t.slopes + many, past)) fail("trace within limits: not zero past the count");
+}
+
 /* the next answer, if it is to this line; a line that is out of form has none */
 static int is_answer(const char *answer, const char *to) {
     const char *a = strchr(answer, ' '), *t = strchr(to, ' ');
@@ -328,8 +358,9 @@ int main(int argc, char **argv) {
         LensJob *j = &line.request.job;
         if (line.request.kind <= 3) job(wanted, answer);
         /* too many of what a call does not take are refused by the oracle alone */
-        else if (j->variable_count > 8 || (line.request.kind == 5 && j->operand_count > 12)) skipped++;
+        else if (j->variable_count > 8 || (line.request.kind >= 5 && j->operand_count > 12)) skipped++;
         else if (line.request.kind == 4) evaluate(wanted, answer);
+        else if (line.request.kind == 6) limits(wanted, answer);
         else trace(wanted, strstr(answer, " failed") != NULL, answer);
         there = getline(&answer, &answer_room, answers) > 0;
     }
@@ -339,6 +370,6 @@ int main(int argc, char **argv) {
     if (lines == 0) { fprintf(stderr, "lent: no line has an answer\n"); return 1; }
     printf("%zu lines (%zu skipped), %zu results the oracle's; refused as they must be, nothing changed: ", lines, skipped, results);
     printf("admit %zu, turn %zu, fetch %zu, release %zu, ", admits, turns, fetches, releases);
-    printf("evaluate %zu, trace %zu; listings %zu\n", evaluations, traces, listings);
+    printf("evaluate %zu, trace %zu, within limits %zu; listings %zu\n", evaluations, traces, within, listings);
     return 0;
 }
