@@ -5,17 +5,17 @@ use Rattle.jobs.specs.declared.types.DlsConfig.{DlsConfig}
 use Rattle.jobs.specs.declared.types.MultiStartConfig.{MultiStartConfig}
 use Rattle.jobs.specs.declared.types.SimulatedAnnealingConfig.{SimulatedAnnealingConfig}
 
--- of a damped job: 50 iterations, damping 1, tolerances 1e-6 and 1e-7, relative step 1e-5
+-- of a damped job: 50 iterations, damping 0.01 (request 2), tolerances 1e-6 and 1e-7, relative step 1e-5
 abbrev pub dampedDefaults : DlsConfig
 dampedDefaults = record {
   «max_iterations» = 50;
-  «initial_damping» = ofBits binary64 0x3ff0_0000_0000_0000;
+  «initial_damping» = ofBits binary64 0x3f84_7ae1_47ae_147b;
   «relative_merit_tolerance» = ofBits binary64 0x3eb0_c6f7_a0b5_ed8d;
   «gradient_tolerance» = ofBits binary64 0x3e7a_d7f2_9abc_af48;
   «finite_difference_relative_step» = ofBits binary64 0x3ee4_f8b5_88e3_68f1;
 }
 
--- of a multi-start's damped runs: 20 iterations, the rest as above
+-- of a multi-start's damped runs: 20 iterations, damping 1, the rest as above
 abbrev pub localDefaults : DlsConfig
 localDefaults = record {
   «max_iterations» = 20;
@@ -25,7 +25,7 @@ localDefaults = record {
   «finite_difference_relative_step» = ofBits binary64 0x3ee4_f8b5_88e3_68f1;
 }
 
--- "Its polish is a damped run of 25 iterations with defaults"
+-- "Its polish is a damped run of 25 iterations with defaults", damping 1 among them
 abbrev pub polishSettings : DlsConfig
 polishSettings = record {
   «max_iterations» = 25;

@@ -1,4 +1,4 @@
-// Settings that a request leaves out are filled in with the defaults of dls.rs and global.rs.
+// Settings that a request leaves out are filled in with the defaults of dls.rs and global.rs, but for a damped job's damping.
 ghost use mathlib.Core.Path.{_≡_};
 ghost use Rattle.jobs.specs.Defaults.{dampedDefaults, localDefaults, polishSettings, multiStartDefaults, annealingDefaults};
 ghost use Rattle.jobs.specs.Filled.{countOr, numberOr, dlsOf, multiStartOf, annealingOf, methodOf, filled};
@@ -21,7 +21,7 @@ fn damped_defaults() -> DlsConfig
 {
     DlsConfig {
         max_iterations: 50,
-        initial_damping: 1.0,
+        initial_damping: 0.01,
         relative_merit_tolerance: 1e-6,
         gradient_tolerance: 1e-7,
         finite_difference_relative_step: 1e-5,
