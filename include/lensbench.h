@@ -79,7 +79,7 @@ enum LensOperandKinds {
 /* bits of LensRequest.given: the settings that are given; a setting without its bit has its default (damped job; multi-start's runs) */
 enum LensSettingBits {
     LENS_GIVES_MAX_ITERATIONS = 1 << 0,            /* 50; 20 */
-    LENS_GIVES_INITIAL_DAMPING = 1 << 1,           /* 1 */
+    LENS_GIVES_INITIAL_DAMPING = 1 << 1,           /* 0.01; 1 */
     LENS_GIVES_RELATIVE_MERIT_TOLERANCE = 1 << 2,  /* 1e-6 */
     LENS_GIVES_GRADIENT_TOLERANCE = 1 << 3,        /* 1e-7 */
     LENS_GIVES_FINITE_DIFFERENCE_STEP = 1 << 4,    /* 1e-5 */

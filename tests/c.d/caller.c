@@ -33,7 +33,7 @@ static LensRequest plano_convex(uint64_t kind) {
 
 /* the settings that lensbench.h names as defaults */
 static LensSettings defaults(uint64_t kind) {
-    return (LensSettings){kind == LENS_MULTI_START ? 20 : 50, 1, 1e-6, 1e-7, 1e-5, 10, 100, 0.9, 15, 25, kind == LENS_ANNEALING ? 12345 : 42};
+    return (LensSettings){kind == LENS_MULTI_START ? 20 : 50, kind == LENS_DAMPED ? 0.01 : 1, 1e-6, 1e-7, 1e-5, 10, 100, 0.9, 15, 25, kind == LENS_ANNEALING ? 12345 : 42};
 }
 
 /* a request that gives nothing makes the job of one that gives every default, in each kind; and all zero is no request */

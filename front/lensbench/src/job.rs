@@ -70,7 +70,7 @@ impl Damped {
     /// What a damped job has where nothing is given.
     pub const DEFAULT: Damped = Damped {
         max_iterations: Some(50),
-        initial_damping: Some(1.0),
+        initial_damping: Some(0.01),
         merit_tolerance: Some(1e-6),
         gradient_tolerance: Some(1e-7),
         relative_step: Some(1e-5),
@@ -79,7 +79,11 @@ impl Damped {
 
 impl MultiStart {
     /// What a multi-start has where nothing is given.
-    pub const DEFAULT: MultiStart = MultiStart { local: Damped { max_iterations: Some(20), ..Damped::DEFAULT }, trials: Some(10), seed: Some(42) };
+    pub const DEFAULT: MultiStart = MultiStart {
+        local: Damped { max_iterations: Some(20), initial_damping: Some(1.0), ..Damped::DEFAULT },
+        trials: Some(10),
+        seed: Some(42),
+    };
 }
 
 impl Annealing {

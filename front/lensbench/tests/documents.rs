@@ -46,7 +46,8 @@ fn its_runs_are_in_form_and_its_defaults_are_the_crates() {
     row("relative-step", format!("{:e}", damped.relative_step.unwrap()));
     row("trials", multi.trials.unwrap().to_string());
     row("seed", multi.seed.unwrap().to_string());
-    assert!(text.contains(&format!("as there, but `iterations` {}", multi.local.max_iterations.unwrap())));
+    let local = format!("as there, but `iterations` {} and `damping` {}", multi.local.max_iterations.unwrap(), multi.local.initial_damping.unwrap());
+    assert!(text.contains(&local));
     row("temperature", anneal.temperature.unwrap().to_string());
     row("cooling", anneal.cooling_rate.unwrap().to_string());
     row("steps", anneal.steps.unwrap().to_string());
