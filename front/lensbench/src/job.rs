@@ -79,11 +79,8 @@ impl Damped {
 
 impl MultiStart {
     /// What a multi-start has where nothing is given.
-    pub const DEFAULT: MultiStart = MultiStart {
-        local: Damped { max_iterations: Some(20), initial_damping: Some(1.0), ..Damped::DEFAULT },
-        trials: Some(10),
-        seed: Some(42),
-    };
+    pub const DEFAULT: MultiStart =
+        MultiStart { local: Damped { max_iterations: Some(20), initial_damping: Some(1.0), ..Damped::DEFAULT }, trials: Some(10), seed: Some(42) };
 }
 
 impl Annealing {
