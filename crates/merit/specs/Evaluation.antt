@@ -32,9 +32,9 @@ residual o value = mul binary64 (sqrtOf (o .weight)) (difference o value)
 unfoldable pub term : MeritOperand → Float → Float
 term o value = mul binary64 (mul binary64 (o .weight) (difference o value)) (difference o value)
 
--- "A total that is not finite becomes 1e12."
+-- "an overflowed total counts as the greatest finite f64" (request 6)
 unfoldable pub overflowMerit : Float
-overflowMerit = ofBits binary64 0x426d_1a94_a200_0000
+overflowMerit = ofBits binary64 0x7fef_ffff_ffff_ffff
 
 unfoldable pub countedTotal : Float → Float
 countedTotal x = cond (finiteOf x) x overflowMerit

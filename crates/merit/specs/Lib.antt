@@ -7,6 +7,7 @@ pub mod Calls
 -- Laws for callers.
 pub mod ValueLaws
 pub mod EvaluationLaws
+pub mod OverflowLaws
 pub mod CheckLaws
 pub mod CallLaws
 pub mod UsedLaws

@@ -19,14 +19,14 @@ fn difference_of(o: MeritOperand, value: f64) -> f64
     floats::clamp(value - o.target, -1e6, 1e6)
 }
 
-// A total that is not finite counts as the overflowed one.
+// A total that is not finite counts as the greatest that is.
 fn counted_total(total: f64) -> f64
     ensures { λ r. ⌜ r ≡ countedTotal total ⌝ }
 {
     if floats::is_finite(total) {
         return total;
     }
-    1e12
+    1.7976931348623157e308
 }
 
 // The root of a weight, worked out only where it is not that of the weight before. The two zeros are equal, and their roots are not.

@@ -53,3 +53,5 @@ pub mod Admitted
 pub mod Shorter
 pub mod ShorterLoops
 pub mod ShorterLaws
+-- Request 6: an overflowed total is never accepted.
+pub mod OverflowLaws
