@@ -30,7 +30,7 @@ def between(crate, name, first, last):
 
 O, C = 'optics-optimize', 'optics-core'
 put(O, 'dls.rs', [])
-put(O, 'merit.rs', [])
+put(O, 'merit.rs', [("if total_merit.is_finite() { total_merit } else { 1e12 }", "if total_merit.is_finite() { total_merit } else { f64::MAX }")])  # request 6
 put(O, 'error.rs', [])
 put(C, 'error.rs', [])
 put(O, 'global.rs', [("(-delta_merit / temp.max(1e-12)).exp()", "crate::stand_in::e(-delta_merit / temp.max(1e-12))")])
