@@ -24,17 +24,6 @@ pub not-below : (m : ℕ) (e : ℤ) → lt (fin false m e) (fin false 0 (pos 0))
 unfolding lt
 not-below m e h = none-below (m * up e * 1) (down e) (ltb→lt (m * up e * 1) (0 * down e) (is-so (ltb (m * up e * 1) (0 * down e)) h))
 
-pub abs-negative : (x : Float) → lt x (fin false 0 (pos 0)) ≡ true → neg x ≡ magnitude x
-unfolding lt neg magnitude
-abs-negative nan h = absurd (false≢true h)
-abs-negative (inf true) h = refl
-abs-negative (inf false) h = absurd (false≢true h)
-abs-negative (fin true m e) h = refl
-abs-negative (fin false m e) h = absurd (not-below m e h)
-
-no-power : (x y : ℕ) → x ≡ 2 * y → 0 < y → x ≡ 1 → ⊥
-no-power x y e p h = omega arith
-
 none : (a d : ℕ) → 0 < a → a * 1 ≡ 0 * d → ⊥
 none a d p h = omega arith
 
@@ -67,42 +56,9 @@ zero-is s e =
 above : (a d : ℕ) → 0 < a → 0 * d < a * 1
 above a d h = omega arith
 
-pub below-zero : (m : ℕ) (e : ℤ) → lt (fin true (suc m) e) (fin false 0 (pos 0)) ≡ true
-unfolding lt
-below-zero m e = is-true (ltb 0 (suc m * up e * 1 + 0 * down e)) (lt→ltb 0 (suc m * up e * 1 + 0 * down e) (more (suc m * up e) (down e) (mul-pos (zero-lt-suc m) (up-pos e))))
-  where
-    more : (a d : ℕ) → 0 < a → 0 < a * 1 + 0 * d
-    more a d h = omega arith
-
 pub above-zero : (m : ℕ) (e : ℤ) → lt (fin false 0 (pos 0)) (fin false (suc m) e) ≡ true
 unfolding lt
 above-zero m e = is-true (ltb (0 * down e) (suc m * up e * 1)) (lt→ltb (0 * down e) (suc m * up e * 1) (above (suc m * up e) (down e) (mul-pos (zero-lt-suc m) (up-pos e))))
-
-neither : (m : ℕ) (e : ℤ) → lt (fin true m e) (fin false 0 (pos 0)) ≡ false → eq (fin true m e) (fin false 0 (pos 0)) ≡ false → ⊥
-neither zero e g h = true≢false (sym (zero-is true e) ∙ h)
-neither (suc m) e g h = true≢false (sym (below-zero m e) ∙ g)
-
--- a zero that fits is written with the exponent 0
-pub zero-shape : (s : Bool) (m : ℕ) (e : ℤ) → T (fits binary64 (fin s m e)) → eq (fin s m e) (fin false 0 (pos 0)) ≡ true → (m ≡ 0) × (e ≡ pos 0)
-unfolding eq fits
-zero-shape s zero (pos zero) f h = (refl, refl)
-zero-shape s zero (pos (suc a)) f h = absurd (no-power (2 ^ suc a) (2 ^ a) (pow-succ' 2 a) (pow-pos a) (sym (mul-one (2 ^ suc a)) ∙ eqb→eq (2 ^ suc a * 1) 1 f))
-zero-shape s zero (negsuc a) f h = absurd (no-power (2 ^ suc a) (2 ^ a) (pow-succ' 2 a) (pow-pos a) (sym (one-mul (2 ^ suc a)) ∙ eqb→eq (1 * 2 ^ suc a) 1 f))
-zero-shape s (suc m) e f h = absurd (not-zero s m e h)
-
-pub abs-zero : (x : Float) → T (fits binary64 x) → eq x (fin false 0 (pos 0)) ≡ true → fin false 0 (pos 0) ≡ magnitude x
-unfolding eq magnitude
-abs-zero nan f h = absurd (false≢true h)
-abs-zero (inf s) f h = absurd (false≢true h)
-abs-zero (fin s m e) f h = let z = zero-shape s m e f h in sym (λ i. fin false (z .0 i) (z .1 i))
-
-pub abs-other : (x : Float) → lt x (fin false 0 (pos 0)) ≡ false → eq x (fin false 0 (pos 0)) ≡ false → x ≡ magnitude x
-unfolding lt eq magnitude
-abs-other nan g h = refl
-abs-other (inf true) g h = absurd (true≢false g)
-abs-other (inf false) g h = refl
-abs-other (fin false m e) g h = refl
-abs-other (fin true m e) g h = absurd (neither m e g h)
 
 pub finite-yes : (x : Float) → lt x (inf false) ≡ true → lt (inf true) x ≡ finiteOf x
 unfolding lt finiteOf

@@ -1,18 +1,16 @@
-// Rust's methods on an `f64`, by comparisons.
+// Rust's methods on an `f64`, by comparisons, but for `abs`.
 ghost use mathlib.Core.Path.{_≡_};
 ghost use Rattle.floats.specs.Basic.{magnitude, clampOf, maxOf, minOf, finiteOf};
 
-// x with its sign cleared, also at -0. A NaN stays one.
+// x with the top bit of its pattern cleared, without a branch. A NaN, whose bits cannot be read, is kept out by the index and stays one.
 pub fn abs(x: f64) -> f64
     ensures { λ r. ⌜ r ≡ magnitude x ⌝ }
 {
-    if x < 0.0 {
-        -x
-    } else if x == 0.0 {
-        0.0
-    } else {
-        x
-    }
+    let number = (x == x) as usize;
+    let taken = [0.0, x];
+    let bits = f64::to_bits(taken[number]) % 0x8000_0000_0000_0000;
+    let given = [x, f64::from_bits(bits)];
+    given[number]
 }
 
 // lo where x is below it, hi where x is above it, and x otherwise, also where x is a NaN.

@@ -1,19 +1,49 @@
 -- `floats::basic::abs` meets its contract. Assumes nothing.
-use mathlib.Core.Path.{_∙_}
-use lib.Ieee.{binary64, fits}
-use Rattle.floats.specs.Constants.{nought}
-use Rattle.floats.specs.BasicLaws.{is-so, abs-negative, abs-zero, abs-other}
+use borrow.Author.Needs.{needs}
+use mathlib.Core.Path.{sym, subst}
+use native.Mathlib.Omega.{arith}
+use lib.Dec.{T}
+use lib.Ieee.{binary64, fits, eq}
+use Rattle.floats.proofs.Cleared.{byte-small, taken-number, bits-number, given-magnitude}
 use Rattle.floats.proofs.basic.abs.Statement.{statement}
 use Rattle.floats.proofs.basic.abs.Tie as tie
 
+held : (c : tie.Start) → T (fits binary64 (c .args .x))
+held c = subst T (sym (c .good .0 .1)) tt
+
+cast-number : tie.Need-cast-number
+cast-number c = search needs
+
+mul-bits : tie.Need-mul-bits
+mul-bits c = record { fits = omega (arith, byte-small (eq (c .args .x) (c .args .x))) }
+
+array-read-bits : tie.Need-array-read-bits
+array-read-bits c = byte-small (eq (c .args .x) (c .args .x))
+
+float-to-bits-bits : tie.Need-float-to-bits-bits
+float-to-bits-bits c = taken-number (c .args .x)
+
+float-from-bits-result : tie.Need-float-from-bits-result
+float-from-bits-result c = bits-number (c .args .x) (held c)
+
+mul-result : tie.Need-mul-result
+mul-result c = record { fits = omega (arith, byte-small (eq (c .args .x) (c .args .x))) }
+
+array-read-result : tie.Need-array-read-result
+array-read-result c = byte-small (eq (c .args .x) (c .args .x))
+
 returns : tie.Need-returns
-returns c = abs-negative _ (rw nought at (c .if1 .taken))
-
-returns-2 : tie.Need-returns-2
-returns-2 c = nought ∙ abs-zero _ (is-so (fits binary64 _) (c .before .before .good .0 .1)) (rw nought at (c .if2 .taken))
-
-returns-3 : tie.Need-returns-3
-returns-3 c = abs-other _ (rw nought at (c .before .if1 .left)) (rw nought at (c .if2 .left))
+returns c = given-magnitude (c .args .x) (held c)
 
 pub abs-spec : {M : Type 1} → statement M
-abs-spec = tie.close (tie.spec returns returns-2 returns-3)
+abs-spec =
+    tie.close
+    (tie.spec
+    cast-number
+    mul-bits
+    array-read-bits
+    float-to-bits-bits
+    float-from-bits-result
+    mul-result
+    array-read-result
+    returns)
