@@ -147,6 +147,27 @@ pub fn gen_leaf(seed: u64, count: u64, out: &mut impl Write) {
     }
 }
 
+/// Lines ABS of every sort of pattern, with both signs: zeros, subnormals, the ends of binades, infinities, NaNs and any.
+pub fn gen_abs(seed: u64, count: u64, out: &mut impl Write) {
+    for i in 0..count {
+        let g = &mut G::new(seed, i ^ 7 << 40);
+        let digits = g.next() >> 12;
+        let field = g.next() >> 53;
+        let bits = match g.below(8) {
+            0 => 0,
+            1 => digits,
+            2 => 1 << g.below(52),
+            3 => field << 52 | g.pick(&[0, 1, (1 << 52) - 1, 1 << 51]),
+            4 => 0x7ff << 52,
+            5 => 0x7ff << 52 | digits.max(1),
+            6 => 0x7ff << 52 | 1 << g.below(52),
+            _ => g.next() >> 1,
+        };
+        let sign = if g.chance(0.5) { 1 << 63 } else { 0 };
+        writeln!(out, "ABS {:016x}", sign | bits).unwrap();
+    }
+}
+
 /// Lines JUMP: states of one bit, 0, all bits, and any; numbers of draws at and beside powers of two, few, and any.
 pub fn gen_jump(seed: u64, count: u64, out: &mut impl Write) {
     for i in 0..count {
