@@ -1,9 +1,10 @@
 -- Bench and book under one list of calls: they answer alike, and each place is what its entry says. Assumes nothing.
 use mathlib.Core.Path.{_≡_, refl, sym, ap, _∙_, subst, fun-ext}
 use mathlib.Core.Bool.{Bool, true, false, not, cond, _&&_, false≢true}
-use Prim.Native.Nat.{ℕ, zero, suc, _<_}
+use Prim.Native.Nat.{ℕ, zero, suc, _-_, _<_}
 use lib.Dec.{ltb}
-use lib.ListN.{length, length-set}
+use lib.ListN.{length, replicate, length-set}
+use lib.Seq.{take-append-seam}
 use borrow.Author.Tests.{ltb-true, not-false}
 use Rattle.lists.specs.Refusals.{firstRefusal, answers-none, none-of}
 use Rattle.merit.specs.Calls.{unlessRefused}
@@ -16,11 +17,12 @@ use Rattle.runs.specs.Damage.{damaged}
 use Rattle.bench.specs.declared.types.Bench.{Bench}
 use Rattle.bench.specs.Refusals.{noPlace, scratchShort, admitRefusals}
 use Rattle.bench.specs.Admission.{passed-request, admissible}
-use Rattle.bench.specs.Book.{Call, admit, turn, fetch, release, listing, number, fetched, listed, fetchedUnless, placesWhere, Entry, empty, holds, Book, entryAt, withEntry, isEmpty, isFinished, resultOf, counted, bookAnswer, bookStep}
+use Rattle.bench.specs.Book.{Call, admit, turn, fetch, release, listing, number, fetched, listed, fetchedUnless, placesWhere, Entry, empty, holds, Book, entryAt, withEntry, isEmpty, isFinished, resultOf, countOf, counted, bookAnswer, bookStep}
 use Rattle.bench.specs.Book as Book
 use Rattle.bench.specs.Benches.{zeroRow, noRow, rowAt, withRow}
 use Rattle.runs.specs.Turn.{turned}
-use Rattle.bench.specs.Calls.{isVacant, benchAnswer, benchStep}
+use Rattle.bench.specs.Order.{ordered}
+use Rattle.bench.specs.Calls.{isVacant, listingOf, placesIn, benchAnswer, benchStep}
 use Rattle.bench.specs.Calls as Calls
 use Rattle.bench.specs.Pairs.{Pairs, pair-getD, pair-at, pair-set, pair-map}
 use Rattle.bench.specs.Places.{Kept, Alike, alike, alike-past, kept-admitted, kept-turned}
@@ -84,13 +86,20 @@ module _ (b : Bench) (k : Book) (a : Agree b k) where
   listed-by v d f empty e s h = ap (λ (b : Bool). not b && not d && f) e
   listed-by v d f (holds job count) e s h = ap (λ (b : Bool). not b && not d && f) e ∙ ap (λ (b : Bool). not b && f) (s refl) ∙ h refl
 
-  pub listed-same : Calls.finishedPlaces b ≡ Book.finishedPlaces k
-  unfolding Calls.finishedPlaces
-  listed-same =
+  same-places : placesWhere (λ (place : ℕ). Calls.isListed (rowAt b place)) ≡ placesWhere (λ (place : ℕ). isFinished (entryAt k place))
+  same-places =
       ap placesWhere
       (fun-ext λ place.
       let h = alike-at place in
       listed-by (isVacant (rowAt b place)) (damaged (rowAt b place)) (Rows.isFinished (rowAt b place)) (entryAt k place) (h .vacant) (h .sound) (h .finished))
+
+  listed-same : Calls.finishedPlaces b ≡ Book.finishedPlaces k
+  unfolding Calls.finishedPlaces
+  listed-same = λ i. ordered (λ (place : ℕ). alike-at place .turns i) (same-places i)
+
+  -- the places that a listing has, in front of its zeros
+  listing-answer : placesIn (listingOf b) ≡ Book.finishedPlaces k
+  listing-answer = take-append-seam (Calls.finishedPlaces b) (replicate (4 - length (Calls.finishedPlaces b)) 0) ∙ listed-same
 
   -- ---- one call
   pub same-answer : (c : Call) → benchAnswer b c ≡ bookAnswer k c
@@ -99,7 +108,7 @@ module _ (b : Bench) (k : Book) (a : Agree b k) where
   same-answer (turn place n) = ap number (turn-number place n)
   same-answer (fetch place) = fetch-answer place
   same-answer (release place) = ap number (release-number place)
-  same-answer listing = ap listed listed-same
+  same-answer listing = ap listed listing-answer
 
   agree-set : (place : ℕ) (r : Row) (e : Entry) → Kept r e → Agree (withRow b place r) (withEntry k place e)
   agree-set place r e h = record { places = pair-set (a .places) place h; four = length-set (b .rows) place r ∙ a .four }

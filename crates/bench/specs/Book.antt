@@ -13,6 +13,7 @@ use Rattle.runs.specs.JobRun.{Result, run}
 use Rattle.runs.specs.Zeros.{zeroResult}
 use Rattle.runs.specs.JobMerit.{evaluateOf}
 use Rattle.bench.specs.Refusals.{noPlace, scratchShort, admitRefusals}
+use Rattle.bench.specs.Order.{ordered}
 
 -- ---- Calls and answers
 -- "It is fed each call with its arguments, but not the bench, and of scratch only the length."
@@ -84,9 +85,14 @@ abbrev pub counted : Entry → Entry
 counted empty = empty
 counted (holds job count) = holds job (suc count)
 
--- "listing answers the finished places"
+-- working turns since its job came
+abbrev pub countOf : Entry → ℕ
+countOf empty = 0
+countOf (holds job count) = count
+
+-- "listing answers the finished places", "by working turns used, fewest first, equal ones by rising place" (request 10)
 abbrev pub finishedPlaces : Book → List ℕ
-finishedPlaces b = placesWhere (λ (place : ℕ). isFinished (entryAt b place))
+finishedPlaces b = ordered (λ (place : ℕ). countOf (entryAt b place)) (placesWhere (λ (place : ℕ). isFinished (entryAt b place)))
 
 -- ---- "It refuses by the two lists below, never with 12": no 12 stands here
 -- "Admit checks 1 to 8 and 10"

@@ -1,11 +1,10 @@
 -- What each call answers and what it leaves: the definitions that the calls' contracts cite, over any bench whatever. Definitions only.
-use mathlib.Core.Path.{_≡_}
-use Prim.Native.Nat.{ℕ, _-_, _≤_}
+use Prim.Native.Nat.{ℕ, _-_}
 use mathlib.Core.Bool.{Bool, not, _&&_}
-use mathlib.Core.List.{List, [], _∷_, List·Permᴰ}
+use mathlib.Core.List.{List, [], _∷_, _++_}
 use lib.Dec.{eqb}
 use lib.Ieee.{Float}
-use lib.ListN.{length, take, drop, replicate}
+use lib.ListN.{length, take, replicate}
 use Rattle.lists.specs.Refusals.{Refusal, refusal, firstRefusal}
 use Rattle.merit.specs.Calls.{unlessRefused}
 use Rattle.jobs.specs.declared.types.JobRequest.{JobRequest}
@@ -17,6 +16,7 @@ use Rattle.runs.specs.Damage.{damaged}
 use Rattle.runs.specs.declared.types.Row.{Row}
 use Rattle.runs.specs.Turn.{turned}
 use Rattle.bench.specs.Refusals.{noPlace, scratchShort, admitRefusals}
+use Rattle.bench.specs.Order.{ordered}
 use Rattle.bench.specs.Book.{Call, admit, turn, fetch, release, listing, Answer, number, listed, fetchedUnless, placesWhere}
 use Rattle.bench.specs.Benches.{zeroRow, rowAt, withRow}
 use Rattle.bench.specs.declared.types.Bench.{Bench}
@@ -94,18 +94,19 @@ abbrev pub releasedBench : Bench → (place : ℕ) → Bench
 releasedBench b place = unlessRefused (releaseNumber b place) (withRow b place zeroRow) b
 
 -- ---- listing: "Listing refuses nothing."
--- a place is listed when it is taken, undamaged and its run is at its end
+-- a place is listed when it is taken, undamaged and its run is at its end: "a damaged row is never listed"
 abbrev pub isListed : Row → Bool
 isListed r = not (isVacant r) && not (damaged r) && isFinished r
 
 unfoldable pub finishedPlaces : Bench → List ℕ
-finishedPlaces b = placesWhere (λ (place : ℕ). isListed (rowAt b place))
+finishedPlaces b = ordered (λ (place : ℕ). rowAt b place .turns) (placesWhere (λ (place : ℕ). isListed (rowAt b place)))
 
--- "Only the listing's order is undecided: the listing has each finished place once and no other"; 0 past the count
-pub record Listing (b : Bench) (f : Finished) : Type 0 where
-  pub few : f .count ≤ 4
-  pub each : List·Permᴰ (take (f .count) (f .places)) (finishedPlaces b)
-  pub rest : drop (f .count) (f .places) ≡ replicate (4 - f .count) 0
+-- how many they are, and 0 past them
+abbrev pub listingOf : Bench → Finished
+listingOf b = record { places = finishedPlaces b ++ replicate (4 - length (finishedPlaces b)) 0; count = length (finishedPlaces b) }
+
+abbrev pub placesIn : Finished → List ℕ
+placesIn f = take (f .count) (f .places)
 
 -- ---- A call on a bench, as the book is fed it
 unfoldable pub benchAnswer : Bench → Call → Answer
@@ -113,7 +114,7 @@ benchAnswer b (admit place request) = number (admitNumber b place request)
 benchAnswer b (turn place length) = number (turnNumber b place length)
 benchAnswer b (fetch place) = fetchedUnless (fetchNumber b place) (resultOf (rowAt b place))
 benchAnswer b (release place) = number (releaseNumber b place)
-benchAnswer b listing = listed (finishedPlaces b)
+benchAnswer b listing = listed (placesIn (listingOf b))
 
 unfoldable pub benchStep : Bench → Call → Bench
 benchStep b (admit place request) = admittedBench b place request

@@ -1,9 +1,11 @@
 -- The bench: 01's plain book (`Book`), what each call does to a bench (`Calls`), the statement that the two agree (`Theorem`), and its proof (`Proved`).
 pub mod Refusals
+pub mod Order
 pub mod Book
 pub mod Benches
 pub mod Calls
 pub mod CallLaws
+pub mod OrderLaws
 pub mod ListingLaws
 pub mod Pairs
 pub mod Theorem

@@ -1,34 +1,39 @@
--- Every bench has a listing: the finished places in rising order. Assumes nothing.
-use mathlib.Core.Path.{sym, subst}
-use mathlib.Core.Bool.{Bool, true, false, cond}
-use mathlib.Core.List.{List, [], _∷_, _++_, List·Permᴰ, Permᴰ·refl}
-use Prim.Native.Nat.{ℕ, suc, _-_, _≤_, suc-le-suc}
-use native.Mathlib.Nat.{le-refl, le-suc, le-trans}
-use lib.ListN.{length, replicate}
-use lib.Seq.{take-append-seam, drop-append-seam}
+-- What a listing has, on any bench whatever (request 10). Assumes nothing.
+use mathlib.Core.Path.{_≡_, refl, ap, _∙_}
+use mathlib.Core.Bool.{Bool, true, false, not, _&&_}
+use mathlib.Core.List.{List, List·Permᴰ}
+use Prim.Native.Nat.{ℕ}
+use Rattle.runs.specs.Damage.{damaged}
+use Rattle.runs.specs.Rows.{isFinished}
+use Rattle.runs.specs.declared.types.Row.{Row}
 use Rattle.bench.specs.declared.types.Bench.{Bench}
-use Rattle.bench.specs.declared.types.Finished.{Finished}
-use Rattle.bench.specs.Book.{chosen}
+use Rattle.bench.specs.Book.{placesWhere}
 use Rattle.bench.specs.Benches.{rowAt}
-use Rattle.bench.specs.Calls.{isListed, finishedPlaces, Listing}
+use Rattle.bench.specs.Order.{Rising}
+use Rattle.bench.specs.OrderLaws.{ordered-perm, rising-ordered}
+use Rattle.bench.specs.Calls.{isVacant, isListed, finishedPlaces}
 
-abbrev pub listingOf : Bench → Finished
-listingOf b = record { places = finishedPlaces b ++ replicate (4 - length (finishedPlaces b)) 0; count = length (finishedPlaces b) }
-
-chosen-few : (test : ℕ → Bool) (ps : List ℕ) → length (chosen test ps) ≤ length ps
-chosen-few test [] = le-refl 0
-chosen-few test (p ∷ ps) = go (test p) (chosen-few test ps)
+-- "a damaged row is never listed"
+pub damaged-unlisted : (r : Row) → damaged r ≡ true → isListed r ≡ false
+damaged-unlisted r h = ap (λ (d : Bool). not (isVacant r) && not d && isFinished r) h ∙ neither (not (isVacant r))
   where
-    go : (b : Bool) → length (chosen test ps) ≤ length ps → length (cond b (p ∷ chosen test ps) (chosen test ps)) ≤ suc (length ps)
-    go true h = suc-le-suc h
-    go false h = le-trans h (le-suc (length ps))
+    neither : (v : Bool) → v && false && isFinished r ≡ false
+    neither true = refl
+    neither false = refl
 
-finished-few : (b : Bench) → length (finishedPlaces b) ≤ 4
-unfolding finishedPlaces
-finished-few b = chosen-few (λ (place : ℕ). isListed (rowAt b place)) (0 ∷ 1 ∷ 2 ∷ 3 ∷ [])
+module _ (b : Bench) where
+  abbrev turns : ℕ → ℕ
+  turns place = rowAt b place .turns
 
-pub listing-of : (b : Bench) → Listing b (listingOf b)
-listing-of b =
-    let l = finishedPlaces b in
-    let r : List ℕ = replicate (4 - length l) 0 in
-    record { few = finished-few b; each = subst (λ (x : List ℕ). List·Permᴰ x l) (sym (take-append-seam l r)) (Permᴰ·refl l); rest = drop-append-seam l r }
+  abbrev test : ℕ → Bool
+  test place = isListed (rowAt b place)
+
+  -- each place that is listed once, and no other
+  pub listing-each : List·Permᴰ (finishedPlaces b) (placesWhere test)
+  unfolding finishedPlaces
+  listing-each = ordered-perm turns (placesWhere test)
+
+  -- "by working turns used, fewest first, equal ones by rising place"
+  pub listing-rising : Rising turns (finishedPlaces b)
+  unfolding finishedPlaces
+  listing-rising = rising-ordered turns test

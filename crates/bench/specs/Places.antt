@@ -23,7 +23,7 @@ use Rattle.runs.specs.JobMerit.{evaluateOf}
 use Rattle.runs.specs.Turn.{turned}
 use Rattle.runs.specs.Usable.{usable}
 use Rattle.bench.specs.Admission.{Admissible, kinds-known}
-use Rattle.bench.specs.Book.{Entry, empty, holds, isEmpty, isFinished, resultOf}
+use Rattle.bench.specs.Book.{Entry, empty, holds, isEmpty, isFinished, resultOf, countOf}
 use Rattle.bench.specs.Benches.{zeroRow, noRow}
 use Rattle.bench.specs.Calls.{isVacant}
 
@@ -43,17 +43,28 @@ pub record Alike (r : Row) (e : Entry) : Type 0 where
   pub sound : isEmpty e ≡ false → damaged r ≡ false
   pub finished : isEmpty e ≡ false → Rows.isFinished r ≡ isFinished e
   pub result : isEmpty e ≡ false → Rows.isFinished r ≡ true → Rows.resultOf r ≡ resultOf e
+  pub turns : r .turns ≡ countOf e
 
--- where the row's kind is 0 the other three are not asked
-alike-empty : (r : Row) → isVacant r ≡ true → Alike r empty
-alike-empty r v = record { vacant = v; sound = λ h. absurd (false≢true (sym h)); finished = λ h. absurd (false≢true (sym h)); result = λ h f. absurd (false≢true (sym h)) }
+-- where the row's kind is 0 three of these are not asked
+alike-empty : (r : Row) → isVacant r ≡ true → r .turns ≡ 0 → Alike r empty
+alike-empty r v t = record {
+  vacant = v;
+  sound = λ h. absurd (false≢true (sym h));
+  finished = λ h. absurd (false≢true (sym h));
+  result = λ h f. absurd (false≢true (sym h));
+  turns = t;
+}
 
 pub zero-vacant : isVacant zeroRow ≡ true
 unfolding zeroRow
 zero-vacant = refl
 
+zero-turns : zeroRow .turns ≡ 0
+unfolding zeroRow
+zero-turns = refl
+
 pub alike-past : Alike noRow empty
-alike-past = alike-empty noRow refl
+alike-past = alike-empty noRow refl refl
 
 module _ (job : Job) (a : Admissible job) where
   abbrev f : Surfaces → MeritEvaluation
@@ -73,17 +84,20 @@ module _ (job : Job) (a : Admissible job) where
   pub undamaged : (count : ℕ) → damaged (rowAfter f count job) ≡ false
   undamaged count = never-damaged f job (a .back) (usable job (a .taken)) (and-i (jobTaken (jobOf (kindOf job) (recordOf job))) (knownKinds (recordOf job)) (subst T (sym (ap jobTaken (a .back) ∙ a .taken)) tt) (kinds-known job a)) count
 
-  alike-after : (count : ℕ) → Alike (rowAfter f count job) (holds job count)
-  alike-after count = record {
+  alike-after : (count : ℕ) → rowAfter f count job .turns ≡ count → Alike (rowAfter f count job) (holds job count)
+  alike-after count t = record {
     vacant = not-vacant count;
     sound = λ h. undamaged count;
     finished = λ h. finished-done f job (a .back) count;
     result = λ h u. result-after count u;
+    turns = t;
   }
 
 pub alike : (r : Row) (e : Entry) → Kept r e → Alike r e
-alike r empty k = alike-empty r (ap isVacant k ∙ zero-vacant)
-alike r (holds job count) k = subst (λ (r : Row). Alike r (holds job count)) (sym (k .row)) (alike-after job (k .admissible) count)
+alike r empty k = alike-empty r (ap isVacant k ∙ zero-vacant) (ap (λ (r : Row). r .turns) k ∙ zero-turns)
+alike r (holds job count) k =
+    subst (λ (r : Row). Alike r (holds job count)) (sym (k .row))
+    (alike-after job (k .admissible) count (ap (λ (r : Row). r .turns) (sym (k .row)) ∙ k .turns))
 
 -- ---- a place that is admitted to, and one that is turned
 pub kept-admitted : (job : Job) → Admissible job → Kept (admitted job) (holds job 0)

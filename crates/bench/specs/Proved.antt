@@ -1,11 +1,11 @@
 -- Demand 3 holds. Assumes nothing.
 use mathlib.Core.Path.{_≡_, refl, sym, ap, _∙_, subst}
 use mathlib.Core.Bool.{Bool, true, false, true≢false, false≢true}
-use mathlib.Core.List.{List, [], _∷_, List·Permᴰ}
+use mathlib.Core.List.{List, [], _∷_}
 use mathlib.Core.Logic.{_↔_, _≢_}
 use Prim.Native.Nat.{ℕ, zero, suc, _≤_, _<_, zero-le}
 use lib.Dec.{T}
-use lib.ListN.{getD, take}
+use lib.ListN.{getD}
 use lib.Seq.{getD-set-other, ext-getD}
 use borrow.Author.Tests.{not-false}
 use Rattle.lists.specs.Refusals.{firstRefusal, answers-none, none-of}
@@ -43,18 +43,20 @@ use Rattle.runs.specs.declared.types.Row.{Row}
 use Rattle.bench.specs.declared.types.Bench.{Bench}
 use Rattle.runs.specs.JobMerit.{lensWith, evaluateOf}
 use Rattle.runs.specs.Turn.{turned}
-use Rattle.bench.specs.Book.{Call, admit, turn, fetch, release, listing, Answer, number, fetched, listed, fetchedUnless, Entry, empty, holds, Book, emptyBook, entryAt, isEmpty, isFinished, resultOf, runAfter, leftBy, answersBy, bookAnswer, bookStep, bookAfter}
+use Rattle.bench.specs.Book.{Call, admit, turn, fetch, release, listing, Answer, number, fetched, listed, fetchedUnless, Entry, empty, holds, Book, emptyBook, entryAt, isEmpty, isFinished, resultOf, countOf, placesWhere}
+use Rattle.bench.specs.Book.{runAfter, leftBy, answersBy, bookAnswer, bookStep, bookAfter}
 use Rattle.bench.specs.Book as Book
 use Rattle.bench.specs.Benches.{zeroRow, noRow, emptyBench, rowAt, withRow}
 use Rattle.bench.specs.Calls.{isVacant, turnNumber, benchAnswer, benchStep}
 use Rattle.bench.specs.Calls as Calls
 use Rattle.bench.specs.CallLaws.{stays}
-use Rattle.bench.specs.Pairs.{Pairs, none, both, pair-getD, pair-map}
+use Rattle.bench.specs.Pairs.{none, both, pair-getD, pair-map}
 use Rattle.bench.specs.Admission.{Admissible}
 use Rattle.bench.specs.Places.{Kept, not-vacant, undamaged, zero-vacant}
-use Rattle.bench.specs.Agreement.{Agree, kept-at, listed-same, same-answer, agree-step}
+use Rattle.bench.specs.OrderLaws.{ordered-perm, rising-ordered}
+use Rattle.bench.specs.Agreement.{Agree, kept-at, same-answer, agree-step}
 use Rattle.bench.specs.Results.{evaluable, returned}
-use Rattle.bench.specs.Theorem.{benchAfter, SameAnswer, equal, SameBench, RowHolds, SamePlace, Returned, ReturnedBy, Demand3}
+use Rattle.bench.specs.Theorem.{benchAfter, SameBench, RowHolds, SamePlace, Returned, ReturnedBy, Demand3}
 
 -- ---- lists of calls
 agree-empty : Agree emptyBench emptyBook
@@ -68,10 +70,10 @@ agree-left (c ∷ cs) b k a = agree-left cs (benchStep b c) (bookStep k c) (agre
 agree-after : (calls : List Call) → Agree (benchAfter calls) (bookAfter calls)
 agree-after calls = agree-left calls emptyBench emptyBook agree-empty
 
-same-answers : (calls : List Call) (b : Bench) (k : Book) → Agree b k → Pairs SameAnswer (answersBy benchAnswer benchStep b calls) (answersBy bookAnswer bookStep k calls)
+same-answers : (calls : List Call) (b : Bench) (k : Book) → Agree b k → answersBy benchAnswer benchStep b calls ≡ answersBy bookAnswer bookStep k calls
 unfolding answersBy
-same-answers [] b k a = none
-same-answers (c ∷ cs) b k a = both (equal (same-answer b k a c)) (same-answers cs (benchStep b c) (bookStep k c) (agree-step b k a c))
+same-answers [] b k a = refl
+same-answers (c ∷ cs) b k a = λ i. same-answer b k a c i ∷ same-answers cs (benchStep b c) (bookStep k c) (agree-step b k a c) i
 
 -- ---- a place
 -- turns leave the record that admission made
@@ -223,7 +225,8 @@ pub demand3 : Demand3
 unfolding boundBy
 demand3 = record {
   answers = λ calls. same-answers calls emptyBench emptyBook agree-empty;
-  listings = λ calls f l. subst (λ (q : List ℕ). List·Permᴰ (take (f .count) (f .places)) q) (listed-same (benchAfter calls) (bookAfter calls) (agree-after calls)) (l .each);
+  listsEach = λ k. ordered-perm (λ (place : ℕ). countOf (entryAt k place)) (placesWhere (λ (place : ℕ). isFinished (entryAt k place)));
+  listsRising = λ k. rising-ordered (λ (place : ℕ). countOf (entryAt k place)) (λ (place : ℕ). isFinished (entryAt k place));
   places = same-place;
   equalBenches = λ some others. (entries-equal some others, rows-equal some others);
   sameJobs = same-jobs;

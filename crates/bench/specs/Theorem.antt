@@ -7,7 +7,6 @@ use mathlib.Core.List.{List, List·Permᴰ}
 use mathlib.Core.Logic.{_↔_, _≢_}
 use Prim.Native.Nat.{ℕ, suc, _+_, _*_, _≤_, _<_}
 use lib.Dec.{T}
-use lib.ListN.{take}
 use Rattle.lists.specs.Refusals.{firstRefusal}
 use Rattle.optics.specs.Check.{surfacesTaken}
 use Rattle.variables.specs.Active.{numActive}
@@ -34,13 +33,13 @@ use Rattle.runs.specs.Resumption.{resumption}
 use Rattle.runs.specs.Turned.{rowAfter}
 use Rattle.runs.specs.declared.types.Row.{Row}
 use Rattle.bench.specs.declared.types.Bench.{Bench}
-use Rattle.bench.specs.declared.types.Finished.{Finished}
 use Rattle.runs.specs.JobMerit.{lensWith, evaluateOf}
-use Rattle.bench.specs.Book.{Call, turn, fetch, Answer, number, fetched, listed, Entry, empty, holds, entryAt, runAfter, leftBy, answersBy, bookAfter, bookAnswers}
+use Rattle.bench.specs.Book.{Call, turn, fetch, Answer, number, fetched, Entry, empty, holds, countOf, Book, entryAt, placesWhere}
+use Rattle.bench.specs.Book.{runAfter, leftBy, answersBy, bookAfter, bookAnswers}
 use Rattle.bench.specs.Book as Book
 use Rattle.bench.specs.Benches.{zeroRow, emptyBench, rowAt, withRow}
-use Rattle.bench.specs.Calls.{isVacant, turnNumber, Listing, benchAnswer, benchStep}
-use Rattle.bench.specs.Pairs.{Pairs}
+use Rattle.bench.specs.Order.{Rising}
+use Rattle.bench.specs.Calls.{isVacant, turnNumber, benchAnswer, benchStep}
 
 -- what a list of calls leaves, and what its calls answer
 abbrev pub benchAfter : List Call → Bench
@@ -48,11 +47,6 @@ benchAfter calls = leftBy benchStep emptyBench calls
 
 abbrev pub benchAnswers : List Call → List Answer
 benchAnswers calls = answersBy benchAnswer benchStep emptyBench calls
-
--- the answers are equal, "the finished places compared without their order"
-pub data SameAnswer : Answer → Answer → Type 0 where
-  equal : {a b : Answer} → a ≡ b → SameAnswer a b
-  reordered : {p q : List ℕ} → List·Permᴰ p q → SameAnswer (listed p) (listed q)
 
 -- A row "holds the book's job, with the book's count as its working turns since that job came, and stands where 01's run of that job stands after that many
 -- merits".
@@ -101,9 +95,10 @@ ReturnedBy (holds job count) r = Returned job r
 pub record Demand3 : Type 0 where
   -- ---- "the calls refused, their numbers, the results fetched and the places listed are those of 01's plain book"
   -- call by call: as many answers, each the same
-  pub answers : (calls : List Call) → Pairs SameAnswer (benchAnswers calls) (bookAnswers calls)
-  -- a listing after any list, whatever order it has: each place that the book has finished, once, and no other
-  pub listings : (calls : List Call) (f : Finished) → Listing (benchAfter calls) f → List·Permᴰ (take (f .count) (f .places)) (Book.finishedPlaces (bookAfter calls))
+  pub answers : (calls : List Call) → benchAnswers calls ≡ bookAnswers calls
+  -- what a book lists: each finished place once, and no other; "by working turns used, fewest first, equal ones by rising place" (request 10)
+  pub listsEach : (k : Book) → List·Permᴰ (Book.finishedPlaces k) (placesWhere (λ (place : ℕ). Book.isFinished (entryAt k place)))
+  pub listsRising : (k : Book) → Rising (λ (place : ℕ). countOf (entryAt k place)) (Book.finishedPlaces k)
   -- ---- "after the list each place .."
   pub places : (calls : List Call) (place : ℕ) → place < 4 → SamePlace (rowAt (benchAfter calls) place) (entryAt (bookAfter calls) place)
   -- ---- "Two such lists leave equal benches exactly when each place holds the same job, or none, with equally many working turns since that job came."

@@ -7,7 +7,7 @@ pub struct Bench {
     pub rows: [Row; 4],
 }
 
-// The places whose runs are at their end, in any order, and how many they are; 0 past the count.
+// The places whose runs are at their end, fewest working turns first, then rising, and how many they are; 0 past the count.
 #[repr(C)]
 pub struct Finished {
     pub places: [usize; 4],

@@ -1,6 +1,5 @@
 pub mod Admission
 pub mod AdmissionLaws
-pub mod Gathered
 pub mod Placed
 pub mod Play
 pub mod PlayLaws

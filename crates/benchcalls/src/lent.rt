@@ -1,10 +1,9 @@
 // The five calls, on a bench that is lent. No call asks anything of what it is handed: any bench whatever may be.
 ghost use mathlib.Core.Path.{_≡_};
 ghost use lib.ListN.{length};
-ghost use Rattle.bench.specs.Calls.{admitNumber, admittedBench, turnNumber, turnedBench, scratchAfter, fetchNumber, fetchedResult, releaseNumber, releasedBench, Listing};
+ghost use Rattle.bench.specs.Calls.{admitNumber, admittedBench, turnNumber, turnedBench, scratchAfter, fetchNumber, fetchedResult, releaseNumber, releasedBench, listingOf};
 ghost use Rattle.records.specs.Exported.{admitRecordNumber, admittedRecordBench};
 use crate::admission;
-use crate::values;
 use bench::Bench;
 use bench::Finished;
 use jobs::JobRequest;
@@ -82,11 +81,11 @@ pub extern "C" fn release(bench: &mut Bench, place: usize) -> u32
     answer.number
 }
 
-// The places whose jobs are finished, each once, in no promised order. Refuses nothing.
+// The places whose jobs are finished, fewest working turns first, equal ones by rising place. Refuses nothing.
 #[no_mangle]
 pub extern "C" fn finished_places(bench: &Bench) -> Finished
-    ensures { λ r. ⌜ Listing (now (bench .entry)) r ⌝ }
+    ensures { λ r. ⌜ r ≡ listingOf (now (bench .entry)) ⌝ }
 {
     let all = *bench;
-    values::listed(all)
+    finished::listed(all)
 }

@@ -17,6 +17,5 @@ pub use types::Played;
 pub use values::admitted;
 pub use values::empty_bench;
 pub use values::fetched;
-pub use values::listed;
 pub use values::released;
 pub use values::turned;

@@ -2,11 +2,10 @@
 ghost use mathlib.Core.Path.{_≡_};
 ghost use lib.ListN.{length};
 ghost use Rattle.bench.specs.Benches.{emptyBench};
-ghost use Rattle.bench.specs.Calls.{Listing, scratchAfter};
+ghost use Rattle.bench.specs.Calls.{scratchAfter};
 ghost use Rattle.benchcalls.specs.Values.{admittedOf, turnedOf, fetchedOf, releasedOf};
 use crate::types::BenchAnswer;
 use bench::Bench;
-use bench::Finished;
 use jobs::JobRequest;
 use rows::Fetched;
 use runs::OptimizationResult;
@@ -91,26 +90,5 @@ pub fn released(bench: Bench, place: usize) -> BenchAnswer
     BenchAnswer {
         bench: next,
         number: answer.number,
-    }
-}
-
-// The finished places, in rising order.
-pub fn listed(bench: Bench) -> Finished
-    ensures { λ r. ⌜ Listing bench r ⌝ }
-{
-    let mut places = [0; 4];
-    let mut count: usize = 0;
-    let mut place: usize = 0;
-    while place < 4 {
-        let row = bench.rows[place];
-        if rows::is_listed(row) {
-            places[count] = place;
-            count += 1;
-        }
-        place += 1;
-    }
-    Finished {
-        places: places,
-        count: count,
     }
 }

@@ -60,7 +60,7 @@ fn is_taken(bench: Bench, place: usize) -> bool {
     let mut scratch = [0.5; 256];
     let turn = benchcalls::turned(bench, place, &mut scratch);
     let fetch = benchcalls::fetched(bench, place, marked());
-    let finished = benchcalls::listed(bench);
+    let finished = finished::listed(bench);
     let number = turn.number;
     match number {
         0 => fetch.number == 14 && finished.count == 3,
@@ -87,7 +87,7 @@ fn keeps(bench: Bench, place: usize, number: u32) -> bool {
 
 // The listing has the three other places: 0 to 3 but this one make 6 less this one.
 fn lists_others(bench: Bench, place: usize) -> bool {
-    let finished = benchcalls::listed(bench);
+    let finished = finished::listed(bench);
     let places = finished.places;
     let low = std::num::wrapping_add_usize(places[0], places[1]);
     let high = std::num::wrapping_add_usize(places[2], places[3]);

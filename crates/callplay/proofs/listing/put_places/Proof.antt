@@ -7,19 +7,31 @@ use Rattle.callplay.proofs.listing.put_places.Statement.{statement}
 use Rattle.callplay.proofs.listing.put_places.Tie as tie
 
 abbrev Inv-loop : tie.InvT-loop
-Inv-loop out₀ finished held₀ place₀ out held place = (place ≤ 4) × (length out ≡ length out₀)
+Inv-loop out₀ places n held₀ i₀ t8 out held i = (i ≤ n) × (length out ≡ length out₀)
 
 abbrev μ-loop : tie.MeasureT-loop
-μ-loop out₀ finished held₀ place₀ out held place = 4 - place
+μ-loop out₀ places n held₀ i₀ t8 out held i = n - i
+
+least-requires : tie.Need-least-requires Inv-loop μ-loop
+least-requires c κs = search needs
 
 loop-holds : tie.Need-loop-holds Inv-loop μ-loop
 loop-holds c = search needs
 
-put-place-requires : tie.Need-put-place-requires Inv-loop μ-loop
-put-place-requires c κs = search needs
+slice-aggregate-put-number : tie.Need-slice-aggregate-put-number Inv-loop μ-loop
+slice-aggregate-put-number c = search needs
 
-add-place : tie.Need-add-place Inv-loop μ-loop
-add-place c = search needs
+mul-put-number : tie.Need-mul-put-number Inv-loop μ-loop
+mul-put-number c = search needs
+
+array-read-put-number : tie.Need-array-read-put-number Inv-loop μ-loop
+array-read-put-number c = search needs
+
+put-number-requires : tie.Need-put-number-requires Inv-loop μ-loop
+put-number-requires c κs = search needs
+
+add-i : tie.Need-add-i Inv-loop μ-loop
+add-i c = search needs
 
 loop-less : tie.Need-loop-less Inv-loop μ-loop
 loop-less c = search needs
@@ -39,9 +51,13 @@ put-places-spec =
     (tie.spec
     Inv-loop
     μ-loop
+    least-requires
     loop-holds
-    put-place-requires
-    add-place
+    slice-aggregate-put-number
+    mul-put-number
+    array-read-put-number
+    put-number-requires
+    add-i
     loop-less
     loop-again
     same-length
