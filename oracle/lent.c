@@ -18,6 +18,7 @@ static struct Lent {
 static Line line;
 static size_t lines, skipped, admits, turns, fetches, releases, listings, evaluations, traces, within, results;
 static int finished[4]; /* the places whose jobs are at their end */
+static uint64_t used[4]; /* and the turns that each took */
 
 static void fail(const char *what, ...) {
     va_list rest;
@@ -58,7 +59,8 @@ static void restore(void) { memcpy(&now, &safe, sizeof now); }
 #define UNLOOKED(what, call, wanted, place) (mark_all(place), expect(what, call, wanted), restore())
 #define ALL(what, call, wanted) UNLOOKED(what, call, wanted, 4)
 
-/* the listing: each of these places once, no other, 0 past them; and nothing changes */
+/* the listing: each of these places once, no other, fewest turns first, then rising, 0 past them; and nothing changes */
+static int comes_before(size_t p, size_t q) { return used[p] < used[q] || (used[p] == used[q] && p < q); }
 static void listed(const int *places) {
     keep();
     LensFinished f = lens_finished_places(&now.bench.lent);
@@ -68,6 +70,7 @@ static void listed(const int *places) {
     for (size_t i = 0; i < 4; i++) {
         if (i >= f.count && f.places[i] != 0) fail("listing: place %zu past the count", f.places[i]);
         if (i < f.count && (f.places[i] > 3 || seen[f.places[i]]++)) fail("listing: place %zu again, or none", f.places[i]);
+        if (i > 0 && i < f.count && !comes_before(f.places[i - 1], f.places[i])) fail("listing: place %zu before %zu", f.places[i - 1], f.places[i]);
     }
     for (size_t p = 0; p < 4; p++)
         if (seen[p] != places[p]) fail("listing: place %zu is %s", p, seen[p] ? "listed" : "missing");
@@ -232,7 +235,7 @@ static void job(uint32_t wanted, const char *answer) {
         if (!all_zero(now.scratch, LENS_SCRATCH * 8)) fail("turn: scratch is not +0.0");
         if (memcmp(now.scratch + LENS_SCRATCH, before.scratch + LENS_SCRATCH, (LONG - LENS_SCRATCH) * 8) != 0) fail("turn: scratch past 256 has changed");
     }
-    finished[place] = 1;
+    finished[place] = 1, used[place] = taken;
     lists();
     UNLOOKED("turn at the end", lens_turn(&now.bench.lent, place, now.scratch, LONG), LENS_FINISHED, place);
     ALL("admit to a finished place", lens_admit(&now.bench.lent, place, asked), LENS_TAKEN);
