@@ -194,7 +194,7 @@ LENS_CALL uint32_t lens_fetch(const LensBench *bench, size_t place, LensResult *
 /* the place becomes empty, whatever it has. 2 and 11 */
 LENS_CALL uint32_t lens_release(LensBench *bench, size_t place);
 
-/* the places whose jobs are finished, each once, in no promised order. Refuses nothing */
+/* the places whose jobs are finished: fewest working turns first, equal ones by rising place. Refuses nothing */
 LENS_CALL LensFinished lens_finished_places(const LensBench *bench);
 
 /* each operand's value and weighted residual, and the merit, of the job's lens as it stands; variables and settings are not looked at. 1, 3 and 5 */

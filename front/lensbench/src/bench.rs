@@ -123,7 +123,7 @@ impl Bench {
         Ok(())
     }
 
-    /// The places whose jobs are finished, each once, in no promised order.
+    /// The places whose jobs are finished: fewest working turns first, equal ones by rising place.
     pub fn finished_places(&self) -> Vec<Place> {
         let finished = ffi::finished_places(&self.bench);
         finished.places.iter().take(finished.count).map(|&place| Place(place)).collect()

@@ -159,3 +159,20 @@ fn thickness_within_limits() {
     assert_eq!(lens.trace_limits(&wide, 0), Err(Refusal::ThicknessLimits));
     assert_eq!(lens.trace_limits(&exact[..1], 0), Err(Refusal::Counts));
 }
+
+/// Fewest working turns first, equal ones by rising place.
+#[test]
+fn finished_places_come_by_their_turns() {
+    let short = |limit| Job {
+        run: Run::Damped(Damped { max_iterations: Some(limit), ..Damped::default() }),
+        ..Job::new(known_lens()).vary(Variable::new(Quantity::Curvature, 0)).want(Operand::new(Aim::FocalLength { slot: 0 }, 60.0))
+    };
+    let mut bench = Bench::new();
+    let mut turns = Vec::new();
+    for (place, limit) in [(0, 3), (1, 0), (2, 1), (3, 0)] {
+        bench.admit(Place(place), &short(limit)).unwrap();
+        turns.push(bench.play(Place(place)).unwrap());
+    }
+    assert!(turns[1] == turns[3] && turns[3] < turns[2] && turns[2] < turns[0], "{turns:?}");
+    assert_eq!(bench.finished_places(), [Place(1), Place(3), Place(2), Place(0)]);
+}
