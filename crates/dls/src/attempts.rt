@@ -27,7 +27,7 @@ use variables::clamp_values;
 use variables::num_active;
 
 // The first p parameters moved by the step that stands in scratch.
-fn stepped(params: [f64; 8], p: usize, scratch: &[f64]) -> [f64; 8]
+pub fn stepped(params: [f64; 8], p: usize, scratch: &[f64]) -> [f64; 8]
     requires { ⌜ scratchLength ≤ length (now scratch) ⌝ ∗ ⌜ p ≤ mostVariables ⌝ }
     ensures { λ r. ⌜ r ≡ steppedIn params p (now (scratch .entry)) ⌝ }
 {
@@ -78,7 +78,7 @@ fn resume_attempts(
 }
 
 // Whether the gradient stops the run: also where its norm is not finite.
-fn is_stationary(norm: f64, tolerance: f64) -> bool
+pub fn is_stationary(norm: f64, tolerance: f64) -> bool
     ensures { λ r. ⌜ r ≡ not (finiteOf norm) || lt norm tolerance ⌝ }
 {
     if !is_finite(norm) {

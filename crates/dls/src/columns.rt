@@ -22,7 +22,7 @@ use variables::active_at;
 use variables::apply_values;
 
 // A variable's value moved up, within its bounds.
-fn moved_up(x0: f64, relative: f64, variable: VariableDef) -> f64
+pub fn moved_up(x0: f64, relative: f64, variable: VariableDef) -> f64
     ensures { λ r. ⌜ r ≡ movedUp x0 relative variable ⌝ }
 {
     let by = delta(x0, relative, variable.step_size);
@@ -30,7 +30,7 @@ fn moved_up(x0: f64, relative: f64, variable: VariableDef) -> f64
 }
 
 // A variable's value moved down, within its bounds.
-fn moved_down(x0: f64, relative: f64, variable: VariableDef) -> f64
+pub fn moved_down(x0: f64, relative: f64, variable: VariableDef) -> f64
     ensures { λ r. ⌜ r ≡ movedDown x0 relative variable ⌝ }
 {
     let by = delta(x0, relative, variable.step_size);

@@ -114,14 +114,14 @@ fn advance_minus(
 }
 
 // Whether a merit is an improvement.
-fn is_reduction(merit: f64, current: f64) -> bool
+pub fn is_reduction(merit: f64, current: f64) -> bool
     ensures { λ r. ⌜ r ≡ finiteOf merit && lt merit current ⌝ }
 {
     is_finite(merit) && merit < current
 }
 
 // By how much, relative to the merit so far.
-fn rel_improvement(merit: f64, current: f64) -> f64
+pub fn rel_improvement(merit: f64, current: f64) -> f64
     ensures { λ r. ⌜ r ≡ relativeGain merit current ⌝ }
 {
     (current - merit) / max(current, 1e-12)

@@ -129,7 +129,7 @@ fn step_limit(method: Method) -> u64
     }
 }
 
-fn at_least_one(n: u64) -> u64
+pub fn at_least_one(n: u64) -> u64
     ensures { λ r. ⌜ r ≡ max n 1 ⌝ }
 {
     if n == 0 {
@@ -175,21 +175,21 @@ fn state_sound(job: Job, row: Row) -> bool
     counters_sound(method, variables::num_active(variables), row)
 }
 
-fn damped_bound(limit: u64, p: u64) -> u64
+pub fn damped_bound(limit: u64, p: u64) -> u64
     requires { ⌜ (limit ≤ 1000) × (p ≤ 8) ⌝ }
     ensures { λ r. ⌜ r ≡ dampedBound limit p ⌝ }
 {
     1 + limit * (2 * p + 10)
 }
 
-fn multi_start_bound(trials: u64, limit: u64, p: u64) -> u64
+pub fn multi_start_bound(trials: u64, limit: u64, p: u64) -> u64
     requires { ⌜ (trials ≤ 1000) × (limit ≤ 1000) × (p ≤ 8) ⌝ }
     ensures { λ r. ⌜ r ≡ (1 + trials) * dampedBound limit p ⌝ }
 {
     (1 + trials) * damped_bound(limit, p)
 }
 
-fn annealing_bound(cycles: u64, steps: u64, p: u64) -> u64
+pub fn annealing_bound(cycles: u64, steps: u64, p: u64) -> u64
     requires { ⌜ (cycles ≤ 1000) × (steps ≤ 1000) × (p ≤ 8) ⌝ }
     ensures { λ r. ⌜ r ≡ 1 + cycles * steps + 1 + 25 * (2 * p + 10) ⌝ }
 {

@@ -119,7 +119,7 @@ pub fn damped_over(phase: u64) -> bool
 }
 
 // The same of annealing, where 5 and 6 are the walk's.
-fn annealing_over(phase: u64) -> bool
+pub fn annealing_over(phase: u64) -> bool
     ensures { λ r. ⌜ StateInPhase phase (λ s. r ≡ Annealing.isFinished s) ⌝ }
 {
     if phase == 5 {

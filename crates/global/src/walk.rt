@@ -69,7 +69,7 @@ fn started(
 }
 
 // The chance of a step by which the merit rises: the temperature has its floor in the quotient only.
-fn prob(delta_merit: f64, temp: f64) -> f64
+pub fn prob(delta_merit: f64, temp: f64) -> f64
     ensures { λ r. ⌜ r ≡ Run.prob «delta_merit» temp ⌝ }
 {
     floats::exp_stand_in(-delta_merit / floats::max(temp, 1e-12))
@@ -148,7 +148,7 @@ fn at_polish(row: Row, initial_merit: f64, best_surfaces: [OpticalSurface; 16]) 
 }
 
 // Whether n + 1 is below the limit.
-fn has_next(n: u64, limit: u64) -> bool
+pub fn has_next(n: u64, limit: u64) -> bool
     ensures { λ r. ⌜ r ≡ ltb (suc n) limit ⌝ }
 {
     if n >= limit {
@@ -158,7 +158,7 @@ fn has_next(n: u64, limit: u64) -> bool
 }
 
 // Whether there is a first cycle with a step in it.
-fn is_first_cycle(config: SimulatedAnnealingConfig) -> bool
+pub fn is_first_cycle(config: SimulatedAnnealingConfig) -> bool
     ensures { λ r. ⌜ ((a : Run.Annealer) → a .config ≡ config → r ≡ isCycle a 0) ⌝ }
 {
     if config.max_cooling_cycles == 0 {
@@ -168,7 +168,7 @@ fn is_first_cycle(config: SimulatedAnnealingConfig) -> bool
 }
 
 // Whether there is a cycle after cycle c with a step in it.
-fn is_next_cycle(config: SimulatedAnnealingConfig, c: u64) -> bool
+pub fn is_next_cycle(config: SimulatedAnnealingConfig, c: u64) -> bool
     ensures { λ r. ⌜ ((a : Run.Annealer) → a .config ≡ config → r ≡ isCycle a (suc c)) ⌝ }
 {
     if !has_next(c, config.max_cooling_cycles) {

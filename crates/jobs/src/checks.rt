@@ -20,7 +20,7 @@ fn from_zero_to(top: f64, x: f64) -> bool
     0.0 <= x && x <= top
 }
 
-fn dls_taken(c: DlsConfig) -> bool
+pub fn dls_taken(c: DlsConfig) -> bool
     ensures { λ r. ⌜ r ≡ dlsTaken c ⌝ }
 {
     if !from_zero_to(1e8, c.initial_damping) {
@@ -48,7 +48,7 @@ fn multi_start_taken(c: MultiStartConfig) -> bool
     c.num_trials <= 1000
 }
 
-fn annealing_taken(c: SimulatedAnnealingConfig) -> bool
+pub fn annealing_taken(c: SimulatedAnnealingConfig) -> bool
     ensures { λ r. ⌜ r ≡ annealingTaken c ⌝ }
 {
     if !from_zero_to(1.0, c.cooling_rate) {

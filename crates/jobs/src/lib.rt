@@ -6,6 +6,8 @@ mod jobrecords;
 mod kept;
 mod types;
 
+pub use checks::annealing_taken;
+pub use checks::dls_taken;
 pub use checks::read_taken;
 pub use checks::refusal_of;
 pub use entries::operand_type;

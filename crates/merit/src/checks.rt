@@ -34,7 +34,7 @@ fn weight_taken(x: f64) -> bool
     floats::is_finite(x) && !(x < 0.0)
 }
 
-fn operand_taken(slots: usize, o: MeritOperand) -> bool
+pub fn operand_taken(slots: usize, o: MeritOperand) -> bool
     ensures { λ r. ⌜ r ≡ operandTaken slots o ⌝ }
 {
     let kind = o.operand_type;

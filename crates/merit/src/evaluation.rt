@@ -13,14 +13,14 @@ use crate::types::MeritOperand;
 use crate::types::WeightRoot;
 
 // A value's distance from the operand's target, at most a million either way.
-fn difference_of(o: MeritOperand, value: f64) -> f64
+pub fn difference_of(o: MeritOperand, value: f64) -> f64
     ensures { λ r. ⌜ r ≡ difference o value ⌝ }
 {
     floats::clamp(value - o.target, -1e6, 1e6)
 }
 
 // A total that is not finite counts as the greatest that is.
-fn counted_total(total: f64) -> f64
+pub fn counted_total(total: f64) -> f64
     ensures { λ r. ⌜ r ≡ countedTotal total ⌝ }
 {
     if floats::is_finite(total) {
@@ -30,7 +30,7 @@ fn counted_total(total: f64) -> f64
 }
 
 // The root of a weight, worked out only where it is not that of the weight before. The two zeros are equal, and their roots are not.
-fn root_of(known: WeightRoot, weight: f64) -> WeightRoot
+pub fn root_of(known: WeightRoot, weight: f64) -> WeightRoot
     requires { ⌜ RootKnown known ⌝ }
     ensures { λ r. ⌜ (r .root ≡ sqrtOf weight) × RootKnown r ⌝ }
 {

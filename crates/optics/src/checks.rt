@@ -14,14 +14,14 @@ pub fn is_within(x: f64) -> bool
 }
 
 // A NaN is not above 0.
-fn above_zero_up_to(top: f64, x: f64) -> bool
+pub fn above_zero_up_to(top: f64, x: f64) -> bool
     ensures { λ r. ⌜ r ≡ aboveZeroUpTo top x ⌝ }
 {
     0.0 < x && x <= top
 }
 
 // Check 3 on one surface: a NaN is the one number that differs from itself.
-fn surface_taken(s: OpticalSurface) -> bool
+pub fn surface_taken(s: OpticalSurface) -> bool
     ensures { λ r. ⌜ r ≡ surfaceTaken s ⌝ }
 {
     if s.radius_mm != s.radius_mm {
@@ -67,7 +67,7 @@ fn row_taken(indices: &[f64], i: usize, slots: usize) -> bool
     true
 }
 
-fn indices_taken(indices: &[f64], slots: usize, count: usize) -> bool
+pub fn indices_taken(indices: &[f64], slots: usize, count: usize) -> bool
     requires { ⌜ (slots ≤ 4) × (4 * count ≤ length (now indices)) ⌝ }
     ensures { λ r. ⌜ r ≡ indicesTaken (now (indices .entry)) slots count ⌝ }
 {

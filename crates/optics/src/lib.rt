@@ -8,8 +8,11 @@ mod slots;
 mod trace;
 mod types;
 
+pub use checks::above_zero_up_to;
+pub use checks::indices_taken;
 pub use checks::is_within;
 pub use checks::lens_taken;
+pub use checks::surface_taken;
 pub use checks::surfaces_taken;
 pub use flat::lay_flat;
 pub use kept::kept_prescription;

@@ -47,6 +47,7 @@ pub mod DamageCauses
 pub mod UnusedDamped
 pub mod UnusedLaws
 pub mod ZeroEntryLaws
+pub mod Lengths
 -- A request that is not refused makes a job for which they hold.
 pub mod Admitted
 -- Request 14: a damped job under one limit and another.

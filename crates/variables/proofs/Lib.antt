@@ -1,2 +1,3 @@
 -- Laws that several functions' proofs cite.
+pub mod Applying
 pub mod Filling

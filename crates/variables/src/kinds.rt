@@ -18,7 +18,7 @@ pub fn surface_index(kind: VariableType) -> usize
 }
 
 // What the variable names, of its surface.
-fn quantity(surface: OpticalSurface, kind: VariableType) -> f64
+pub fn quantity(surface: OpticalSurface, kind: VariableType) -> f64
     ensures { λ r. ⌜ r ≡ quantityOf surface kind ⌝ }
 {
     match kind {
@@ -30,7 +30,7 @@ fn quantity(surface: OpticalSurface, kind: VariableType) -> f64
 }
 
 // What a read past the last surface counts as.
-fn no_surface() -> OpticalSurface
+pub fn no_surface() -> OpticalSurface
     ensures { λ r. ⌜ r ≡ noSurface ⌝ }
 {
     OpticalSurface {
@@ -54,7 +54,7 @@ pub(crate) fn value_of(surfaces: [OpticalSurface; 16], kind: VariableType) -> f6
 }
 
 // Clamp, with a NaN counting as below the lower bound.
-pub(crate) fn apply_clamp(x: f64, lo: f64, hi: f64) -> f64
+pub fn apply_clamp(x: f64, lo: f64, hi: f64) -> f64
     ensures { λ r. ⌜ r ≡ applyClamp x lo hi ⌝ }
 {
     if x != x {
@@ -74,7 +74,7 @@ fn radius_of(curvature: f64) -> f64
 }
 
 // The surface with the variable's quantity changed, and no other.
-pub(crate) fn with_value(surface: OpticalSurface, kind: VariableType, value: f64) -> OpticalSurface
+pub fn with_value(surface: OpticalSurface, kind: VariableType, value: f64) -> OpticalSurface
     ensures { λ r. ⌜ r ≡ withValue surface kind value ⌝ }
 {
     let mut s = surface;

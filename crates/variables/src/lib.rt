@@ -4,12 +4,17 @@ mod sets;
 mod taken;
 mod types;
 
+pub use kinds::apply_clamp;
+pub use kinds::no_surface;
+pub use kinds::quantity;
 pub use kinds::surface_index;
+pub use kinds::with_value;
 pub use sets::active_at;
 pub use sets::apply_values;
 pub use sets::clamp_values;
 pub use sets::extract_values;
 pub use sets::num_active;
+pub use taken::variable_taken;
 pub use taken::variables_taken;
 pub use types::VariableDef;
 pub use types::VariableSet;

@@ -37,7 +37,7 @@ fn lower_bound_taken(kind: VariableType, lo: f64) -> bool
     }
 }
 
-fn variable_taken(v: VariableDef, surface_count: usize) -> bool
+pub fn variable_taken(v: VariableDef, surface_count: usize) -> bool
     ensures { λ r. ⌜ r ≡ variableTaken «surface_count» v ⌝ }
 {
     let kind = v.var_type;

@@ -1,16 +1,9 @@
 -- `global::trials::merged` meets its contract. Assumes nothing.
-use Prim.Native.Nat.{ℕ, zero, suc}
-use mathlib.Core.Path.{_≡_, refl}
-use Rattle.runs.specs.declared.types.OptimizationResult.{OptimizationResult}
-use Rattle.runs.specs.MultiStartRun.{merged, isLower, some}
+use Rattle.runs.specs.MultiStartRun.{merged, isLower}
 use Rattle.runs.specs.MultiStartRow.{bestBefore}
+use Rattle.global.proofs.Best.{before-some}
 use Rattle.global.proofs.trials.merged.Statement.{statement}
 use Rattle.global.proofs.trials.merged.Tie as tie
-
-before-some : (t : ℕ) (best : OptimizationResult) → (t ≡ 0 → ⊥) → bestBefore t best ≡ some best
-unfolding bestBefore
-before-some zero best h = absurd (h refl)
-before-some (suc t) best h = refl
 
 returns : tie.Need-returns
 unfolding merged bestBefore

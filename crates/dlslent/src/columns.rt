@@ -1,0 +1,121 @@
+// The Jacobian of a damped run, by central differences: the surfaces on either side of a parameter, and the column out of
+// their residuals.
+ghost use mathlib.Core.Path.{_≡_};
+ghost use mathlib.Core.List.{List};
+ghost use Prim.Native.Nat.{ℕ, _≤_, _<_};
+ghost use lib.Ieee.{Float};
+ghost use lib.ListN.{length, set};
+ghost use Rattle.normal.specs.Layout.{mostOperands, mostVariables};
+ghost use Rattle.variables.specs.Values.{applied};
+ghost use Rattle.runs.specs.DampedRun.{prescPlus, prescMinus, denom, withDifferences};
+ghost use Rattle.runs.specs.DampedRow.{currentOf};
+ghost use Rattle.dls.specs.DampedSteps.{optimizer, withJacobian};
+ghost use Rattle.held.specs.JobFrom.{standing, variableCountFrom, operandCountFrom, variablesFrom};
+ghost use Rattle.held.specs.RowFrom.{dampedFrom};
+use dls::moved_down;
+use dls::moved_up;
+use held::Head;
+use held::active_at;
+use held::apply_values;
+use held::operand_count;
+use held::stand;
+use jobs::DlsConfig;
+use normal::denominator;
+use normal::jacobian_column;
+use optics::OpticalSurface;
+
+// The surfaces with all values applied, one of them changed.
+fn perturbed(
+    q: usize,
+    x: f64,
+    counts: &[u64; 57],
+    numbers: &[f64],
+    surfaces: &[f64; 64],
+    params: &[f64; 8],
+) -> [OpticalSurface; 16]
+    requires { ⌜ variableCountFrom (now counts) ≤ mostVariables ⌝ ∗ ⌜ 195 ≤ length (now numbers) ⌝ ∗ ⌜ q < mostVariables ⌝ }
+    ensures { λ r. ⌜ r ≡ applied (variablesFrom (now (counts .entry)) (now (numbers .entry))) (set (now (params .entry)) q x) (standing (now (surfaces .entry))) ⌝ }
+{
+    let mut moved = *params;
+    moved[q] = x;
+    let s = stand(surfaces);
+    apply_values(counts, numbers, moved, s)
+}
+
+// The surfaces with the parameter of this column moved up.
+pub fn presc_plus(
+    h: Head,
+    config: DlsConfig,
+    counts: &[u64; 57],
+    numbers: &[f64],
+    surfaces: &[f64; 64],
+    params: &[f64; 8],
+) -> [OpticalSurface; 16]
+    requires { ⌜ variableCountFrom (now counts) ≤ mostVariables ⌝ ∗ ⌜ 195 ≤ length (now numbers) ⌝ ∗ ⌜ h .column < mostVariables ⌝ }
+    ensures { λ r. ⌜ ((m : ℕ) (jacobian values residuals plus candidate : List Float) → r ≡ prescPlus (optimizer config (variablesFrom (now (counts .entry)) (now (numbers .entry))) m) (currentOf (dampedFrom h (now (surfaces .entry)) jacobian values residuals plus (now (params .entry)) candidate)) (h .column)) ⌝ }
+{
+    let q = h.column as usize;
+    let variable = active_at(counts, numbers, q);
+    let x0 = params[q];
+    let x = moved_up(x0, config.finite_difference_relative_step, variable);
+    perturbed(q, x, counts, numbers, surfaces, params)
+}
+
+// The surfaces with it moved down.
+pub fn presc_minus(
+    h: Head,
+    config: DlsConfig,
+    counts: &[u64; 57],
+    numbers: &[f64],
+    surfaces: &[f64; 64],
+    params: &[f64; 8],
+) -> [OpticalSurface; 16]
+    requires { ⌜ variableCountFrom (now counts) ≤ mostVariables ⌝ ∗ ⌜ 195 ≤ length (now numbers) ⌝ ∗ ⌜ h .column < mostVariables ⌝ }
+    ensures { λ r. ⌜ ((m : ℕ) (jacobian values residuals plus candidate : List Float) → r ≡ prescMinus (optimizer config (variablesFrom (now (counts .entry)) (now (numbers .entry))) m) (currentOf (dampedFrom h (now (surfaces .entry)) jacobian values residuals plus (now (params .entry)) candidate)) (h .column)) ⌝ }
+{
+    let q = h.column as usize;
+    let variable = active_at(counts, numbers, q);
+    let x0 = params[q];
+    let x = moved_down(x0, config.finite_difference_relative_step, variable);
+    perturbed(q, x, counts, numbers, surfaces, params)
+}
+
+// What lies between the parameter moved up and moved down.
+fn between(
+    h: Head,
+    config: DlsConfig,
+    counts: &[u64; 57],
+    numbers: &[f64],
+    params: &[f64; 8],
+) -> f64
+    requires { ⌜ variableCountFrom (now counts) ≤ mostVariables ⌝ ∗ ⌜ 195 ≤ length (now numbers) ⌝ ∗ ⌜ h .column < mostVariables ⌝ }
+    ensures { λ r. ⌜ ((m : ℕ) (surfaces jacobian values residuals plus candidate : List Float) → r ≡ denom (optimizer config (variablesFrom (now (counts .entry)) (now (numbers .entry))) m) (currentOf (dampedFrom h surfaces jacobian values residuals plus (now (params .entry)) candidate)) (h .column)) ⌝ }
+{
+    let q = h.column as usize;
+    let variable = active_at(counts, numbers, q);
+    let x0 = params[q];
+    let relative = config.finite_difference_relative_step;
+    let plus = moved_up(x0, relative, variable);
+    let minus = moved_down(x0, relative, variable);
+    denominator(x0, plus, minus)
+}
+
+// This column of the Jacobian written, out of the residuals on either side.
+pub fn with_differences(
+    h: Head,
+    config: DlsConfig,
+    counts: &[u64; 57],
+    numbers: &[f64],
+    minus: [f64; 12],
+    jacobian: &mut [f64; 96],
+    plus_residuals: &[f64; 12],
+    params: &[f64; 8],
+)
+    requires { ⌜ variableCountFrom (now counts) ≤ mostVariables ⌝ ∗ ⌜ 195 ≤ length (now numbers) ⌝ ∗ ⌜ operandCountFrom (now counts) ≤ mostOperands ⌝ ∗ ⌜ h .column < mostVariables ⌝ }
+    ensures { λ _. ⌜ ((surfaces values residuals candidate : List Float) → dampedFrom h surfaces (now (jacobian .exit)) values residuals (now («plus_residuals» .entry)) (now (params .entry)) candidate ≡ withJacobian (dampedFrom h surfaces (now (jacobian .entry)) values residuals (now («plus_residuals» .entry)) (now (params .entry)) candidate) (withDifferences (optimizer config (variablesFrom (now (counts .entry)) (now (numbers .entry))) (operandCountFrom (now (counts .entry)))) (currentOf (dampedFrom h surfaces (now (jacobian .entry)) values residuals (now («plus_residuals» .entry)) (now (params .entry)) candidate)) (h .column) (now (jacobian .entry)) (now («plus_residuals» .entry)) minus)) ⌝ }
+{
+    let d = between(h, config, counts, numbers, params);
+    let q = h.column as usize;
+    let m = operand_count(counts);
+    jacobian_column(jacobian, q, plus_residuals, &minus, m, d);
+}

@@ -1,0 +1,221 @@
+// A damped run, from one merit to the next: the surfaces whose merit comes next, and how the run goes on with that merit.
+ghost use mathlib.Core.Path.{_≡_};
+ghost use mathlib.Core.List.{List};
+ghost use Prim.Native.Nat.{ℕ, _≤_, _<_};
+ghost use lib.ListN.{length};
+ghost use lib.Ieee.{Float};
+ghost use Rattle.normal.specs.Layout.{scratchLength, mostOperands, mostVariables};
+ghost use Rattle.variables.specs.Active.{numActive};
+ghost use Rattle.runs.specs.DampedRow as Damped;
+ghost use Rattle.runs.specs.DampedRow.{pending, advance, advanceAt};
+ghost use Rattle.dls.specs.DampedSteps.{optimizer, ScratchKept};
+ghost use Rattle.held.specs.JobFrom.{variableCountFrom, operandCountFrom, variablesFrom};
+ghost use Rattle.held.specs.RowFrom.{dampedFrom};
+ghost use Rattle.dlslent.specs.Found.{ForFound};
+use crate::accepting::advance_candidate;
+use crate::accepting::resume_iterations;
+use crate::attempts::resume_stationary;
+use crate::columns::presc_minus;
+use crate::columns::presc_plus;
+use crate::columns::with_differences;
+use crate::states::at_minus;
+use crate::states::at_plus;
+use held::Head;
+use held::apply_values;
+use held::extract_values;
+use held::num_active;
+use held::stand;
+use heldmerit::merit_of;
+use heldmerit::residuals_of;
+use jobs::DlsConfig;
+use optics::OpticalSurface;
+
+// The surfaces whose merit comes next.
+pub fn pending_damped(
+    h: Head,
+    config: DlsConfig,
+    counts: &[u64; 57],
+    numbers: &[f64],
+    surfaces: &[f64; 64],
+    params: &[f64; 8],
+    candidate: &[f64; 8],
+) -> [OpticalSurface; 16]
+    requires { ⌜ variableCountFrom (now counts) ≤ mostVariables ⌝ ∗ ⌜ 195 ≤ length (now numbers) ⌝ ∗ ⌜ h .column < numActive (variablesFrom (now counts) (now numbers)) ⌝ }
+    ensures { λ r. ⌜ ((m : ℕ) (jacobian values residuals plus : List Float) → r ≡ pending (optimizer config (variablesFrom (now (counts .entry)) (now (numbers .entry))) m) (dampedFrom h (now (surfaces .entry)) jacobian values residuals plus (now (params .entry)) (now (candidate .entry)))) ⌝ }
+{
+    let phase = h.phase;
+    if phase == 1 {
+        return presc_plus(h, config, counts, numbers, surfaces, params);
+    }
+    if phase == 2 {
+        return presc_minus(h, config, counts, numbers, surfaces, params);
+    }
+    let s = stand(surfaces);
+    if phase == 3 {
+        let x = *candidate;
+        return apply_values(counts, numbers, x, s);
+    }
+    s
+}
+
+// The first merit is of the surfaces as they are; the parameters are read from them.
+fn advance_first(
+    h: Head,
+    config: DlsConfig,
+    counts: &[u64; 57],
+    numbers: &[f64],
+    found: &[f64; 12],
+    surfaces: &[f64; 64],
+    jacobian: &mut [f64; 96],
+    values: &mut [f64; 12],
+    residuals: &mut [f64; 12],
+    plus_residuals: &mut [f64; 12],
+    params: &mut [f64; 8],
+    candidate: &mut [f64; 8],
+) -> Head
+    requires { ⌜ variableCountFrom (now counts) ≤ mostVariables ⌝ ∗ ⌜ 195 ≤ length (now numbers) ⌝ ∗ ⌜ operandCountFrom (now counts) ≤ mostOperands ⌝ ∗ ⌜ 0 < numActive (variablesFrom (now counts) (now numbers)) ⌝ }
+    ensures { λ r. ⌜ ForFound (now (counts .entry)) (now (numbers .entry)) (now (found .entry)) (λ e. (m : ℕ) → dampedFrom r (now (surfaces .entry)) (now (jacobian .exit)) (now (values .exit)) (now (residuals .exit)) (now («plus_residuals» .exit)) (now (params .exit)) (now (candidate .exit)) ≡ advanceAt (optimizer config (variablesFrom (now (counts .entry)) (now (numbers .entry))) m) Damped.first (dampedFrom h (now (surfaces .entry)) (now (jacobian .entry)) (now (values .entry)) (now (residuals .entry)) (now («plus_residuals» .entry)) (now (params .entry)) (now (candidate .entry))) e) ⌝ }
+{
+    let x = extract_values(counts, numbers, surfaces);
+    *params = x;
+    let v = *found;
+    *values = v;
+    let r = residuals_of(found, counts, numbers);
+    *residuals = r;
+    let merit = merit_of(found, counts, numbers);
+    let mut next = h;
+    next.total_merit = merit;
+    next.initial_merit = merit;
+    next.damping = config.initial_damping;
+    next.iteration = 0;
+    resume_iterations(
+        next,
+        config.max_iterations,
+        jacobian,
+        plus_residuals,
+        params,
+        candidate,
+    )
+}
+
+// The merit on the lower side: a column is done, and where it was the last the step is sought.
+fn advance_minus(
+    h: Head,
+    config: DlsConfig,
+    counts: &[u64; 57],
+    numbers: &[f64],
+    found: &[f64; 12],
+    jacobian: &mut [f64; 96],
+    residuals: &[f64; 12],
+    plus_residuals: &mut [f64; 12],
+    params: &mut [f64; 8],
+    candidate: &mut [f64; 8],
+    scratch: &mut [f64],
+) -> Head
+    requires { ⌜ scratchLength ≤ length (now scratch) ⌝ ∗ ⌜ variableCountFrom (now counts) ≤ mostVariables ⌝ ∗ ⌜ 195 ≤ length (now numbers) ⌝ ∗ ⌜ operandCountFrom (now counts) ≤ mostOperands ⌝ ∗ ⌜ h .column < numActive (variablesFrom (now counts) (now numbers)) ⌝ }
+    ensures { λ r. ⌜ ForFound (now (counts .entry)) (now (numbers .entry)) (now (found .entry)) (λ e. (surfaces values : List Float) → dampedFrom r surfaces (now (jacobian .exit)) values (now (residuals .entry)) (now («plus_residuals» .exit)) (now (params .exit)) (now (candidate .exit)) ≡ advanceAt (optimizer config (variablesFrom (now (counts .entry)) (now (numbers .entry))) (operandCountFrom (now (counts .entry)))) Damped.minus (dampedFrom h surfaces (now (jacobian .entry)) values (now (residuals .entry)) (now («plus_residuals» .entry)) (now (params .entry)) (now (candidate .entry))) e) ⌝ ∗ ⌜ ScratchKept (now (scratch .entry)) (now (scratch .exit)) ⌝ }
+{
+    let below = residuals_of(found, counts, numbers);
+    with_differences(
+        h,
+        config,
+        counts,
+        numbers,
+        below,
+        jacobian,
+        plus_residuals,
+        params,
+    );
+    let column = h.column + 1;
+    let p = num_active(counts, numbers);
+    if (column as usize) < p {
+        return at_plus(h, column, plus_residuals, candidate);
+    }
+    resume_stationary(
+        h,
+        config,
+        counts,
+        numbers,
+        jacobian,
+        residuals,
+        plus_residuals,
+        params,
+        candidate,
+        scratch,
+    )
+}
+
+// The state after the merit that came next. A turn uses the first 256 of scratch.
+pub fn advance_damped(
+    h: Head,
+    config: DlsConfig,
+    counts: &[u64; 57],
+    numbers: &[f64],
+    found: &[f64; 12],
+    surfaces: &mut [f64; 64],
+    jacobian: &mut [f64; 96],
+    values: &mut [f64; 12],
+    residuals: &mut [f64; 12],
+    plus_residuals: &mut [f64; 12],
+    params: &mut [f64; 8],
+    candidate: &mut [f64; 8],
+    scratch: &mut [f64],
+) -> Head
+    requires { ⌜ scratchLength ≤ length (now scratch) ⌝ ∗ ⌜ variableCountFrom (now counts) ≤ mostVariables ⌝ ∗ ⌜ 195 ≤ length (now numbers) ⌝ ∗ ⌜ operandCountFrom (now counts) ≤ mostOperands ⌝ ∗ ⌜ h .column < numActive (variablesFrom (now counts) (now numbers)) ⌝ }
+    ensures { λ r. ⌜ ForFound (now (counts .entry)) (now (numbers .entry)) (now (found .entry)) (λ e. dampedFrom r (now (surfaces .exit)) (now (jacobian .exit)) (now (values .exit)) (now (residuals .exit)) (now («plus_residuals» .exit)) (now (params .exit)) (now (candidate .exit)) ≡ advance (optimizer config (variablesFrom (now (counts .entry)) (now (numbers .entry))) (operandCountFrom (now (counts .entry)))) (dampedFrom h (now (surfaces .entry)) (now (jacobian .entry)) (now (values .entry)) (now (residuals .entry)) (now («plus_residuals» .entry)) (now (params .entry)) (now (candidate .entry))) e) ⌝ ∗ ⌜ ScratchKept (now (scratch .entry)) (now (scratch .exit)) ⌝ }
+{
+    let phase = h.phase;
+    if phase == 0 {
+        return advance_first(
+            h,
+            config,
+            counts,
+            numbers,
+            found,
+            surfaces,
+            jacobian,
+            values,
+            residuals,
+            plus_residuals,
+            params,
+            candidate,
+        );
+    }
+    if phase == 1 {
+        let above = residuals_of(found, counts, numbers);
+        return at_minus(h, above, plus_residuals, candidate);
+    }
+    if phase == 2 {
+        return advance_minus(
+            h,
+            config,
+            counts,
+            numbers,
+            found,
+            jacobian,
+            residuals,
+            plus_residuals,
+            params,
+            candidate,
+            scratch,
+        );
+    }
+    if phase == 3 {
+        return advance_candidate(
+            h,
+            config,
+            counts,
+            numbers,
+            found,
+            surfaces,
+            jacobian,
+            values,
+            residuals,
+            plus_residuals,
+            params,
+            candidate,
+            scratch,
+        );
+    }
+    h
+}

@@ -1,0 +1,13 @@
+// The damped run of a row over lent arrays, from one merit to the next (out of dls.rs).
+mod accepting;
+mod attempts;
+mod columns;
+mod damped;
+mod flat;
+mod states;
+
+pub use damped::advance_damped;
+pub use damped::pending_damped;
+pub use flat::lay;
+pub use states::at_first;
+pub use states::holding;

@@ -1,0 +1,47 @@
+// Sixteen surfaces as flat numbers, read and written whole.
+ghost use mathlib.Core.Path.{_≡_};
+ghost use mathlib.Core.List.{_++_};
+ghost use Prim.Native.Nat.{_*_, _≤_};
+ghost use lib.ListN.{length, drop};
+ghost use Rattle.optics.specs.Flat.{laidFlat};
+ghost use Rattle.held.specs.JobFrom.{standing};
+use crate::entries::surface_at;
+use optics::OpticalSurface;
+
+// The surfaces that stand in flat numbers.
+pub fn stand(flat: &[f64]) -> [OpticalSurface; 16]
+    requires { ⌜ 64 ≤ length (now flat) ⌝ }
+    ensures { λ r. ⌜ r ≡ standing (now (flat .entry)) ⌝ }
+{
+    let none = variables::no_surface();
+    let mut surfaces = [none; 16];
+    let mut i: usize = 0;
+    while i < 16 {
+        let s = surface_at(flat, i);
+        surfaces[i] = s;
+        i += 1;
+    }
+    surfaces
+}
+
+// Surfaces as flat numbers.
+pub fn laid(surfaces: [OpticalSurface; 16]) -> [f64; 64]
+    ensures { λ r. ⌜ r ≡ laidFlat surfaces 16 ⌝ }
+{
+    let mut flat = [0.0; 64];
+    optics::lay_flat(surfaces, 16, &mut flat);
+    flat
+}
+
+// The first of the surfaces that stand in flat numbers, laid at the start of scratch; the rest of it stays.
+pub fn lay_standing(flat: &[f64], count: usize, scratch: &mut [f64])
+    requires { ⌜ (count ≤ 16) × (64 ≤ length (now flat)) × (64 ≤ length (now scratch)) ⌝ }
+    ensures { λ _. ⌜ now (scratch .exit) ≡ laidFlat (standing (now (flat .entry))) count ++ drop (4 * count) (now (scratch .entry)) ⌝ }
+{
+    let end = 4 * count;
+    let mut k: usize = 0;
+    while k < end {
+        scratch[k] = flat[k];
+        k += 1;
+    }
+}

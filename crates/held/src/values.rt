@@ -1,0 +1,118 @@
+// The values of a held job's enabled variables: read off surfaces, clamped, applied.
+ghost use mathlib.Core.Path.{_≡_};
+ghost use mathlib.Core.List.{_++_};
+ghost use Prim.Native.Nat.{_*_, _≤_};
+ghost use lib.ListN.{length, drop};
+ghost use Rattle.optics.specs.Flat.{laidFlat};
+ghost use Rattle.variables.specs.Kinds.{valueOf};
+ghost use Rattle.variables.specs.Values.{extracted, clampedValues, applied};
+ghost use Rattle.held.specs.JobFrom.{standing, surfaceCountFrom, variableCountFrom, variablesFrom};
+use crate::entries::surface_at;
+use crate::entries::surface_count;
+use crate::entries::variable_at;
+use crate::entries::variable_count;
+use crate::flat::stand;
+use optics::OpticalSurface;
+use variables::VariableType;
+
+// A variable's quantity as it stands in surfaces laid flat.
+fn value_of(flat: &[f64], kind: VariableType) -> f64
+    requires { ⌜ 64 ≤ length (now flat) ⌝ }
+    ensures { λ r. ⌜ r ≡ valueOf (standing (now (flat .entry))) kind ⌝ }
+{
+    let i = variables::surface_index(kind);
+    if i < 16 {
+        let s = surface_at(flat, i);
+        return variables::quantity(s, kind);
+    }
+    variables::quantity(variables::no_surface(), kind)
+}
+
+// The values of the enabled variables, and +0.0 after them.
+pub fn extract_values(counts: &[u64; 57], numbers: &[f64], flat: &[f64]) -> [f64; 8]
+    requires { ⌜ variableCountFrom (now counts) ≤ 8 ⌝ ∗ ⌜ 195 ≤ length (now numbers) ⌝ ∗ ⌜ 64 ≤ length (now flat) ⌝ }
+    ensures { λ r. ⌜ r ≡ extracted (variablesFrom (now (counts .entry)) (now (numbers .entry))) (standing (now (flat .entry))) ⌝ }
+{
+    let count = variable_count(counts);
+    let mut x = [0.0; 8];
+    let mut q: usize = 0;
+    let mut i: usize = 0;
+    while i < count {
+        let d = variable_at(counts, numbers, i);
+        if d.enabled {
+            let kind = d.var_type;
+            x[q] = value_of(flat, kind);
+            q += 1;
+        }
+        i += 1;
+    }
+    x
+}
+
+// Each value clamped to its variable's bounds, a NaN let through; what stands after them is kept.
+pub fn clamp_values(counts: &[u64; 57], numbers: &[f64], values: [f64; 8]) -> [f64; 8]
+    requires { ⌜ variableCountFrom (now counts) ≤ 8 ⌝ ∗ ⌜ 195 ≤ length (now numbers) ⌝ }
+    ensures { λ r. ⌜ r ≡ clampedValues (variablesFrom (now (counts .entry)) (now (numbers .entry))) values ⌝ }
+{
+    let count = variable_count(counts);
+    let mut x = values;
+    let mut q: usize = 0;
+    let mut i: usize = 0;
+    while i < count {
+        let d = variable_at(counts, numbers, i);
+        if d.enabled {
+            x[q] = floats::clamp(values[q], d.min_value, d.max_value);
+            q += 1;
+        }
+        i += 1;
+    }
+    x
+}
+
+// The surfaces with each value clamped and stored, one field at a time, in rising order of the variables.
+pub fn apply_values(
+    counts: &[u64; 57],
+    numbers: &[f64],
+    values: [f64; 8],
+    surfaces: [OpticalSurface; 16],
+) -> [OpticalSurface; 16]
+    requires { ⌜ variableCountFrom (now counts) ≤ 8 ⌝ ∗ ⌜ 195 ≤ length (now numbers) ⌝ }
+    ensures { λ r. ⌜ r ≡ applied (variablesFrom (now (counts .entry)) (now (numbers .entry))) values surfaces ⌝ }
+{
+    let count = variable_count(counts);
+    let mut s = surfaces;
+    let mut q: usize = 0;
+    let mut i: usize = 0;
+    while i < count {
+        let d = variable_at(counts, numbers, i);
+        if d.enabled {
+            let kind = d.var_type;
+            let x = variables::apply_clamp(values[q], d.min_value, d.max_value);
+            let at = variables::surface_index(kind);
+            if at < 16 {
+                let old = s[at];
+                let new = variables::with_value(old, kind, x);
+                s[at] = new;
+            }
+            q += 1;
+        }
+        i += 1;
+    }
+    s
+}
+
+// The same of surfaces laid flat; those in use are laid at the start of scratch, and the rest of it stays.
+pub fn lay_applied(
+    counts: &[u64; 57],
+    numbers: &[f64],
+    values: [f64; 8],
+    flat: &[f64],
+    scratch: &mut [f64],
+)
+    requires { ⌜ surfaceCountFrom (now counts) ≤ 16 ⌝ ∗ ⌜ variableCountFrom (now counts) ≤ 8 ⌝ ∗ ⌜ 195 ≤ length (now numbers) ⌝ ∗ ⌜ 64 ≤ length (now flat) ⌝ ∗ ⌜ 64 ≤ length (now scratch) ⌝ }
+    ensures { λ _. ⌜ now (scratch .exit) ≡ laidFlat (applied (variablesFrom (now (counts .entry)) (now (numbers .entry))) values (standing (now (flat .entry)))) (surfaceCountFrom (now (counts .entry))) ++ drop (4 * surfaceCountFrom (now (counts .entry))) (now (scratch .entry)) ⌝ }
+{
+    let base = stand(flat);
+    let changed = apply_values(counts, numbers, values, base);
+    optics::lay_flat(changed, surface_count(counts), scratch);
+}

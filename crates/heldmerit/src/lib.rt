@@ -1,0 +1,6 @@
+// The evaluation under a held job: the values of all operands, and out of them the merit and the residuals, each where it is needed.
+mod evaluation;
+
+pub use evaluation::merit_of;
+pub use evaluation::residuals_of;
+pub use evaluation::values_of;
