@@ -14,18 +14,21 @@ use Rattle.runs.specs.declared.types.Row.{Row}
 use Rattle.runs.specs.JobRun.{Result}
 use Rattle.runs.specs.Rows as Rows
 use Rattle.runs.specs.Damage.{damaged}
+use Rattle.held.specs.RowFrom.{rowFrom}
+use Rattle.held.specs.Written.{heldFrom}
+use Rattle.held.specs.declared.types.HeldRow.{HeldRow}
 use Rattle.bench.specs.declared.types.Bench.{Bench}
 use Rattle.bench.specs.Refusals.{noPlace, scratchShort, admitRefusals}
 use Rattle.bench.specs.Admission.{passed-request, admissible}
 use Rattle.bench.specs.Book.{Call, admit, turn, fetch, release, listing, number, fetched, listed, fetchedUnless, placesWhere, Entry, empty, holds, Book, entryAt, withEntry, isEmpty, isFinished, resultOf, countOf, counted, bookAnswer, bookStep}
 use Rattle.bench.specs.Book as Book
-use Rattle.bench.specs.Benches.{zeroRow, noRow, rowAt, withRow}
+use Rattle.bench.specs.Benches.{zeroRow, noRow, heldAt, rowAt, withRow}
 use Rattle.runs.specs.Turn.{turned}
 use Rattle.bench.specs.Order.{ordered}
 use Rattle.bench.specs.Calls.{isVacant, listingOf, placesIn, benchAnswer, benchStep}
 use Rattle.bench.specs.Calls as Calls
 use Rattle.bench.specs.Pairs.{Pairs, pair-getD, pair-at, pair-set, pair-map}
-use Rattle.bench.specs.Places.{Kept, Alike, alike, alike-past, kept-admitted, kept-turned}
+use Rattle.bench.specs.Places.{KeptRow, Kept, Alike, alike, alike-past, held-kept, kept-admitted, kept-turned}
 
 pub record Agree (b : Bench) (k : Book) : Type 0 where
   pub places : Pairs Kept (b .rows) (k .entries)
@@ -38,9 +41,9 @@ state-number v false d f g n e s h = ap (λ (b : Bool). cond b 11 (cond d 12 (co
 
 module _ (b : Bench) (k : Book) (a : Agree b k) where
   pub alike-at : (place : ℕ) → Alike (rowAt b place) (entryAt k place)
-  alike-at place = pair-getD noRow empty (pair-map alike (a .places)) alike-past place
+  alike-at place = pair-getD {R = λ (h : HeldRow) (e : Entry). Alike (rowFrom h) e} noRow empty (pair-map (λ h e k. alike (rowFrom h) e (k .row)) (a .places)) alike-past place
 
-  pub kept-at : (place : ℕ) → place < 4 → Kept (rowAt b place) (entryAt k place)
+  pub kept-at : (place : ℕ) → place < 4 → Kept (heldAt b place) (entryAt k place)
   kept-at place h = pair-at noRow empty (a .places) place (subst (λ (n : ℕ). place < n) (sym (a .four)) h)
 
   admit-number : (place : ℕ) (r : JobRequest) → Calls.admitNumber b place r ≡ Book.admitNumber k place r
@@ -110,23 +113,23 @@ module _ (b : Bench) (k : Book) (a : Agree b k) where
   same-answer (release place) = ap number (release-number place)
   same-answer listing = ap listed listing-answer
 
-  agree-set : (place : ℕ) (r : Row) (e : Entry) → Kept r e → Agree (withRow b place r) (withEntry k place e)
-  agree-set place r e h = record { places = pair-set (a .places) place h; four = length-set (b .rows) place r ∙ a .four }
+  agree-set : (place : ℕ) (r : Row) (e : Entry) → KeptRow r e → Agree (withRow b place r) (withEntry k place e)
+  agree-set place r e h = record { places = pair-set (a .places) place (held-kept r e h); four = length-set (b .rows) place (heldFrom r) ∙ a .four }
 
   unless : (m n : ℕ) (b′ : Bench) (k′ : Book) → m ≡ n → (n ≡ 0 → Agree b′ k′) → Agree (unlessRefused m b′ b) (unlessRefused n k′ k)
   unless m zero b′ k′ e h = subst (λ (m : ℕ). Agree (unlessRefused m b′ b) k′) (sym e) (h refl)
   unless m (suc n) b′ k′ e h = subst (λ (m : ℕ). Agree (unlessRefused m b′ b) k) (sym e) a
 
-  turned-kept : (r : Row) (e : Entry) → Kept r e → isEmpty e ≡ false → Rows.isFinished r ≡ false → Kept (turned r) (counted e)
+  turned-kept : (r : Row) (e : Entry) → KeptRow r e → isEmpty e ≡ false → Rows.isFinished r ≡ false → KeptRow (turned r) (counted e)
   turned-kept r empty h t u = absurd (false≢true (sym t))
   turned-kept r (holds job count) h t u = kept-turned r job count u h
 
-  turn-done : (place n : ℕ) → Book.turnNumber k place n ≡ 0 → Kept (turned (rowAt b place)) (counted (entryAt k place))
+  turn-done : (place n : ℕ) → Book.turnNumber k place n ≡ 0 → KeptRow (turned (rowAt b place)) (counted (entryAt k place))
   turn-done place n e =
       let m = answers-none (Book.turnRefusals k place n) tt .0 e in
       let rs = Book.turnRefusals k place n in
       let there = none-of rs 11 m in
-      turned-kept (rowAt b place) (entryAt k place) (kept-at place (ltb-true place 4 (not-false (ltb place 4) (none-of rs 2 m)))) there (alike-at place .finished there ∙ none-of rs 13 m)
+      turned-kept (rowAt b place) (entryAt k place) (kept-at place (ltb-true place 4 (not-false (ltb place 4) (none-of rs 2 m))) .row) there (alike-at place .finished there ∙ none-of rs 13 m)
 
   pub agree-step : (c : Call) → Agree (benchStep b c) (bookStep k c)
   unfolding benchStep bookStep

@@ -1,8 +1,7 @@
 -- Rows and benches as values: "empty places are zero .. the empty bench from which others are reached is all zero". `zeroRow` is 01's zero; `noRow` is the
 -- checker's default for a read past the end. Definitions only.
 use Prim.Native.Nat.{ℕ}
-use mathlib.Core.List.{List, []}
-use lib.Ieee.{nan}
+use mathlib.Core.List.{[]}
 use lib.ListN.{getD, set, replicate}
 use Rattle.floats.specs.Constants.{zero64}
 use Rattle.jobs.specs.Entries.{zeroVariableRecord, zeroOperandRecord}
@@ -12,6 +11,9 @@ use Rattle.runs.specs.DampedRow.{atFirst}
 use Rattle.runs.specs.State.{rowOf, alone}
 use Rattle.runs.specs.Zeros.{zeroSurfaces}
 use Rattle.runs.specs.declared.types.Row.{Row}
+use Rattle.held.specs.RowFrom.{rowFrom}
+use Rattle.held.specs.Written.{heldFrom}
+use Rattle.held.specs.declared.types.HeldRow.{HeldRow}
 use Rattle.bench.specs.declared.types.Bench.{Bench}
 
 abbrev pub zeroSettings : SettingsRecord
@@ -48,65 +50,35 @@ unfoldable pub zeroRow : Row
 zeroRow = rowOf zeroJob 0 0 (alone (atFirst zeroSurfaces))
 
 abbrev pub emptyBench : Bench
-emptyBench = record { rows = replicate 4 zeroRow }
+emptyBench = record { rows = replicate 4 (heldFrom zeroRow) }
 
-abbrev pub withRows : Bench → List Row → Bench
-withRows b rows = record { rows = rows }
+-- ---- A bench holds each row as arrays of numbers: `rowFrom` reads one, `heldFrom` writes one (held)
+abbrev pub withHeld : Bench → (place : ℕ) → HeldRow → Bench
+withHeld b place h = record { rows = set (b .rows) place h }
 
 abbrev pub withRow : Bench → (place : ℕ) → Row → Bench
-withRow b place r = withRows b (set (b .rows) place r)
+withRow b place r = withHeld b place (heldFrom r)
 
-abbrev pub noRow : Row
+abbrev pub noRow : HeldRow
 noRow = record {
-  job = record {
-    surfaces = [];
-    indices = [];
-    variables = [];
-    operands = [];
-    «surface_count» = 0;
-    «slot_count» = 0;
-    «variable_count» = 0;
-    «operand_count» = 0;
-    «entrance_pupil_diameter_mm» = nan;
-    settings = record {
-      «max_iterations» = 0;
-      «initial_damping» = nan;
-      «relative_merit_tolerance» = nan;
-      «gradient_tolerance» = nan;
-      «finite_difference_relative_step» = nan;
-      «num_trials» = 0;
-      «initial_temperature» = nan;
-      «cooling_rate» = nan;
-      «steps_per_temperature» = 0;
-      «max_cooling_cycles» = 0;
-      seed = 0;
-    };
-  };
-  damped = record {
-    surfaces = [];
-    jacobian = [];
-    evaluation = record { values = []; residuals = []; «total_merit» = nan };
-    «plus_residuals» = [];
-    params = [];
-    candidate = [];
-    «initial_merit» = nan;
-    damping = nan;
-    phase = 0;
-    iteration = 0;
-    column = 0;
-    attempt = 0;
-    converged = 0;
-  };
-  best = record { surfaces = []; values = []; residuals = []; «initial_merit» = nan; «final_merit» = nan; iterations = 0; converged = 0 };
-  kind = 0;
-  turns = 0;
-  generator = 0;
-  trial = 0;
-  cycle = 0;
-  step = 0;
-  temperature = nan;
-  «current_merit» = nan;
+  words = [];
+  scalars = [];
+  counts = [];
+  numbers = [];
+  surfaces = [];
+  jacobian = [];
+  values = [];
+  residuals = [];
+  «plus_residuals» = [];
+  params = [];
+  candidate = [];
+  «best_surfaces» = [];
+  «best_values» = [];
+  «best_residuals» = [];
 }
 
+abbrev pub heldAt : Bench → (place : ℕ) → HeldRow
+heldAt b place = getD (b .rows) place noRow
+
 abbrev pub rowAt : Bench → (place : ℕ) → Row
-rowAt b place = getD (b .rows) place noRow
+rowAt b place = rowFrom (heldAt b place)

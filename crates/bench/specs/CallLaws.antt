@@ -7,7 +7,6 @@ use mathlib.Core.Logic.{_↔_}
 use Prim.Native.Nat.{ℕ, zero, suc}
 use lib.Ieee.{Float}
 use lib.ListN.{length, drop, replicate}
-use lib.Seq.{set-getD}
 use Rattle.floats.specs.Constants.{zero64}
 use Rattle.lists.specs.Refusals.{Refusal, NoneOf, before, answers, answers-none}
 use Rattle.merit.specs.Calls.{unlessRefused}
@@ -21,17 +20,12 @@ use Rattle.runs.specs.Rows.{isFinished, resultOf}
 use Rattle.runs.specs.declared.types.Row.{Row}
 use Rattle.bench.specs.declared.types.Bench.{Bench}
 use Rattle.bench.specs.Refusals.{noPlace, scratchShort, admitRefusals}
-use Rattle.bench.specs.Benches.{noRow, withRows, withRow, rowAt}
+use Rattle.bench.specs.Benches.{rowAt}
 use Rattle.bench.specs.Calls.{isVacant, admitNumber, turnRefusals, turnNumber, scratchAfter, fetchRefusals, fetchNumber, fetchedResult, releaseRefusals, releaseNumber}
 
 -- "nothing lent changes"
 pub stays : {A : Type 0} (m n : ℕ) (new old : A) → m ≡ suc n → unlessRefused m new old ≡ old
 stays m n new old e = ap (λ (m : ℕ). unlessRefused m new old) e
-
--- a row stored only where the call is done, or its old value stored again where it is refused: the same bench
-pub stored : (n : ℕ) (b : Bench) (place : ℕ) (r : Row) → unlessRefused n (withRow b place r) b ≡ withRow b place (unlessRefused n r (rowAt b place))
-stored zero b place r = refl
-stored (suc n) b place r = ap (withRows b) (sym (set-getD (b .rows) place noRow))
 
 module _ (b : Bench) (place : ℕ) where
   -- ---- admit

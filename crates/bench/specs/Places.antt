@@ -22,6 +22,11 @@ use Rattle.runs.specs.DamageLaws.{never-damaged}
 use Rattle.runs.specs.JobMerit.{evaluateOf}
 use Rattle.runs.specs.Turn.{turned}
 use Rattle.runs.specs.Usable.{usable}
+use Rattle.runs.specs.Lengths.{whole-after}
+use Rattle.held.specs.RowFrom.{rowFrom}
+use Rattle.held.specs.Written.{heldFrom}
+use Rattle.held.specs.RowBack.{FullJob, Full, row-back}
+use Rattle.held.specs.declared.types.HeldRow.{HeldRow}
 use Rattle.bench.specs.Admission.{Admissible, kinds-known}
 use Rattle.bench.specs.Book.{Entry, empty, holds, isEmpty, isFinished, resultOf, countOf}
 use Rattle.bench.specs.Benches.{zeroRow, noRow}
@@ -33,9 +38,14 @@ pub record Holding (r : Row) (job : Job) (count : ℕ) : Type 0 where
   pub row : r ≡ rowAfter (evaluateOf job) count job
   pub turns : r .turns ≡ count
 
-abbrev pub Kept : Row → Entry → Type 0
-Kept r empty = r ≡ zeroRow
-Kept r (holds job count) = Holding r job count
+abbrev pub KeptRow : Row → Entry → Type 0
+KeptRow r empty = r ≡ zeroRow
+KeptRow r (holds job count) = Holding r job count
+
+-- and it is held as it is read
+pub record Kept (h : HeldRow) (e : Entry) : Type 0 where
+  pub row : KeptRow (rowFrom h) e
+  pub same : h ≡ heldFrom (rowFrom h)
 
 -- ---- what the calls ask of a place
 pub record Alike (r : Row) (e : Entry) : Type 0 where
@@ -63,8 +73,8 @@ zero-turns : zeroRow .turns ≡ 0
 unfolding zeroRow
 zero-turns = refl
 
-pub alike-past : Alike noRow empty
-alike-past = alike-empty noRow refl refl
+pub alike-past : Alike (rowFrom noRow) empty
+alike-past = alike-empty (rowFrom noRow) refl refl
 
 module _ (job : Job) (a : Admissible job) where
   abbrev f : Surfaces → MeritEvaluation
@@ -93,14 +103,34 @@ module _ (job : Job) (a : Admissible job) where
     turns = t;
   }
 
-pub alike : (r : Row) (e : Entry) → Kept r e → Alike r e
+pub alike : (r : Row) (e : Entry) → KeptRow r e → Alike r e
 alike r empty k = alike-empty r (ap isVacant k ∙ zero-vacant) (ap (λ (r : Row). r .turns) k ∙ zero-turns)
 alike r (holds job count) k =
     subst (λ (r : Row). Alike r (holds job count)) (sym (k .row))
     (alike-after job (k .admissible) count (ap (λ (r : Row). r .turns) (sym (k .row)) ∙ k .turns))
 
+-- ---- every entry is there, so that the row is read as it was written
+full-zero : Full zeroRow
+unfolding zeroRow
+full-zero = record { job = record { surfaces = refl; indices = refl; variables = refl; operands = refl }; surfaces = refl; bestSurfaces = refl }
+
+full-after : (job : Job) → Admissible job → (count : ℕ) → Full (rowAfter (evaluateOf job) count job)
+unfolding admitted advance
+full-after job a count =
+    let w = whole-after (evaluateOf job) job (a .back) (a .full .surfaces) count in
+    record { job = reached (evaluateOf job) (λ (r : Row). FullJob (r .job)) job (a .full) (λ r u h. h) count; surfaces = w .damped; bestSurfaces = w .best }
+
+full-row : (r : Row) (e : Entry) → KeptRow r e → Full r
+full-row r empty k = subst Full (sym k) full-zero
+full-row r (holds job count) k = subst Full (sym (k .row)) (full-after job (k .admissible) count)
+
+pub held-kept : (r : Row) (e : Entry) → KeptRow r e → Kept (heldFrom r) e
+held-kept r e k =
+    let back = row-back r (full-row r e k) in
+    record { row = subst (λ (r : Row). KeptRow r e) (sym back) k; same = ap heldFrom (sym back) }
+
 -- ---- a place that is admitted to, and one that is turned
-pub kept-admitted : (job : Job) → Admissible job → Kept (admitted job) (holds job 0)
+pub kept-admitted : (job : Job) → Admissible job → KeptRow (admitted job) (holds job 0)
 unfolding rowAfter
 kept-admitted job a = record { admissible = a; row = refl; turns = turns-admitted job }
 

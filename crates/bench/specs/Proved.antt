@@ -40,19 +40,22 @@ use Rattle.runs.specs.ZeroEntries.{ZeroEntries}
 use Rattle.runs.specs.ZeroEntryLaws.{zero-entries}
 use Rattle.runs.specs.Zeros.{zeroResult}
 use Rattle.runs.specs.declared.types.Row.{Row}
+use Rattle.held.specs.RowFrom.{rowFrom}
+use Rattle.held.specs.Written.{heldFrom}
+use Rattle.held.specs.declared.types.HeldRow.{HeldRow}
 use Rattle.bench.specs.declared.types.Bench.{Bench}
 use Rattle.runs.specs.JobMerit.{lensWith, evaluateOf}
 use Rattle.runs.specs.Turn.{turned}
 use Rattle.bench.specs.Book.{Call, admit, turn, fetch, release, listing, Answer, number, fetched, listed, fetchedUnless, Entry, empty, holds, Book, emptyBook, entryAt, isEmpty, isFinished, resultOf, countOf, placesWhere}
 use Rattle.bench.specs.Book.{runAfter, leftBy, answersBy, bookAnswer, bookStep, bookAfter}
 use Rattle.bench.specs.Book as Book
-use Rattle.bench.specs.Benches.{zeroRow, noRow, emptyBench, rowAt, withRow}
+use Rattle.bench.specs.Benches.{zeroRow, noRow, emptyBench, heldAt, rowAt, withRow}
 use Rattle.bench.specs.Calls.{isVacant, turnNumber, benchAnswer, benchStep}
 use Rattle.bench.specs.Calls as Calls
 use Rattle.bench.specs.CallLaws.{stays}
 use Rattle.bench.specs.Pairs.{none, both, pair-getD, pair-map}
 use Rattle.bench.specs.Admission.{Admissible}
-use Rattle.bench.specs.Places.{Kept, not-vacant, undamaged, zero-vacant}
+use Rattle.bench.specs.Places.{KeptRow, not-vacant, undamaged, zero-vacant, held-kept}
 use Rattle.bench.specs.OrderLaws.{ordered-perm, rising-ordered}
 use Rattle.bench.specs.Agreement.{Agree, kept-at, same-answer, agree-step}
 use Rattle.bench.specs.Results.{evaluable, returned}
@@ -60,7 +63,7 @@ use Rattle.bench.specs.Theorem.{benchAfter, SameBench, RowHolds, SamePla
 
 -- ---- lists of calls
 agree-empty : Agree emptyBench emptyBook
-agree-empty = record { places = both refl (both refl (both refl (both refl none))); four = refl }
+agree-empty = let z = held-kept zeroRow empty refl in record { places = both z (both z (both z (both z none))); four = refl }
 
 agree-left : (calls : List Call) (b : Bench) (k : Book) → Agree b k → Agree (leftBy benchStep b calls) (leftBy bookStep k calls)
 unfolding leftBy
@@ -86,7 +89,7 @@ pending-evaluable job a count u =
     let r = rowAfter (evaluateOf job) count job in
     evaluable job a (pendingSurfaces r) (subst (λ (j : Job). T (surfacesTaken (pendingSurfaces r) (j .prescription .«surface_count»))) (job-after (evaluateOf job) job (a .back) count) (pending-checked r (undamaged job a count) u))
 
-said : (r : Row) (e : Entry) → Kept r e → SamePlace r e
+said : (r : Row) (e : Entry) → KeptRow r e → SamePlace r e
 said r empty h = h
 said r (holds job count) h =
     let a = h .admissible in
@@ -102,7 +105,7 @@ said r (holds job count) h =
     }
 
 same-place : (calls : List Call) (place : ℕ) → place < 4 → SamePlace (rowAt (benchAfter calls) place) (entryAt (bookAfter calls) place)
-same-place calls place h = said _ (entryAt (bookAfter calls) place) (kept-at (benchAfter calls) (bookAfter calls) (agree-after calls) place h)
+same-place calls place h = said _ (entryAt (bookAfter calls) place) (kept-at (benchAfter calls) (bookAfter calls) (agree-after calls) place h .row)
 
 -- ---- two lists: an entry says its row, and the row its entry
 row-said : (r s : Row) (e : Entry) → SamePlace r e → SamePlace s e → r ≡ s
@@ -120,16 +123,22 @@ entry-said r s (holds i m) (holds j n) p h g = λ t. holds ((sym (h .sameJob) �
 
 module _ (some others : List Call) where
   entries-equal : SameBench (benchAfter some) (benchAfter others) → (place : ℕ) → place < 4 → entryAt (bookAfter some) place ≡ entryAt (bookAfter others) place
-  entries-equal p place h = entry-said _ _ (entryAt (bookAfter some) place) (entryAt (bookAfter others) place) (ap (λ (rows : List Row). getD rows place noRow) p) (same-place some place h) (same-place others place h)
+  entries-equal p place h = entry-said _ _ (entryAt (bookAfter some) place) (entryAt (bookAfter others) place) (ap (λ (rows : List HeldRow). rowFrom (getD rows place noRow)) p) (same-place some place h) (same-place others place h)
 
   rows-equal : ((place : ℕ) → place < 4 → entryAt (bookAfter some) place ≡ entryAt (bookAfter others) place) → SameBench (benchAfter some) (benchAfter others)
   rows-equal q =
       ext-getD noRow (benchAfter some .rows) (benchAfter others .rows) (agree-after some .four ∙ sym (agree-after others .four)) λ place h.
       at place (subst (λ (n : ℕ). place < n) (agree-after some .four) h)
     where
-      at : (place : ℕ) → place < 4 → rowAt (benchAfter some) place ≡ rowAt (benchAfter others) place
-      at place h =
+      row-at : (place : ℕ) → place < 4 → rowAt (benchAfter some) place ≡ rowAt (benchAfter others) place
+      row-at place h =
           row-said _ _ (entryAt (bookAfter others) place) (subst (λ (e : Entry). SamePlace (rowAt (benchAfter some) place) e) (q place h) (same-place some place h)) (same-place others place h)
+
+      held-at : (calls : List Call) (place : ℕ) → place < 4 → heldAt (benchAfter calls) place ≡ heldFrom (rowAt (benchAfter calls) place)
+      held-at calls place h = kept-at (benchAfter calls) (bookAfter calls) (agree-after calls) place h .same
+
+      at : (place : ℕ) → place < 4 → heldAt (benchAfter some) place ≡ heldAt (benchAfter others) place
+      at place h = held-at some place h ∙ ap heldFrom (row-at place h) ∙ sym (held-at others place h)
 
 -- ---- jobs
 same-jobs : (a b : JobRequest) → firstRefusal (admissionRefusals a) ≡ 0 → (jobFrom a ≡ jobFrom b) ↔ SameJob a b
@@ -146,7 +155,7 @@ unfolding benchStep
 other-rows b place n other h = go (turnNumber b place n)
   where
     go : (m : ℕ) → rowAt (unlessRefused m (withRow b place (turned (rowAt b place))) b) other ≡ rowAt b other
-    go zero = getD-set-other (b .rows) place other (turned (rowAt b place)) noRow h
+    go zero = ap rowFrom (getD-set-other (b .rows) place other (heldFrom (turned (rowAt b place))) noRow h)
     go (suc m) = refl
 
 numberIn : Answer → ℕ
@@ -177,12 +186,12 @@ abbrev Bounded : Entry → Type 0
 Bounded empty = Unit
 Bounded (holds job count) = (count ≤ bound job) × Admissible job
 
-bounded-by : (r : Row) (e : Entry) → Kept r e → Bounded e
+bounded-by : (r : Row) (e : Entry) → KeptRow r e → Bounded e
 bounded-by r empty h = tt
 bounded-by r (holds job count) h = (subst (λ (n : ℕ). n ≤ bound job) (ap (λ (r : Row). r .turns) (sym (h .row)) ∙ h .turns) (turns-bounded (evaluateOf job) job (h .admissible .back) count), h .admissible)
 
 bounded-at : (calls : List Call) (place : ℕ) → Bounded (entryAt (bookAfter calls) place)
-bounded-at calls place = pair-getD {R = λ (r : Row) (e : Entry). Bounded e} noRow empty (pair-map bounded-by (agree-after calls .places)) tt place
+bounded-at calls place = pair-getD {R = λ (h : HeldRow) (e : Entry). Bounded e} noRow empty (pair-map (λ h e k. bounded-by (rowFrom h) e (k .row)) (agree-after calls .places)) tt place
 
 run-ended : (job : Job) (count : ℕ) → bound job ≤ count → isDone (runAfter job count) ≡ true
 unfolding isDone

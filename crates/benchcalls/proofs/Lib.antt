@@ -1,3 +1,4 @@
 pub mod Big
 pub mod Opened
+pub mod TakenRow
 pub mod Again

@@ -35,14 +35,14 @@ use denote.Struct.Field.{Field}
 use denote.Struct.Steps.{spelt}
 use denote.Struct.Laws as LL
 use denote.Struct.Rest.{all-own, own-open}
-use Rattle.runs.specs.declared.types.Row.{Row}
+use Rattle.held.specs.declared.types.HeldRow.{HeldRow}
 use Rattle.bench.specs.declared.types.Bench.{Bench}
 use Rattle.bench.specs.Benches.{noRow}
 use Rattle.rows.specs.declared.types.RowAnswer.{RowAnswer}
 use Rattle.rows.proofs.types.RowAnswer as An
 use Rattle.rows.proofs.types.RowAnswer.Laws as An′
-use Rattle.runs.proofs.types.Row as S
-use Rattle.runs.proofs.types.Row.Laws as S′
+use Rattle.held.proofs.types.HeldRow as S
+use Rattle.held.proofs.types.HeldRow.Laws as S′
 use Rattle.bench.proofs.types.Bench as B
 use Rattle.bench.proofs.types.Bench.Laws as B′
 
@@ -61,14 +61,14 @@ pub place-fits : (i : ℕ) → i ≤ 3 → i * row-size < 2 ^ 64
 place-fits i l = omega arith
 
 -- the machine value of a row
-abbrev pub valsR : Row → List Val
+abbrev pub valsR : HeldRow → List Val
 valsR = LL.vals S.the-type S′.the-laws
 
 -- the type of the array's elements: a row as a field of another type, whose values are tuples
 abbrev F : Field
 F = S.the-field
 
-abbrev pub inner : List Row → List (F .row .Denot)
+abbrev pub inner : List HeldRow → List (F .row .Denot)
 inner rs = map (F .into) rs
 
 abbrev pub A4 : RattleType
@@ -87,36 +87,36 @@ rest-of b = tt
 abbrev pub rest-parts : Rest → Unit {0}
 rest-parts n = tt
 
-abbrev pub bn : Rest → List Row → Bench
+abbrev pub bn : Rest → List HeldRow → Bench
 bn n rs = record { rows = rs }
 
 -- the machine values: the array's, and the struct's
-abbrev pub vals4 : List Row → List Val
+abbrev pub vals4 : List HeldRow → List Val
 vals4 rs = array-vals (λ y. S′.the-field-laws .val y ∷ []) (inner rs)
 
-abbrev pub valsB : Rest → List Row → List Val
+abbrev pub valsB : Rest → List HeldRow → List Val
 valsB n rs = LL.vals B.the-type B′.the-laws (bn n rs)
 
 abbrev arr : Ty
 arr = tyArray S′.mir 4
 
-pub four : (rs : List Row) → Is A4 (inner rs) (vals4 rs) → length rs ≡ 4
+pub four : (rs : List HeldRow) → Is A4 (inner rs) (vals4 rs) → length rs ≡ 4
 four rs is = sym (length-map rs (F .into)) ∙ is .1 .0 .1
 
-pub opened : (n : Rest) (rs : List Row) → Is Bn (bn n rs) (valsB n rs) → Is A4 (inner rs) (vals4 rs)
+pub opened : (n : Rest) (rs : List HeldRow) → Is Bn (bn n rs) (valsB n rs) → Is A4 (inner rs) (vals4 rs)
 opened n rs was = LL.owed B.the-type B′.the-laws (bn n rs) _ was .0
 
-pub shut : (n : Rest) (rs zs : List Row) → Is Bn (bn n rs) (valsB n rs) → Is A4 (inner zs) (vals4 zs) → Is Bn (bn n zs) (valsB n zs)
+pub shut : (n : Rest) (rs zs : List HeldRow) → Is Bn (bn n rs) (valsB n rs) → Is A4 (inner zs) (vals4 zs) → Is Bn (bn n zs) (valsB n zs)
 shut n rs zs was is = LL.owes B.the-type B′.the-laws (bn n zs) (is, LL.owed B.the-type B′.the-laws (bn n rs) _ was .1)
 
 module _ {M : Type 1} (𝓤 : URA M) (H : Heap 𝓤) (A : Atoms 𝓤) (W : Given 𝓤 H A) (s : Share) (b o : ℕ) (n : Rest) where
   -- a row's tuple in memory is the row in memory
-  to-rows : (rs : List Row) (p : ℕ) → ent 𝓤 (sem 𝓤 H A (row (F .row) s (inner rs) b p)) (sem 𝓤 H A (row R s rs b p))
+  to-rows : (rs : List HeldRow) (p : ℕ) → ent 𝓤 (sem 𝓤 H A (row (F .row) s (inner rs) b p)) (sem 𝓤 H A (row R s rs b p))
   unfolding partOf
   to-rows [] p = id⊢ 𝓤 (emp 𝓤)
   to-rows (r ∷ rs) p = monoR 𝓤 (sem 𝓤 H A (partAt R s r b p)) (to-rows rs (p + mem R .size))
 
-  of-rows : (rs : List Row) (p : ℕ) → ent 𝓤 (sem 𝓤 H A (row R s rs b p)) (sem 𝓤 H A (row (F .row) s (inner rs) b p))
+  of-rows : (rs : List HeldRow) (p : ℕ) → ent 𝓤 (sem 𝓤 H A (row R s rs b p)) (sem 𝓤 H A (row (F .row) s (inner rs) b p))
   unfolding partOf
   of-rows [] p = id⊢ 𝓤 (emp 𝓤)
   of-rows (r ∷ rs) p = monoR 𝓤 (sem 𝓤 H A (partAt R s r b p)) (of-rows rs (p + mem R .size))
@@ -128,7 +128,7 @@ module _ {M : Type 1} (𝓤 : URA M) (H : Heap 𝓤) (A : Atoms 𝓤) (W : Given
   abbrev pub Back : SProp 𝓤
   Back = all 𝓤 Field0
 
-  pub bench-out : (rs : List Row) → ent 𝓤 (sep 𝓤 (sem 𝓤 H A (cellAt s (Bn .mir) (valsB n rs) b o)) (sem 𝓤 H A (Bn .own (bn n rs) (valsB n rs)))) (sep 𝓤 (sem 𝓤 H A (row R s rs b (o + 0))) Back)
+  pub bench-out : (rs : List HeldRow) → ent 𝓤 (sep 𝓤 (sem 𝓤 H A (cellAt s (Bn .mir) (valsB n rs) b o)) (sem 𝓤 H A (Bn .own (bn n rs) (valsB n rs)))) (sep 𝓤 (sem 𝓤 H A (row R s rs b (o + 0))) Back)
   unfolding partOf
   bench-out rs =
       qed W (‵ (cellAt s (Bn .mir) (valsB n rs) b o) ∷ ‵ (Bn .own (bn n rs) (valsB n rs)) ∷ []) ∵
@@ -140,7 +140,7 @@ module _ {M : Type 1} (𝓤 : URA M) (H : Heap 𝓤) (A : Atoms 𝓤) (W : Given
       use1 W (‵ (fsep (feq ℕ (length (inner rs)) 4) (row (F .row) s (inner rs) b (o + 0)))) (array-apart 𝓤 H A W (F .row) s tt 4 (inner rs) b (o + 0)) $ fsplit ! $ drop ! $
       use1 W (‵ (row R s rs b (o + 0))) (to-rows rs (o + 0)) $ keep ! (0 ∷ 2 ∷ []) $ done !)
 
-  pub bench-back : (rs : List Row) → length rs ≡ 4 → ent 𝓤 (sep 𝓤 (sem 𝓤 H A (row R s rs b (o + 0))) Back) (guard 𝓤 (Is A4 (inner rs) (vals4 rs)) (sem 𝓤 H A (cellAt s (Bn .mir) (valsB n rs) b o)))
+  pub bench-back : (rs : List HeldRow) → length rs ≡ 4 → ent 𝓤 (sep 𝓤 (sem 𝓤 H A (row R s rs b (o + 0))) Back) (guard 𝓤 (Is A4 (inner rs) (vals4 rs)) (sem 𝓤 H A (cellAt s (Bn .mir) (valsB n rs) b o)))
   unfolding partOf
   bench-back rs long =
       qed W (‵ (row R s rs b (o + 0)) ∷ raw Back ∷ []) ∵ use1 W (‵ (row (F .row) s (inner rs) b (o + 0))) (of-rows rs (o + 0)) $
@@ -169,7 +169,7 @@ within : (i n : ℕ) → i ≤ 3 → n ≡ 4 → i < n
 within i n l e = omega arith
 
 module _ {M : Type 1} {𝓤 : URA M} {H : Heap 𝓤} {A : Atoms 𝓤} {K : Type 0} {W : Given 𝓤 H A} {Γ : List (Item 𝓤)} {G : Goal 𝓤 H} where
-  pub opens-row : K → Soaks G → {κ : Lft} {q : Share} {γ : GName} (b o : ℕ) (n : Rest) (rs : List Row) (i : ℕ) → i ≤ 3
+  pub opens-row : K → Soaks G → {κ : Lft} {q : Share} {γ : GName} (b o : ℕ) (n : Rest) (rs : List HeldRow) (i : ℕ) → i ≤ 3
       → (Is Bn (bn n rs) (valsB n rs) → Is R (getD rs i noRow) (valsR (getD rs i noRow))
       → Seq K W (‵ (cellAt fullShare (R .mir) (valsR (getD rs i noRow)) b (place (mem R .size) (o + 0) i)) ∷ ‵ (R .own (getD rs i noRow) (valsR (getD rs i noRow))) ∷ ‵ (others (shares R) fullShare rs i b (o + 0)) ∷ raw (Back 𝓤 H A W fullShare b o n) ∷ ‵ (fobor κ q (Body (mem Bn) b o γ)) ∷ ‵ (fobs γ (Bn .coded .code (bn n rs))) ∷ ‵ (fauth γ (Bn .coded .code (bn n rs))) ∷ Γ) G)
       → Seq K W (‵ (fobs γ (Bn .coded .code (bn n rs))) ∷ ‵ (fbor κ (Body (mem Bn) b o γ)) ∷ ‵ (flft κ q) ∷ Γ) G
@@ -179,7 +179,7 @@ module _ {M : Type 1} {𝓤 : URA M} {H : Heap 𝓤} {A : Atoms 𝓤} {K : Type 
       use2 W (‵ (row R fullShare rs b (o + 0)) ⊛ raw (Back 𝓤 H A W fullShare b o n)) (bench-out 𝓤 H A W fullShare b o n rs) $ split t $
       elem-out t R (Is R) (shows 𝓤 H A R) valsR (LL.tells S.the-type S′.the-laws) fullShare rs i noRow b (o + 0) (within i (length rs) l (four rs (opened n rs was))) (k was)))
 
-  pub closes-row : K → Soaks G → {κ : Lft} {q : Share} {γ : GName} (b o : ℕ) (n : Rest) (rs : List Row) (i : ℕ) → i ≤ 3 → Is Bn (bn n rs) (valsB n rs) → (r : Row) (v : Val) → Is R r (v ∷ [])
+  pub closes-row : K → Soaks G → {κ : Lft} {q : Share} {γ : GName} (b o : ℕ) (n : Rest) (rs : List HeldRow) (i : ℕ) → i ≤ 3 → Is Bn (bn n rs) (valsB n rs) → (r : HeldRow) (v : Val) → Is R r (v ∷ [])
       → Step K W (‵ (fobs γ (Bn .coded .code (bn n (set rs i r)))) ∷ ‵ (fbor κ (Body (mem Bn) b o γ)) ∷ ‵ (flft κ q) ∷ Γ) G
       (‵ (cellAt fullShare (R .mir) (v ∷ []) b (place (mem R .size) (o + 0) i)) ∷ ‵ (others (shares R) fullShare rs i b (o + 0)) ∷ raw (Back 𝓤 H A W fullShare b o n) ∷ ‵ (fobor κ q (Body (mem Bn) b o γ)) ∷ ‵ (fobs γ (Bn .coded .code (bn n rs))) ∷ ‵ (fauth γ (Bn .coded .code (bn n rs))) ∷ Γ) G
   closes-row t z b o n rs i l was r v isr = step (λ s.
@@ -188,7 +188,7 @@ module _ {M : Type 1} {𝓤 : URA M} {H : Heap 𝓤} {A : Atoms 𝓤} {K : Type 
       use2 W (given (Is A4 (inner (set rs i r)) (vals4 (set rs i r))) (‵ (cellAt fullShare (Bn .mir) (valsB n (set rs i r)) b o))) (bench-back 𝓤 H A W fullShare b o n (set rs i r) (length-set rs i r ∙ four rs (opened n rs was))) $ learn t (λ is4.
       owned t Bn (Is Bn) ((LL.makes B.the-type B′.the-plain) 𝓤 H A) (bn n (set rs i r)) _ (shut n rs (set rs i r) was is4) $ move t (1 ∷ 0 ∷ []) $ closes t z Bn (bn n (set rs i r)) (valsB n (set rs i r)) b o $ s))
 
-  pub looks-row : K → Soaks G → {κ : Lft} {q : Share} (b o : ℕ) (n : Rest) (rs : List Row) (i : ℕ) → i ≤ 3
+  pub looks-row : K → Soaks G → {κ : Lft} {q : Share} (b o : ℕ) (n : Rest) (rs : List HeldRow) (i : ℕ) → i ≤ 3
       → ((s : Share) → Is Bn (bn n rs) (valsB n rs) → Is R (getD rs i noRow) (valsR (getD rs i noRow))
       → Seq K W (‵ (cellAt s (R .mir) (valsR (getD rs i noRow)) b (place (mem R .size) (o + 0) i)) ∷ ‵ (R .own (getD rs i noRow) (valsR (getD rs i noRow))) ∷ ‵ (others (shares R) s rs i b (o + 0)) ∷ raw (Back 𝓤 H A W s b o n) ∷ ‵ (fobor κ q (partAt Bn s (bn n rs) b o)) ∷ ‵ (fshr-bor κ (λ s. partAt Bn s (bn n rs) b o)) ∷ Γ) G)
       → Seq K W (‵ (fshr-bor κ (λ s. partAt Bn s (bn n rs) b o)) ∷ ‵ (flft κ q) ∷ Γ) G
@@ -199,7 +199,7 @@ module _ {M : Type 1} {𝓤 : URA M} {H : Heap 𝓤} {A : Atoms 𝓤} {K : Type 
       use2 W (‵ (row R s rs b (o + 0)) ⊛ raw (Back 𝓤 H A W s b o n)) (bench-out 𝓤 H A W s b o n rs) $ split t $
       elem-out t R (Is R) (shows 𝓤 H A R) valsR (LL.tells S.the-type S′.the-laws) s rs i noRow b (o + 0) (within i (length rs) l (four rs (opened n rs was))) (k s was)))
 
-  pub shuts-row : K → Soaks G → {κ : Lft} {q : Share} (s : Share) (b o : ℕ) (n : Rest) (rs : List Row) (i : ℕ) → i ≤ 3 → Is Bn (bn n rs) (valsB n rs)
+  pub shuts-row : K → Soaks G → {κ : Lft} {q : Share} (s : Share) (b o : ℕ) (n : Rest) (rs : List HeldRow) (i : ℕ) → i ≤ 3 → Is Bn (bn n rs) (valsB n rs)
       → Step K W (‵ (flft κ q) ∷ ‵ (fshr-bor κ (λ s. partAt Bn s (bn n rs) b o)) ∷ Γ) G
       (‵ (cellAt s (R .mir) (valsR (getD rs i noRow)) b (place (mem R .size) (o + 0) i)) ∷ ‵ (R .own (getD rs i noRow) (valsR (getD rs i noRow))) ∷ ‵ (others (shares R) s rs i b (o + 0)) ∷ raw (Back 𝓤 H A W s b o n) ∷ ‵ (fobor κ q (partAt Bn s (bn n rs) b o)) ∷ ‵ (fshr-bor κ (λ s. partAt Bn s (bn n rs) b o)) ∷ Γ) G
   shuts-row t z s b o n rs i l was = step (λ k.

@@ -7,7 +7,7 @@ use Rattle.jobs.specs.declared.types.JobRequest.{JobRequest}
 use Rattle.rows.specs.declared.types.RowAnswer.{RowAnswer}
 use Rattle.rows.specs.Calls.{admitRowOf}
 use Rattle.bench.specs.declared.types.Bench.{Bench}
-use Rattle.bench.specs.Benches.{rowAt, withRow}
+use Rattle.bench.specs.Benches.{heldAt, withHeld}
 use Rattle.bench.specs.Refusals.{admitRefusals}
 use Rattle.bench.specs.Calls.{admitNumber, admittedBench}
 use Rattle.records.specs.declared.types.RequestRecord.{RequestRecord}
@@ -28,14 +28,14 @@ module _ (b : Bench) (place : ℕ) where
       by true e = (e ∙ admit-past b place h request .0, admit-past b place h request .1)
       by false e = (e, refl)
 
-  pub record-there : place ≤ 3 → (q : RequestRecord) (r : RowAnswer) → r ≡ recordRowOf (rowAt b place) place q → (r .number ≡ admitRecordNumber b place q) × (withRow b place (r .row) ≡ admittedRecordBench b place q)
+  pub record-there : place ≤ 3 → (q : RequestRecord) (r : RowAnswer) → r ≡ recordRowOf (heldAt b place) place q → (r .number ≡ admitRecordNumber b place q) × (withHeld b place (r .row) ≡ admittedRecordBench b place q)
   unfolding recordRowOf
   record-there h q r e = by (isRequest q) e
     where
       request : JobRequest
       request = requestOf q
 
-      by : (t : Bool) → r ≡ cond t (admitRowOf (rowAt b place) place request) (record { row = rowAt b place; number = 1 }) →
-          (r .number ≡ cond t (admitNumber b place request) 1) × (withRow b place (r .row) ≡ cond t (admittedBench b place request) b)
+      by : (t : Bool) → r ≡ cond t (admitRowOf (heldAt b place) place request) (record { row = heldAt b place; number = 1 }) →
+          (r .number ≡ cond t (admitNumber b place request) 1) × (withHeld b place (r .row) ≡ cond t (admittedBench b place request) b)
       by true e = admitted-there b place h request r e
-      by false e = (ap (λ (z : RowAnswer). z .number) e, ap (λ (z : RowAnswer). withRow b place (z .row)) e ∙ same-row b place)
+      by false e = (ap (λ (z : RowAnswer). z .number) e, ap (λ (z : RowAnswer). withHeld b place (z .row)) e ∙ same-row b place)

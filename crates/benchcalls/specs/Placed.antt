@@ -19,27 +19,35 @@ use Rattle.runs.specs.Rows.{admitted, resultOf}
 use Rattle.runs.specs.Turn.{turned}
 use Rattle.runs.specs.Cleared.{cleared}
 use Rattle.bench.specs.declared.types.Bench.{Bench}
-use Rattle.bench.specs.Benches.{zeroRow, noRow, rowAt, withRow}
+use Rattle.held.specs.RowFrom.{rowFrom, Long}
+use Rattle.held.specs.RowBack.{held-back, one-row}
+use Rattle.held.specs.Written.{heldFrom}
+use Rattle.held.specs.declared.types.HeldRow.{HeldRow}
+use Rattle.bench.specs.Benches.{zeroRow, noRow, heldAt, withHeld, rowAt, withRow}
 use Rattle.bench.specs.Refusals.{noPlace, admitRefusals}
 use Rattle.bench.specs.Calls.{isVacant, rowReleaseRefusals, admitNumber, admittedBench, turnNumber, turnedBench, scratchAfter, fetchNumber, fetchedResult, releaseNumber, releasedBench}
 use Rattle.rows.specs.declared.types.Fetched.{Fetched}
 use Rattle.rows.specs.declared.types.RowAnswer.{RowAnswer}
-use Rattle.rows.specs.Calls.{answered, turnRowNumber, turnRowOf, scratchOf, admitRowNumber, admitRowOf, fetchRowNumber, fetchRowOf, releaseRowOf}
+use Rattle.rows.specs.Calls.{answered, turnRowNumber, turnedRow, scratchOf, admitRowNumber, admitRowOf, fetchRowNumber, fetchRowOf, releaseRowOf}
 
 -- an entry that is put back where it stands
-put-back : (rs : List Row) (i : ℕ) → set rs i (getD rs i noRow) ≡ rs
+put-back : (rs : List HeldRow) (i : ℕ) → set rs i (getD rs i noRow) ≡ rs
 put-back [] i = refl
 put-back (r ∷ rs) zero = refl
-put-back (r ∷ rs) (suc i) = ap (λ (l : List Row). r ∷ l) (put-back rs i)
+put-back (r ∷ rs) (suc i) = ap (λ (l : List HeldRow). r ∷ l) (put-back rs i)
 
 module _ (b : Bench) (place : ℕ) where
-  pub same-row : withRow b place (rowAt b place) ≡ b
-  same-row = ap {B = Bench} (λ (rs : List Row). record { rows = rs }) (put-back (b .rows) place)
+  pub same-row : withHeld b place (heldAt b place) ≡ b
+  same-row = ap {B = Bench} (λ (rs : List HeldRow). record { rows = rs }) (put-back (b .rows) place)
 
   -- the row as a refused call leaves it, stored, is the bench as it was
-  stored : (n : ℕ) (new : Row) → withRow b place (unlessRefused n new (rowAt b place)) ≡ unlessRefused n (withRow b place new) b
+  stored : (n : ℕ) (new : Row) → withHeld b place (unlessRefused n (heldFrom new) (heldAt b place)) ≡ unlessRefused n (withRow b place new) b
   stored zero new = refl
   stored (suc n) new = same-row
+
+  -- what `turn` says of the number r, the bench z and scratch u, out of the scratch s
+  abbrev pub Turned : List Float → ℕ → Bench → List Float → Type 0
+  Turned s r z u = (r ≡ turnNumber b place (length s)) × (z ≡ turnedBench b place (length s)) × (u ≡ scratchAfter b place s)
 
   module _ (h : 3 < place) where
     none : noPlace place ≡ true
@@ -49,11 +57,8 @@ module _ (b : Bench) (place : ℕ) where
     unfolding turnNumber
     no-turn n = rw none
 
-    pub turn-past : (n : ℕ) → (2 ≡ turnNumber b place n) × (b ≡ turnedBench b place n)
-    turn-past n = (sym (no-turn n), rw (no-turn n))
-
-    pub scratch-past : (s : List Float) → s ≡ scratchAfter b place s
-    scratch-past s = rw (no-turn (length s))
+    pub turn-past : (s : List Float) → Turned s 2 b s
+    turn-past s = (sym (no-turn (length s)), rw (no-turn (length s)), rw (no-turn (length s)))
 
     no-fetch : fetchNumber b place ≡ 2
     unfolding fetchNumber
@@ -108,29 +113,39 @@ module _ (b : Bench) (place : ℕ) where
     admit-at request = refl
 
     -- what the row's answer says, the bench's call says
-    placed : (n m : ℕ) (new : Row) (r : RowAnswer) → m ≡ n → r ≡ answered n new (rowAt b place) → (r .number ≡ m) × (withRow b place (r .row) ≡ unlessRefused m (withRow b place new) b)
+    placed : (n m : ℕ) (new : Row) (r : RowAnswer) → m ≡ n → r ≡ answered n new (heldAt b place) → (r .number ≡ m) × (withHeld b place (r .row) ≡ unlessRefused m (withRow b place new) b)
     placed n m new r e a = (
       ap (λ (z : RowAnswer). z .number) a ∙ sym e,
-      ap (λ (z : RowAnswer). withRow b place (z .row)) a ∙ stored n new ∙ ap (λ (k : ℕ). unlessRefused k (withRow b place new) b) (sym e),
+      ap (λ (z : RowAnswer). withHeld b place (z .row)) a ∙ stored n new ∙ ap (λ (k : ℕ). unlessRefused k (withRow b place new) b) (sym e),
     )
 
-    pub turned-there : (n : ℕ) (r : RowAnswer) → r ≡ turnRowOf (rowAt b place) n → (r .number ≡ turnNumber b place n) × (withRow b place (r .row) ≡ turnedBench b place n)
-    unfolding turnRowOf
-    turned-there n r a = placed (turnRowNumber n (rowAt b place)) (turnNumber b place n) (turned (rowAt b place)) r (turn-at n) a
+    -- the row's arrays as a turn leaves them: they are those that the row is written as
+    as-written : (n : ℕ) (z : HeldRow) → Long (heldAt b place) → Long z → rowFrom z ≡ unlessRefused n (turned (rowAt b place)) (rowAt b place) →
+        z ≡ unlessRefused n (heldFrom (turned (rowAt b place))) (heldAt b place)
+    as-written zero z l m e = sym (held-back z m) ∙ ap heldFrom e
+    as-written (suc n) z l m e = one-row z (heldAt b place) m l e
 
-    pub scratch-there : (s : List Float) → scratchOf (rowAt b place) s ≡ scratchAfter b place s
-    unfolding scratchOf
-    scratch-there s = ap (λ (k : ℕ). unlessRefused k (cleared s) s) (sym (turn-at (length s)))
+    pub turned-there : (s u : List Float) (r : ℕ) (z : HeldRow) → Long (heldAt b place) → Long z →
+        (r ≡ turnRowNumber (length s) (rowAt b place)) × (rowFrom z ≡ turnedRow (rowAt b place) (length s)) × (u ≡ scratchOf (rowAt b place) s) →
+        Turned s r (withHeld b place z) u
+    unfolding turnedRow scratchOf
+    turned-there s u r z l m e =
+        let n = turnRowNumber (length s) (rowAt b place) in
+        let same = sym (turn-at (length s)) in (
+          e .0 ∙ same,
+          ap (λ (x : HeldRow). withHeld b place x) (as-written n z l m (e .1)) ∙ stored n (turned (rowAt b place)) ∙ ap (λ (k : ℕ). unlessRefused k (withRow b place (turned (rowAt b place))) b) same,
+          e .2 ∙ ap (λ (k : ℕ). unlessRefused k (cleared s) s) same,
+        )
 
-    pub admitted-there : (request : JobRequest) (r : RowAnswer) → r ≡ admitRowOf (rowAt b place) place request → (r .number ≡ admitNumber b place request) × (withRow b place (r .row) ≡ admittedBench b place request)
+    pub admitted-there : (request : JobRequest) (r : RowAnswer) → r ≡ admitRowOf (heldAt b place) place request → (r .number ≡ admitNumber b place request) × (withHeld b place (r .row) ≡ admittedBench b place request)
     unfolding admitRowOf
     admitted-there request r a = placed (admitRowNumber (rowAt b place) place request) (admitNumber b place request) (admitted (jobFrom request)) r (admit-at request) a
 
-    pub released-there : (r : RowAnswer) → r ≡ releaseRowOf (rowAt b place) → (r .number ≡ releaseNumber b place) × (withRow b place (r .row) ≡ releasedBench b place)
+    pub released-there : (r : RowAnswer) → r ≡ releaseRowOf (heldAt b place) → (r .number ≡ releaseNumber b place) × (withHeld b place (r .row) ≡ releasedBench b place)
     unfolding releaseRowOf
     released-there r a = placed (firstRefusal (rowReleaseRefusals (rowAt b place))) (releaseNumber b place) zeroRow r release-at a
 
-    pub fetched-there : (old : Result) (r : Fetched) → r ≡ fetchRowOf (rowAt b place) old → (r .number ≡ fetchNumber b place) × (r .result ≡ fetchedResult b place old)
+    pub fetched-there : (old : Result) (r : Fetched) → r ≡ fetchRowOf (heldAt b place) old → (r .number ≡ fetchNumber b place) × (r .result ≡ fetchedResult b place old)
     unfolding fetchRowOf
     fetched-there old r a = (
       ap (λ (z : Fetched). z .number) a ∙ sym fetch-at,

@@ -46,10 +46,24 @@ pub extern "C" fn turn(bench: &mut Bench, place: usize, scratch: &mut [f64]) -> 
     if place > 3 {
         return 2;
     }
-    let row = bench.rows[place];
-    let answer = rows::turn_row(row, scratch);
-    bench.rows[place] = answer.row;
-    answer.number
+    let row = &mut bench.rows[place];
+    rowslent::turn_parts(
+        &mut row.words,
+        &mut row.scalars,
+        &row.counts,
+        &row.numbers,
+        &mut row.surfaces,
+        &mut row.jacobian,
+        &mut row.values,
+        &mut row.residuals,
+        &mut row.plus_residuals,
+        &mut row.params,
+        &mut row.candidate,
+        &mut row.best_surfaces,
+        &mut row.best_values,
+        &mut row.best_residuals,
+        scratch,
+    )
 }
 
 // The result of a finished job; its row stays. 2, 11, 12 and 14.

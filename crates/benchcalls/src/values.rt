@@ -4,6 +4,7 @@ ghost use lib.ListN.{length};
 ghost use Rattle.bench.specs.Benches.{emptyBench};
 ghost use Rattle.bench.specs.Calls.{scratchAfter};
 ghost use Rattle.benchcalls.specs.Values.{admittedOf, turnedOf, fetchedOf, releasedOf};
+use crate::play;
 use crate::types::BenchAnswer;
 use bench::Bench;
 use jobs::JobRequest;
@@ -39,23 +40,15 @@ pub fn admitted(bench: Bench, place: usize, request: JobRequest) -> BenchAnswer
     }
 }
 
+// One of the turns that are played: no row is copied for it.
 pub fn turned(bench: Bench, place: usize, scratch: &mut [f64]) -> BenchAnswer
     ensures { λ r. ⌜ (r ≡ turnedOf bench place (length (now (scratch .entry)))) × (now (scratch .exit) ≡ scratchAfter bench place (now (scratch .entry))) ⌝ }
 {
-    if place > 3 {
-        return BenchAnswer {
-            bench: bench,
-            number: 2,
-        };
-    }
-    let row = bench.rows[place];
-    let answer = rows::turn_row(row, scratch);
-    let mut next = bench;
-    let left = answer.row;
-    next.rows[place] = left;
+    let played = play::play_turns(bench, place, 1, scratch);
+    let left = played.bench;
     BenchAnswer {
-        bench: next,
-        number: answer.number,
+        bench: left,
+        number: played.number,
     }
 }
 

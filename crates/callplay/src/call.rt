@@ -161,7 +161,7 @@ fn fetch(
 
 // A fetch that is done is one of the four places.
 fn put_fetched(out: &mut [u8], waiting: Waiting, bench: Bench, place: usize) -> Waiting {
-    let none = rows::zero_row().best;
+    let none = global::zero_result();
     let fetched = benchcalls::fetched(bench, place, none);
     if fetched.number > 0 {
         return put_call(out, waiting, b"F", fetched.number);
@@ -170,12 +170,13 @@ fn put_fetched(out: &mut [u8], waiting: Waiting, bench: Bench, place: usize) -> 
     let waiting = output::put(out, waiting, b"F 0");
     let waiting = answers::put_outcome(out, waiting, found);
     let row = bench.rows[place % 4];
+    let counts = row.counts;
     let waiting = answers::put_lens(
         out,
         waiting,
         found,
-        row.job.surface_count as usize,
-        row.job.operand_count as usize,
+        held::surface_count(&counts),
+        held::operand_count(&counts),
     );
     output::put(out, waiting, b"\n")
 }

@@ -113,8 +113,8 @@ pub(crate) fn examine_all(buf: &mut [u8], out: &mut [u8]) {
 
 // The row at place 0.
 fn first_row(bench: Bench) -> Row {
-    let row = bench.rows[0];
-    row
+    let held = bench.rows[0];
+    held::row_of(held)
 }
 
 // The bench after so many turns of place 0, or as many as there are.

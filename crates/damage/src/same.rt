@@ -1,5 +1,6 @@
 // Values compared bit by bit; every NaN is one.
 use bench::Bench;
+use held::HeldRow;
 use jobs::JobRecord;
 use jobs::OperandRecord;
 use jobs::SettingsRecord;
@@ -223,7 +224,7 @@ fn same_counters(a: Row, b: Row) -> bool {
         && same_float(a.current_merit, b.current_merit)
 }
 
-fn same_rows(a: Row, b: Row) -> bool {
+fn same_read(a: Row, b: Row) -> bool {
     let job_a = a.job;
     let job_b = b.job;
     let damped_a = a.damped;
@@ -234,6 +235,10 @@ fn same_rows(a: Row, b: Row) -> bool {
         && same_jobs(job_a, job_b)
         && same_damped(damped_a, damped_b)
         && same_results(best_a, best_b)
+}
+
+fn same_rows(a: HeldRow, b: HeldRow) -> bool {
+    same_read(held::row_of(a), held::row_of(b))
 }
 
 pub(crate) fn same_benches(a: Bench, b: Bench) -> bool {

@@ -9,19 +9,21 @@ use runs::Row;
 
 fn with_row(bench: Bench, place: usize, row: Row) -> Bench {
     let mut b = bench;
-    b.rows[place % 4] = row;
+    let held = held::held_of(row);
+    b.rows[place % 4] = held;
     b
 }
 
 fn row_of(bench: Bench, place: usize) -> Row {
-    let row = bench.rows[place % 4];
-    row
+    let held = bench.rows[place % 4];
+    held::row_of(held)
 }
 
 // The changed row at its place, finished ones at the others.
 fn bench_with(case: Case, changed: Row) -> Bench {
     let finished = case.finished;
-    let rows = [finished; 4];
+    let held = held::held_of(finished);
+    let rows = [held; 4];
     with_row(Bench { rows: rows }, case.place, changed)
 }
 

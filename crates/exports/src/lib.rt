@@ -16,7 +16,7 @@ pub use lent::lens_trace_limits;
 pub extern "C" fn lens_abi() -> u32
     ensures { λ r. ⌜ r ≡ abiNumber ⌝ }
 {
-    2
+    3
 }
 
 #[no_mangle]

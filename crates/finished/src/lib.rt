@@ -1,10 +1,19 @@
 // The finished places by working turns used, fewest first, equal ones by rising place (request 10).
 ghost use mathlib.Core.Path.{_≡_};
 ghost use Prim.Native.Nat.{_≤_};
+ghost use Rattle.held.specs.RowFrom.{turnsFrom};
 ghost use Rattle.bench.specs.Calls.{listingOf};
 ghost use Rattle.finished.specs.Inserted.{turnsOf, turnsIn, positionFrom, entryOpened, openedAt};
 use bench::Bench;
 use bench::Finished;
+use held::HeldRow;
+
+fn row_turns(held: HeldRow) -> u64
+    ensures { λ r. ⌜ r ≡ turnsFrom (held .words) ⌝ }
+{
+    let words = held.words;
+    held::turns(&words)
+}
 
 // Each place's working turns.
 fn turns_of(bench: Bench) -> [u64; 4]
@@ -14,7 +23,12 @@ fn turns_of(bench: Bench) -> [u64; 4]
     let second = bench.rows[1];
     let third = bench.rows[2];
     let fourth = bench.rows[3];
-    [first.turns, second.turns, third.turns, fourth.turns]
+    [
+        row_turns(first),
+        row_turns(second),
+        row_turns(third),
+        row_turns(fourth),
+    ]
 }
 
 fn turns_at(turns: [u64; 4], place: usize) -> u64

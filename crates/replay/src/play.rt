@@ -18,7 +18,8 @@ fn with_pending(hash: u64, bench: Bench, place: usize) -> u64
     let row = bench.rows[place];
     let pending = rows::pending_of(row);
     let surfaces = pending.surfaces;
-    let h = answers::with_surfaces(hash, surfaces, row.job.surface_count as usize);
+    let counts = row.counts;
+    let h = answers::with_surfaces(hash, surfaces, held::surface_count(&counts));
     answers::with_float(h, pending.merit)
 }
 

@@ -1,4 +1,4 @@
--- What a call on the row of one place leaves and answers: the bench's definitions, of that row. Definitions only.
+-- What a call on the held row of one place leaves and answers: the bench's definitions, of that row. Definitions only.
 use Prim.Native.Nat.{ℕ}
 use mathlib.Core.Bool.{Bool, not}
 use mathlib.Core.List.{List, [], _∷_}
@@ -18,6 +18,9 @@ use Rattle.runs.specs.JobMerit.{evaluateOf}
 use Rattle.runs.specs.Turn.{turned}
 use Rattle.runs.specs.Zeros.{zeroSurfaces}
 use Rattle.runs.specs.Cleared.{cleared}
+use Rattle.held.specs.RowFrom.{rowFrom}
+use Rattle.held.specs.Written.{heldFrom}
+use Rattle.held.specs.declared.types.HeldRow.{HeldRow}
 use Rattle.bench.specs.Benches.{zeroRow}
 use Rattle.bench.specs.Refusals.{admitRefusals}
 use Rattle.bench.specs.Calls.{isVacant, rowTurnRefusals, rowFetchRefusals, rowReleaseRefusals}
@@ -26,8 +29,8 @@ use Rattle.rows.specs.declared.types.Pending.{Pending}
 use Rattle.rows.specs.declared.types.RowAnswer.{RowAnswer}
 
 -- a row changed unless a number refuses it
-abbrev pub answered : (number : ℕ) (new old : Row) → RowAnswer
-answered n new old = record { row = unlessRefused n new old; number = n }
+abbrev pub answered : (number : ℕ) (new : Row) (old : HeldRow) → RowAnswer
+answered n new old = record { row = unlessRefused n (heldFrom new) old; number = n }
 
 -- 11 and 12, which turn and fetch have in common
 abbrev pub usableNumber : Row → ℕ
@@ -36,8 +39,8 @@ usableNumber r = firstRefusal (refusal 11 (isVacant r) ∷ refusal 12 (damaged r
 unfoldable pub turnRowNumber : (length : ℕ) → Row → ℕ
 turnRowNumber n r = firstRefusal (rowTurnRefusals n r)
 
-unfoldable pub turnRowOf : Row → (length : ℕ) → RowAnswer
-turnRowOf r n = answered (turnRowNumber n r) (turned r) r
+unfoldable pub turnedRow : Row → (length : ℕ) → Row
+turnedRow r n = unlessRefused (turnRowNumber n r) (turned r) r
 
 unfoldable pub scratchOf : Row → List Float → List Float
 scratchOf r s = unlessRefused (turnRowNumber (length s) r) (cleared s) s
@@ -45,17 +48,17 @@ scratchOf r s = unlessRefused (turnRowNumber (length s) r) (cleared s) s
 unfoldable pub admitRowNumber : Row → (place : ℕ) → JobRequest → ℕ
 admitRowNumber r place request = firstRefusal (admitRefusals place request (not (isVacant r)))
 
-unfoldable pub admitRowOf : Row → (place : ℕ) → JobRequest → RowAnswer
-admitRowOf r place request = answered (admitRowNumber r place request) (admitted (jobFrom request)) r
+unfoldable pub admitRowOf : HeldRow → (place : ℕ) → JobRequest → RowAnswer
+admitRowOf h place request = answered (admitRowNumber (rowFrom h) place request) (admitted (jobFrom request)) h
 
 unfoldable pub fetchRowNumber : Row → ℕ
 fetchRowNumber r = firstRefusal (rowFetchRefusals r)
 
-unfoldable pub fetchRowOf : Row → (old : Result) → Fetched
-fetchRowOf r old = record { result = unlessRefused (fetchRowNumber r) (resultOf r) old; number = fetchRowNumber r }
+unfoldable pub fetchRowOf : HeldRow → (old : Result) → Fetched
+fetchRowOf h old = record { result = unlessRefused (fetchRowNumber (rowFrom h)) (resultOf (rowFrom h)) old; number = fetchRowNumber (rowFrom h) }
 
-unfoldable pub releaseRowOf : Row → RowAnswer
-releaseRowOf r = answered (firstRefusal (rowReleaseRefusals r)) zeroRow r
+unfoldable pub releaseRowOf : HeldRow → RowAnswer
+releaseRowOf h = answered (firstRefusal (rowReleaseRefusals (rowFrom h))) zeroRow h
 
 -- the surfaces whose merit a turn works out, and that merit
 unfoldable pub pendingOf : Row → Pending

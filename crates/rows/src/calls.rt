@@ -1,17 +1,18 @@
-// The calls on the row of one place, by value: the row that each leaves, and its number.
+// The calls on the held row of one place, by value: the row that each leaves, and its number.
 ghost use mathlib.Core.Path.{_≡_};
 ghost use lib.ListN.{length};
 ghost use Rattle.lists.specs.Refusals.{firstRefusal};
 ghost use Rattle.runs.specs.Rows.{jobOfRow};
 ghost use Rattle.bench.specs.Refusals.{admitRefusals};
+ghost use Rattle.held.specs.RowFrom.{rowFrom};
 ghost use Rattle.bench.specs.Calls.{isListed};
-ghost use Rattle.rows.specs.Calls.{usableNumber, turnRowNumber, fetchRowNumber, turnRowOf, scratchOf, admitRowOf, fetchRowOf, releaseRowOf, pendingOf};
-use crate::advance;
+ghost use Rattle.rows.specs.Calls.{usableNumber, turnRowNumber, fetchRowNumber, admitRowOf, fetchRowOf, releaseRowOf, pendingOf};
 use crate::pending;
 use crate::types::Fetched;
 use crate::types::Pending;
 use crate::types::RowAnswer;
 use crate::zeros;
+use held::HeldRow;
 use jobs::Job;
 use jobs::JobRequest;
 use runs::OptimizationResult;
@@ -50,29 +51,15 @@ fn turn_number(row: Row, job: Job, length: usize) -> u32
     0
 }
 
-// A turn.
-pub fn turn_row(row: Row, scratch: &mut [f64]) -> RowAnswer
-    ensures { λ r. ⌜ (r ≡ turnRowOf row (length (now (scratch .entry)))) × (now (scratch .exit) ≡ scratchOf row (now (scratch .entry))) ⌝ }
+// What a turn of the row would work out, with scratch enough.
+pub fn pending_of(held: HeldRow) -> Pending
+    ensures { λ r. ⌜ r ≡ pendingOf (rowFrom held) ⌝ }
 {
-    let held = row.job;
-    let job = jobs::job_of(row.kind, held);
-    let refused = turn_number(row, job, scratch.len());
-    if refused > 0 {
-        return RowAnswer {
-            row: row,
-            number: refused,
-        };
-    }
-    let next = advance::turned(job, row, scratch);
-    global::zero_first(scratch);
-    RowAnswer {
-        row: next,
-        number: 0,
-    }
+    let row = held::row_of(held);
+    pending_of_row(row)
 }
 
-// What a turn of the row would work out, with scratch enough.
-pub fn pending_of(row: Row) -> Pending
+fn pending_of_row(row: Row) -> Pending
     ensures { λ r. ⌜ r ≡ pendingOf row ⌝ }
 {
     let held = row.job;
@@ -117,21 +104,23 @@ pub fn admit_number(place: usize, taken: bool, request: JobRequest) -> u32
 }
 
 // An admission to the place that holds the row.
-pub fn admit_row(row: Row, place: usize, request: JobRequest) -> RowAnswer
-    ensures { λ r. ⌜ r ≡ admitRowOf row place request ⌝ }
+pub fn admit_row(held: HeldRow, place: usize, request: JobRequest) -> RowAnswer
+    ensures { λ r. ⌜ r ≡ admitRowOf held place request ⌝ }
 {
-    let number = admit_number(place, row.kind != 0, request);
+    let words = held.words;
+    let number = admit_number(place, held::kind(&words) != 0, request);
     if number > 0 {
         return RowAnswer {
-            row: row,
+            row: held,
             number: number,
         };
     }
     let job = jobs::job_from(request);
-    let held = jobs::record_of(job);
-    let admitted = global::began(held, job);
+    let record = jobs::record_of(job);
+    let admitted = global::began(record, job);
+    let left = held::held_of(admitted);
     RowAnswer {
-        row: admitted,
+        row: left,
         number: 0,
     }
 }
@@ -153,11 +142,12 @@ fn fetch_number(row: Row, job: Job) -> u32
 }
 
 // The result of the row's run, or `old` where the fetch is refused.
-pub fn fetch_row(row: Row, old: OptimizationResult) -> Fetched
-    ensures { λ r. ⌜ r ≡ fetchRowOf row old ⌝ }
+pub fn fetch_row(held: HeldRow, old: OptimizationResult) -> Fetched
+    ensures { λ r. ⌜ r ≡ fetchRowOf held old ⌝ }
 {
-    let held = row.job;
-    let job = jobs::job_of(row.kind, held);
+    let row = held::row_of(held);
+    let record = row.job;
+    let job = jobs::job_of(row.kind, record);
     let number = fetch_number(row, job);
     if number > 0 {
         return Fetched {
@@ -173,12 +163,13 @@ pub fn fetch_row(row: Row, old: OptimizationResult) -> Fetched
 }
 
 // A release.
-pub fn release_row(row: Row) -> RowAnswer
-    ensures { λ r. ⌜ r ≡ releaseRowOf row ⌝ }
+pub fn release_row(held: HeldRow) -> RowAnswer
+    ensures { λ r. ⌜ r ≡ releaseRowOf held ⌝ }
 {
-    if row.kind == 0 {
+    let words = held.words;
+    if held::kind(&words) == 0 {
         return RowAnswer {
-            row: row,
+            row: held,
             number: 11,
         };
     }
@@ -190,10 +181,11 @@ pub fn release_row(row: Row) -> RowAnswer
 }
 
 // Whether the listing has the row's place.
-pub fn is_listed(row: Row) -> bool
-    ensures { λ r. ⌜ r ≡ isListed row ⌝ }
+pub fn is_listed(held: HeldRow) -> bool
+    ensures { λ r. ⌜ r ≡ isListed (rowFrom held) ⌝ }
 {
-    let held = row.job;
-    let job = jobs::job_of(row.kind, held);
+    let row = held::row_of(held);
+    let record = row.job;
+    let job = jobs::job_of(row.kind, record);
     fetch_number(row, job) == 0
 }

@@ -1,5 +1,4 @@
 // One row: admitted, turned, fetched from, released, listed (out of dls.rs and global.rs, and 01's bench).
-mod advance;
 mod calls;
 mod pending;
 mod types;
@@ -11,7 +10,6 @@ pub use calls::fetch_row;
 pub use calls::is_listed;
 pub use calls::pending_of;
 pub use calls::release_row;
-pub use calls::turn_row;
 pub use types::Fetched;
 pub use types::Pending;
 pub use types::RowAnswer;

@@ -1,11 +1,11 @@
 // What a call on one row answers. The big field stands first.
+use held::HeldRow;
 use optics::OpticalSurface;
 use runs::OptimizationResult;
-use runs::Row;
 
 // The row that a call leaves, and 01's number, 0 where the call is done.
 pub struct RowAnswer {
-    pub row: Row,
+    pub row: HeldRow,
     pub number: u32,
 }
 

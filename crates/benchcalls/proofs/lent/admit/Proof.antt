@@ -43,9 +43,9 @@ use denote.Triple.Walked.{says, Stays, stay-ref, stay-none, walkOf, AllGo, goes-
 use denote.Exit.{yes}
 use Rattle.lists.specs.Refusals.{firstRefusal}
 use Rattle.jobs.specs.declared.types.JobRequest.{JobRequest}
-use Rattle.runs.specs.declared.types.Row.{Row}
+use Rattle.held.specs.declared.types.HeldRow.{HeldRow}
 use Rattle.bench.specs.declared.types.Bench.{Bench}
-use Rattle.bench.specs.Benches.{noRow, rowAt, withRow}
+use Rattle.bench.specs.Benches.{noRow, heldAt, withHeld}
 use Rattle.bench.specs.Refusals.{admitRefusals}
 use Rattle.bench.specs.Calls.{admitNumber, admittedBench}
 use Rattle.rows.specs.declared.types.RowAnswer.{RowAnswer}
@@ -53,8 +53,8 @@ use Rattle.rows.specs.Calls.{admitRowOf}
 use Rattle.benchcalls.specs.Placed.{admit-past, admitted-there}
 use Rattle.jobs.proofs.types.JobRequest as Q
 use Rattle.jobs.proofs.types.JobRequest.Laws as Q′
-use Rattle.runs.proofs.types.Row as S
-use Rattle.runs.proofs.types.Row.Laws as S′
+use Rattle.held.proofs.types.HeldRow as S
+use Rattle.held.proofs.types.HeldRow.Laws as S′
 use Rattle.rows.proofs.types.RowAnswer as An
 use Rattle.rows.proofs.types.RowAnswer.Laws as An′
 use Rattle.benchcalls.proofs.Opened.{place-fits, row-size, Rest, rest-of, R, Bn, bn, valsR, valsB, in-parts, number-is, Back, opens-row, closes-row}
@@ -94,7 +94,7 @@ past b i rq r h e =
     let t = admit-past b i h rq in
     (e ∙ t .0, t .1)
 
-there : (b : Bench) (i : ℕ) (rq : JobRequest) (r : RowAnswer) → i ≤ 3 → r ≡ admitRowOf (rowAt b i) i rq → Said b i rq (r .number) (withRow b i (r .row))
+there : (b : Bench) (i : ℕ) (rq : JobRequest) (r : RowAnswer) → i ≤ 3 → r ≡ admitRowOf (heldAt b i) i rq → Said b i rq (r .number) (withHeld b i (r .row))
 there b i rq r h e = admitted-there b i h rq r e
 
 -- ---- the contracts that the proof cites
@@ -102,7 +102,7 @@ module _ {M : Type 1} (𝓤 : URA M) (H : Heap 𝓤) (A : Atoms 𝓤) (at-mem : 
   abbrev AdmitRow : Contract 𝓤
   AdmitRow = tripleOf 𝓤 H A callee.signature (callee.spec 𝓤 H A at-mem run)
 
-  answer-of : (h : Row) (i : ℕ) (rq : JobRequest) (r : RowAnswer) → ent 𝓤 (ensured 𝓤 H A callee.ended (callee.clauses 𝓤 H A at-mem run) tt (h, (i, (rq, tt))) tt r) (fact 𝓤 (r ≡ admitRowOf h i rq))
+  answer-of : (h : HeldRow) (i : ℕ) (rq : JobRequest) (r : RowAnswer) → ent 𝓤 (ensured 𝓤 H A callee.ended (callee.clauses 𝓤 H A at-mem run) tt (h, (i, (rq, tt))) tt r) (fact 𝓤 (r ≡ admitRowOf h i rq))
   answer-of h i rq r = exE 𝓤 _ (λ ws. snd∗ 𝓤 (sem 𝓤 H A (lasts callee.ended tt (h, (i, (rq, tt))) ws)) (fact 𝓤 (r ≡ admitRowOf h i rq)))
 
   abbrev AdmitNumber : Contract 𝓤
@@ -111,7 +111,7 @@ module _ {M : Type 1} (𝓤 : URA M) (H : Heap 𝓤) (A : Atoms 𝓤) (at-mem : 
   number-of : (i : ℕ) (rq : JobRequest) (r : ℕ) → ent 𝓤 (ensured 𝓤 H A other.ended (other.clauses 𝓤 H A at-mem run) tt (i, (false, (rq, tt))) tt r) (fact 𝓤 (r ≡ firstRefusal (admitRefusals i rq false)))
   number-of i rq r = exE 𝓤 _ (λ ws. snd∗ 𝓤 (sem 𝓤 H A (lasts other.ended tt (i, (false, (rq, tt))) ws)) (fact 𝓤 (r ≡ firstRefusal (admitRefusals i rq false))))
 
-module _ {M : Type 1} (𝓤 : URA M) (H : Heap 𝓤) (A : Atoms 𝓤) (W : Given 𝓤 H A) (at-mem : Memory → SProp 𝓤) (run : Routine → Fun 𝓤) (κ : Lft) (q : Share) (b o : ℕ) (γ : GName) (k : Rest) (rs : List Row) (i : ℕ) (gi : i < 2 ^ 64) (rq : JobRequest) (isq : Is Rq rq (valsQ rq)) where
+module _ {M : Type 1} (𝓤 : URA M) (H : Heap 𝓤) (A : Atoms 𝓤) (W : Given 𝓤 H A) (at-mem : Memory → SProp 𝓤) (run : Routine → Fun 𝓤) (κ : Lft) (q : Share) (b o : ℕ) (γ : GName) (k : Rest) (rs : List HeldRow) (i : ℕ) (gi : i < 2 ^ 64) (rq : JobRequest) (isq : Is Rq rq (valsQ rq)) where
   abbrev x : Arg
   x = (record { ptr = (b, o); name = γ; now = bn k rs }, (i, (rq, tt)))
 
@@ -119,13 +119,13 @@ module _ {M : Type 1} (𝓤 : URA M) (H : Heap 𝓤) (A : Atoms 𝓤) (W : Given
   at = (vptr b o ∷ [], (vint w64 i ∷ [], (valsQ rq, tt)))
 
   -- the row at the place
-  abbrev h : Row
+  abbrev h : HeldRow
   h = getD rs i noRow
 
   abbrev Post : Val → SProp 𝓤
   Post = walkOf 𝓤 H A f.ended stayed (f.clauses 𝓤 H A at-mem run) .post (((κ, tt), (q, tt), tt, x, at), tt)
 
-  exits : (r : ℕ) → r < 2 ^ 32 → (zs : List Row) → Said (bn k rs) i rq r (bn k zs)
+  exits : (r : ℕ) → r < 2 ^ 32 → (zs : List HeldRow) → Said (bn k rs) i rq r (bn k zs)
       → ent 𝓤 (⋆ 𝓤 H A (‵ (fobs γ (Bn .coded .code (bn k zs))) ∷ ‵ (fbor κ (Body (mem Bn) b o γ)) ∷ ‵ (flft κ q) ∷ [])) (Post (vint w32 r))
   exits r gr zs said =
       qed W (‵ (fobs γ (Bn .coded .code (bn k zs))) ∷ ‵ (fbor κ (Body (mem Bn) b o γ)) ∷ ‵ (flft κ q) ∷ []) ∵
@@ -162,7 +162,7 @@ module _ {M : Type 1} (𝓤 : URA M) (H : Heap 𝓤) (A : Atoms 𝓤) (W : Given
     En = ((tyInt w32), l₀) ∷ (bench, l₁) ∷ (word, l₂) ∷ (Qt, l₃) ∷ (S′.mir, l₄) ∷ (An′.mir, l₅) ∷ (tyBool, l₆) ∷ (word, l₇) ∷ (tyPtr, l₈) ∷ (tyPtr, l₉) ∷ (S′.mir, l₁₀) ∷ (tyPtr, l₁₁) ∷ (tyPtr, l₁₂) ∷ []
 
     -- the locals are freed
-    ends : (r : ℕ) → r < 2 ^ 32 → (zs : List Row) → Said (bn k rs) i rq r (bn k zs)
+    ends : (r : ℕ) → r < 2 ^ 32 → (zs : List HeldRow) → Said (bn k rs) i rq r (bn k zs)
         → Sq W (‵ (fobs γ (Bn .coded .code (bn k zs))) ∷ ‵ (fbor κ (Body (mem Bn) b o γ)) ∷ ‵ (flft κ q) ∷ ‵ (froom tyPtr l₁₂ 0) ∷ ‵ (fdies tyPtr l₁₂) ∷ ‵ (froom tyPtr l₁₁ 0) ∷ ‵ (fdies tyPtr l₁₁) ∷ ‵ (froom S′.mir l₁₀ 0) ∷ ‵ (fdies S′.mir l₁₀) ∷ ‵ (froom tyPtr l₉ 0) ∷ ‵ (fdies tyPtr l₉) ∷ ‵ (froom tyPtr l₈ 0) ∷ ‵ (fdies tyPtr l₈) ∷ ‵ (froom word l₇ 0) ∷ ‵ (fdies word l₇) ∷ ‵ (froom tyBool l₆ 0) ∷ ‵ (fdies tyBool l₆) ∷ ‵ (froom An′.mir l₅ 0) ∷ ‵ (fdies An′.mir l₅) ∷ ‵ (froom S′.mir l₄ 0) ∷ ‵ (fdies S′.mir l₄) ∷ ‵ (froom Qt l₃ 0) ∷ ‵ (fdies Qt l₃) ∷ ‵ (froom word l₂ 0) ∷ ‵ (fdies word l₂) ∷ ‵ (froom bench l₁ 0) ∷ ‵ (fdies bench l₁) ∷ ‵ (froom (tyInt w32) l₀ 0) ∷ ‵ (fdies (tyInt w32) l₀) ∷ [])
         (frees En (prop (Post (vint w32 r))))
     ends r gr zs said =

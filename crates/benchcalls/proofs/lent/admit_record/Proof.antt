@@ -42,7 +42,7 @@ use denote.Triple.Spec.{Meets, tripleOf}
 use denote.Triple.Table.{entered, cited}
 use denote.Triple.Walked.{says, Stays, stay-ref, stay-none, stay-none-ref, walkOf, AllGo, goes-ref, goes-none, goes-none-ref, Walks, ends-at, walked, walk-meets}
 use denote.Exit.{yes}
-use Rattle.runs.specs.declared.types.Row.{Row}
+use Rattle.held.specs.declared.types.HeldRow.{HeldRow}
 use Rattle.bench.specs.declared.types.Bench.{Bench}
 use Rattle.bench.specs.Benches.{noRow}
 use Rattle.rows.specs.declared.types.RowAnswer.{RowAnswer}
@@ -52,8 +52,8 @@ use Rattle.benchcalls.specs.Admission.{recordNumber, recordRowOf}
 use Rattle.benchcalls.specs.AdmissionLaws.{record-past, record-there}
 use Rattle.records.proofs.types.RequestRecord as Q
 use Rattle.records.proofs.types.RequestRecord.Laws as Q′
-use Rattle.runs.proofs.types.Row as S
-use Rattle.runs.proofs.types.Row.Laws as S′
+use Rattle.held.proofs.types.HeldRow as S
+use Rattle.held.proofs.types.HeldRow.Laws as S′
 use Rattle.rows.proofs.types.RowAnswer as An
 use Rattle.rows.proofs.types.RowAnswer.Laws as An′
 use Rattle.benchcalls.proofs.Opened.{place-fits, row-size, Rest, rest-of, R, Bn, bn, valsR, valsB, in-parts, number-is, Back, opens-row, closes-row}
@@ -93,7 +93,7 @@ module _ {M : Type 1} (𝓤 : URA M) (H : Heap 𝓤) (A : Atoms 𝓤) (at-mem : 
   abbrev RecordRow : Contract 𝓤
   RecordRow = tripleOf 𝓤 H A callee.signature (callee.spec 𝓤 H A at-mem run)
 
-  answer-of : (h : Row) (i : ℕ) (rq : RequestRecord) (r : RowAnswer) → ent 𝓤 (ensured 𝓤 H A callee.ended (callee.clauses 𝓤 H A at-mem run) tt (h, (i, (rq, tt))) tt r) (fact 𝓤 (r ≡ recordRowOf h i rq))
+  answer-of : (h : HeldRow) (i : ℕ) (rq : RequestRecord) (r : RowAnswer) → ent 𝓤 (ensured 𝓤 H A callee.ended (callee.clauses 𝓤 H A at-mem run) tt (h, (i, (rq, tt))) tt r) (fact 𝓤 (r ≡ recordRowOf h i rq))
   answer-of h i rq r = exE 𝓤 _ (λ ws. snd∗ 𝓤 (sem 𝓤 H A (lasts callee.ended tt (h, (i, (rq, tt))) ws)) (fact 𝓤 (r ≡ recordRowOf h i rq)))
 
   abbrev RecordNumber : Contract 𝓤
@@ -102,7 +102,7 @@ module _ {M : Type 1} (𝓤 : URA M) (H : Heap 𝓤) (A : Atoms 𝓤) (at-mem : 
   number-of : (rq : RequestRecord) (i r : ℕ) → ent 𝓤 (ensured 𝓤 H A other.ended (other.clauses 𝓤 H A at-mem run) tt (rq, (i, tt)) tt r) (fact 𝓤 (r ≡ recordNumber rq i))
   number-of rq i r = exE 𝓤 _ (λ ws. snd∗ 𝓤 (sem 𝓤 H A (lasts other.ended tt (rq, (i, tt)) ws)) (fact 𝓤 (r ≡ recordNumber rq i)))
 
-module _ {M : Type 1} (𝓤 : URA M) (H : Heap 𝓤) (A : Atoms 𝓤) (W : Given 𝓤 H A) (at-mem : Memory → SProp 𝓤) (run : Routine → Fun 𝓤) (κ κ₂ : Lft) (q q₂ : Share) (b o : ℕ) (γ : GName) (k : Rest) (rs : List Row) (i : ℕ) (gi : i < 2 ^ 64) (b₂ o₂ : ℕ) (γ₂ : GName) (rq : RequestRecord) where
+module _ {M : Type 1} (𝓤 : URA M) (H : Heap 𝓤) (A : Atoms 𝓤) (W : Given 𝓤 H A) (at-mem : Memory → SProp 𝓤) (run : Routine → Fun 𝓤) (κ κ₂ : Lft) (q q₂ : Share) (b o : ℕ) (γ : GName) (k : Rest) (rs : List HeldRow) (i : ℕ) (gi : i < 2 ^ 64) (b₂ o₂ : ℕ) (γ₂ : GName) (rq : RequestRecord) where
   abbrev x : Arg
   x = (record { ptr = (b, o); name = γ; now = bn k rs }, (i, (record { ptr = (b₂, o₂); name = γ₂; now = rq }, tt)))
 
@@ -110,13 +110,13 @@ module _ {M : Type 1} (𝓤 : URA M) (H : Heap 𝓤) (A : Atoms 𝓤) (W : Given
   at = (vptr b o ∷ [], (vint w64 i ∷ [], (vptr b₂ o₂ ∷ [], tt)))
 
   -- the row at the place
-  abbrev h : Row
+  abbrev h : HeldRow
   h = getD rs i noRow
 
   abbrev Post : Val → SProp 𝓤
   Post = walkOf 𝓤 H A f.ended stayed (f.clauses 𝓤 H A at-mem run) .post (((κ, (κ₂, tt)), (q, (q₂, tt)), tt, x, at), tt)
 
-  exits : (r : ℕ) → r < 2 ^ 32 → (zs : List Row) → Said (bn k rs) i rq r (bn k zs) → ent 𝓤 (⋆ 𝓤 H A (‵ (fobs γ (Bn .coded .code (bn k zs))) ∷ ‵ (fbor κ (Body (mem Bn) b o γ)) ∷ ‵ (flft κ q) ∷ ‵ (fres γ₂ (Rq .coded .code rq)) ∷ ‵ (fshr-bor κ₂ (λ s. partAt Rq s rq b₂ o₂)) ∷ ‵ (flft κ₂ q₂) ∷ [])) (Post (vint w32 r))
+  exits : (r : ℕ) → r < 2 ^ 32 → (zs : List HeldRow) → Said (bn k rs) i rq r (bn k zs) → ent 𝓤 (⋆ 𝓤 H A (‵ (fobs γ (Bn .coded .code (bn k zs))) ∷ ‵ (fbor κ (Body (mem Bn) b o γ)) ∷ ‵ (flft κ q) ∷ ‵ (fres γ₂ (Rq .coded .code rq)) ∷ ‵ (fshr-bor κ₂ (λ s. partAt Rq s rq b₂ o₂)) ∷ ‵ (flft κ₂ q₂) ∷ [])) (Post (vint w32 r))
   exits r gr zs said =
       qed W (‵ (fobs γ (Bn .coded .code (bn k zs))) ∷ ‵ (fbor κ (Body (mem Bn) b o γ)) ∷ ‵ (flft κ q) ∷ ‵ (fres γ₂ (Rq .coded .code rq)) ∷ ‵ (fshr-bor κ₂ (λ s. partAt Rq s rq b₂ o₂)) ∷ ‵ (flft κ₂ q₂) ∷ []) ∵
       suffices ! _ (ends-at 𝓤 H A f.ended stayed (f.clauses 𝓤 H A at-mem run) W (((κ, (κ₂, tt)), (q, (q₂, tt)), tt, x, at), tt) (vint w32 r) r (bn k zs, (tt, (tt, tt))) (tt, (tt, (tt, tt)))) $ says ! said $
@@ -155,7 +155,7 @@ module _ {M : Type 1} (𝓤 : URA M) (H : Heap 𝓤) (A : Atoms 𝓤) (W : Given
     En = ((tyInt w32), l₀) ∷ (bench, l₁) ∷ (word, l₂) ∷ (asked, l₃) ∷ (Q′.mir, l₄) ∷ (S′.mir, l₅) ∷ (An′.mir, l₆) ∷ (tyBool, l₇) ∷ (word, l₈) ∷ (tyPtr, l₉) ∷ (tyPtr, l₁₀) ∷ (S′.mir, l₁₁) ∷ (tyPtr, l₁₂) ∷ (tyPtr, l₁₃) ∷ []
 
     -- the locals are freed
-    ends : (r : ℕ) → r < 2 ^ 32 → (zs : List Row) → Said (bn k rs) i rq r (bn k zs)
+    ends : (r : ℕ) → r < 2 ^ 32 → (zs : List HeldRow) → Said (bn k rs) i rq r (bn k zs)
         → Sq W (‵ (fobs γ (Bn .coded .code (bn k zs))) ∷ ‵ (fbor κ (Body (mem Bn) b o γ)) ∷ ‵ (flft κ q) ∷ ‵ (froom tyPtr l₁₃ 0) ∷ ‵ (fdies tyPtr l₁₃) ∷ ‵ (froom tyPtr l₁₂ 0) ∷ ‵ (fdies tyPtr l₁₂) ∷ ‵ (froom S′.mir l₁₁ 0) ∷ ‵ (fdies S′.mir l₁₁) ∷ ‵ (froom tyPtr l₁₀ 0) ∷ ‵ (fdies tyPtr l₁₀) ∷ ‵ (froom tyPtr l₉ 0) ∷ ‵ (fdies tyPtr l₉) ∷ ‵ (froom word l₈ 0) ∷ ‵ (fdies word l₈) ∷ ‵ (froom tyBool l₇ 0) ∷ ‵ (fdies tyBool l₇) ∷ ‵ (froom An′.mir l₆ 0) ∷ ‵ (fdies An′.mir l₆) ∷ ‵ (froom S′.mir l₅ 0) ∷ ‵ (fdies S′.mir l₅) ∷ ‵ (froom Q′.mir l₄ 0) ∷ ‵ (fdies Q′.mir l₄) ∷ ‵ (froom asked l₃ 0) ∷ ‵ (fdies asked l₃) ∷ ‵ (froom word l₂ 0) ∷ ‵ (fdies word l₂) ∷ ‵ (froom bench l₁ 0) ∷ ‵ (fdies bench l₁) ∷ ‵ (froom (tyInt w32) l₀ 0) ∷ ‵ (fdies (tyInt w32) l₀) ∷ ‵ (fres γ₂ (Rq .coded .code rq)) ∷ ‵ (fshr-bor κ₂ (λ s. partAt Rq s rq b₂ o₂)) ∷ ‵ (flft κ₂ q₂) ∷ [])
         (frees En (prop (Post (vint w32 r))))
     ends r gr zs said =

@@ -43,7 +43,7 @@ use denote.Triple.Spec.{Meets, tripleOf}
 use denote.Triple.Table.{entered, cited}
 use denote.Triple.Walked.{says, Stays, stay-ref, stay-none, stay-none-ref, walkOf, AllGo, goes-ref, goes-none, goes-none-ref, Walks, ends-at, walked, walk-meets}
 use denote.Exit.{yes}
-use Rattle.runs.specs.declared.types.Row.{Row}
+use Rattle.held.specs.declared.types.HeldRow.{HeldRow}
 use Rattle.bench.specs.declared.types.Bench.{Bench}
 use Rattle.bench.specs.Benches.{noRow}
 use Rattle.bench.specs.Calls.{fetchNumber, fetchedResult}
@@ -51,8 +51,8 @@ use Rattle.runs.specs.declared.types.OptimizationResult.{OptimizationResult}
 use Rattle.rows.specs.declared.types.Fetched.{Fetched}
 use Rattle.rows.specs.Calls.{fetchRowOf}
 use Rattle.benchcalls.specs.Placed.{fetch-past, fetched-there}
-use Rattle.runs.proofs.types.Row as S
-use Rattle.runs.proofs.types.Row.Laws as S′
+use Rattle.held.proofs.types.HeldRow as S
+use Rattle.held.proofs.types.HeldRow.Laws as S′
 use Rattle.runs.proofs.types.OptimizationResult as O
 use Rattle.runs.proofs.types.OptimizationResult.Laws as O′
 use Rattle.rows.proofs.types.Fetched as Fe
@@ -100,10 +100,10 @@ module _ {M : Type 1} (𝓤 : URA M) (H : Heap 𝓤) (A : Atoms 𝓤) (at-mem : 
   abbrev FetchRow : Contract 𝓤
   FetchRow = tripleOf 𝓤 H A callee.signature (callee.spec 𝓤 H A at-mem run)
 
-  fetched-of : (h : Row) (oc : OptimizationResult) (r : Fetched) → ent 𝓤 (ensured 𝓤 H A callee.ended (callee.clauses 𝓤 H A at-mem run) tt (h, (oc, tt)) tt r) (fact 𝓤 (r ≡ fetchRowOf h oc))
+  fetched-of : (h : HeldRow) (oc : OptimizationResult) (r : Fetched) → ent 𝓤 (ensured 𝓤 H A callee.ended (callee.clauses 𝓤 H A at-mem run) tt (h, (oc, tt)) tt r) (fact 𝓤 (r ≡ fetchRowOf h oc))
   fetched-of h oc r = exE 𝓤 _ (λ ws. snd∗ 𝓤 (sem 𝓤 H A (lasts callee.ended tt (h, (oc, tt)) ws)) (fact 𝓤 (r ≡ fetchRowOf h oc)))
 
-module _ {M : Type 1} (𝓤 : URA M) (H : Heap 𝓤) (A : Atoms 𝓤) (W : Given 𝓤 H A) (at-mem : Memory → SProp 𝓤) (run : Routine → Fun 𝓤) (κ κ₂ : Lft) (q q₂ : Share) (b o : ℕ) (γ : GName) (k : Rest) (rs : List Row) (i : ℕ) (gi : i < 2 ^ 64) (b₂ o₂ : ℕ) (γ₂ : GName) (oc : OptimizationResult) where
+module _ {M : Type 1} (𝓤 : URA M) (H : Heap 𝓤) (A : Atoms 𝓤) (W : Given 𝓤 H A) (at-mem : Memory → SProp 𝓤) (run : Routine → Fun 𝓤) (κ κ₂ : Lft) (q q₂ : Share) (b o : ℕ) (γ : GName) (k : Rest) (rs : List HeldRow) (i : ℕ) (gi : i < 2 ^ 64) (b₂ o₂ : ℕ) (γ₂ : GName) (oc : OptimizationResult) where
   abbrev x : Arg
   x = (record { ptr = (b, o); name = γ; now = bn k rs }, (i, (record { ptr = (b₂, o₂); name = γ₂; now = oc }, tt)))
 
@@ -111,7 +111,7 @@ module _ {M : Type 1} (𝓤 : URA M) (H : Heap 𝓤) (A : Atoms 𝓤) (W : Given
   at = (vptr b o ∷ [], (vint w64 i ∷ [], (vptr b₂ o₂ ∷ [], tt)))
 
   -- the row at the place
-  abbrev h : Row
+  abbrev h : HeldRow
   h = getD rs i noRow
 
   abbrev Post : Val → SProp 𝓤

@@ -41,15 +41,15 @@ use denote.Triple.Spec.{Meets, tripleOf}
 use denote.Triple.Table.{entered, cited}
 use denote.Triple.Walked.{says, Stays, stay-ref, stay-none, walkOf, AllGo, goes-ref, goes-none, Walks, ends-at, walked, walk-meets}
 use denote.Exit.{yes}
-use Rattle.runs.specs.declared.types.Row.{Row}
+use Rattle.held.specs.declared.types.HeldRow.{HeldRow}
 use Rattle.bench.specs.declared.types.Bench.{Bench}
-use Rattle.bench.specs.Benches.{noRow, rowAt, withRow}
+use Rattle.bench.specs.Benches.{noRow, heldAt, withHeld}
 use Rattle.bench.specs.Calls.{releaseNumber, releasedBench}
 use Rattle.rows.specs.declared.types.RowAnswer.{RowAnswer}
 use Rattle.rows.specs.Calls.{releaseRowOf}
 use Rattle.benchcalls.specs.Placed.{release-past, released-there}
-use Rattle.runs.proofs.types.Row as S
-use Rattle.runs.proofs.types.Row.Laws as S′
+use Rattle.held.proofs.types.HeldRow as S
+use Rattle.held.proofs.types.HeldRow.Laws as S′
 use Rattle.rows.proofs.types.RowAnswer as An
 use Rattle.rows.proofs.types.RowAnswer.Laws as An′
 use Rattle.benchcalls.proofs.Opened.{place-fits, row-size, Rest, rest-of, R, Bn, bn, valsR, valsB, in-parts, Back, opens-row, closes-row}
@@ -77,7 +77,7 @@ Said b i r z = (r ≡ releaseNumber b i) × (z ≡ releasedBench b i)
 past : (b : Bench) (i : ℕ) → 3 < i → Said b i 2 b
 past b i h = release-past b i h
 
-there : (b : Bench) (i : ℕ) (r : RowAnswer) → i ≤ 3 → r ≡ releaseRowOf (rowAt b i) → Said b i (r .number) (withRow b i (r .row))
+there : (b : Bench) (i : ℕ) (r : RowAnswer) → i ≤ 3 → r ≡ releaseRowOf (heldAt b i) → Said b i (r .number) (withHeld b i (r .row))
 there b i r h e = released-there b i h r e
 
 -- ---- the contract that the proof cites
@@ -85,10 +85,10 @@ module _ {M : Type 1} (𝓤 : URA M) (H : Heap 𝓤) (A : Atoms 𝓤) (at-mem : 
   abbrev ReleaseRow : Contract 𝓤
   ReleaseRow = tripleOf 𝓤 H A callee.signature (callee.spec 𝓤 H A at-mem run)
 
-  answer-of : (h : Row) (r : RowAnswer) → ent 𝓤 (ensured 𝓤 H A callee.ended (callee.clauses 𝓤 H A at-mem run) tt (h, tt) tt r) (fact 𝓤 (r ≡ releaseRowOf h))
+  answer-of : (h : HeldRow) (r : RowAnswer) → ent 𝓤 (ensured 𝓤 H A callee.ended (callee.clauses 𝓤 H A at-mem run) tt (h, tt) tt r) (fact 𝓤 (r ≡ releaseRowOf h))
   answer-of h r = exE 𝓤 _ (λ ws. snd∗ 𝓤 (sem 𝓤 H A (lasts callee.ended tt (h, tt) ws)) (fact 𝓤 (r ≡ releaseRowOf h)))
 
-module _ {M : Type 1} (𝓤 : URA M) (H : Heap 𝓤) (A : Atoms 𝓤) (W : Given 𝓤 H A) (at-mem : Memory → SProp 𝓤) (run : Routine → Fun 𝓤) (κ : Lft) (q : Share) (b o : ℕ) (γ : GName) (k : Rest) (rs : List Row) (i : ℕ) (gi : i < 2 ^ 64) where
+module _ {M : Type 1} (𝓤 : URA M) (H : Heap 𝓤) (A : Atoms 𝓤) (W : Given 𝓤 H A) (at-mem : Memory → SProp 𝓤) (run : Routine → Fun 𝓤) (κ : Lft) (q : Share) (b o : ℕ) (γ : GName) (k : Rest) (rs : List HeldRow) (i : ℕ) (gi : i < 2 ^ 64) where
   abbrev x : Arg
   x = (record { ptr = (b, o); name = γ; now = bn k rs }, (i, tt))
 
@@ -96,13 +96,13 @@ module _ {M : Type 1} (𝓤 : URA M) (H : Heap 𝓤) (A : Atoms 𝓤) (W : Given
   at = (vptr b o ∷ [], (vint w64 i ∷ [], tt))
 
   -- the row at the place
-  abbrev h : Row
+  abbrev h : HeldRow
   h = getD rs i noRow
 
   abbrev Post : Val → SProp 𝓤
   Post = walkOf 𝓤 H A f.ended stayed (f.clauses 𝓤 H A at-mem run) .post (((κ, tt), (q, tt), tt, x, at), tt)
 
-  exits : (r : ℕ) → r < 2 ^ 32 → (zs : List Row) → Said (bn k rs) i r (bn k zs)
+  exits : (r : ℕ) → r < 2 ^ 32 → (zs : List HeldRow) → Said (bn k rs) i r (bn k zs)
       → ent 𝓤 (⋆ 𝓤 H A (‵ (fobs γ (Bn .coded .code (bn k zs))) ∷ ‵ (fbor κ (Body (mem Bn) b o γ)) ∷ ‵ (flft κ q) ∷ [])) (Post (vint w32 r))
   exits r gr zs said =
       qed W (‵ (fobs γ (Bn .coded .code (bn k zs))) ∷ ‵ (fbor κ (Body (mem Bn) b o γ)) ∷ ‵ (flft κ q) ∷ []) ∵
@@ -132,7 +132,7 @@ module _ {M : Type 1} (𝓤 : URA M) (H : Heap 𝓤) (A : Atoms 𝓤) (W : Given
     En = ((tyInt w32), l₀) ∷ (bench, l₁) ∷ (word, l₂) ∷ (S′.mir, l₃) ∷ (An′.mir, l₄) ∷ (tyBool, l₅) ∷ (word, l₆) ∷ (tyPtr, l₇) ∷ (tyPtr, l₈) ∷ (S′.mir, l₉) ∷ (tyPtr, l₁₀) ∷ (tyPtr, l₁₁) ∷ []
 
     -- the locals are freed
-    ends : (r : ℕ) → r < 2 ^ 32 → (zs : List Row) → Said (bn k rs) i r (bn k zs)
+    ends : (r : ℕ) → r < 2 ^ 32 → (zs : List HeldRow) → Said (bn k rs) i r (bn k zs)
         → Sq W (‵ (fobs γ (Bn .coded .code (bn k zs))) ∷ ‵ (fbor κ (Body (mem Bn) b o γ)) ∷ ‵ (flft κ q) ∷ ‵ (froom tyPtr l₁₁ 0) ∷ ‵ (fdies tyPtr l₁₁) ∷ ‵ (froom tyPtr l₁₀ 0) ∷ ‵ (fdies tyPtr l₁₀) ∷ ‵ (froom S′.mir l₉ 0) ∷ ‵ (fdies S′.mir l₉) ∷ ‵ (froom tyPtr l₈ 0) ∷ ‵ (fdies tyPtr l₈) ∷ ‵ (froom tyPtr l₇ 0) ∷ ‵ (fdies tyPtr l₇) ∷ ‵ (froom word l₆ 0) ∷ ‵ (fdies word l₆) ∷ ‵ (froom tyBool l₅ 0) ∷ ‵ (fdies tyBool l₅) ∷ ‵ (froom An′.mir l₄ 0) ∷ ‵ (fdies An′.mir l₄) ∷ ‵ (froom S′.mir l₃ 0) ∷ ‵ (fdies S′.mir l₃) ∷ ‵ (froom word l₂ 0) ∷ ‵ (fdies word l₂) ∷ ‵ (froom bench l₁ 0) ∷ ‵ (fdies bench l₁) ∷ ‵ (froom (tyInt w32) l₀ 0) ∷ ‵ (fdies (tyInt w32) l₀) ∷ [])
         (frees En (prop (Post (vint w32 r))))
     ends r gr zs said =

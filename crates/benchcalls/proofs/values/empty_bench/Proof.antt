@@ -2,7 +2,7 @@
 use mathlib.Core.Path.{ap}
 use lib.ListN.{replicate}
 use borrow.Author.Needs.{needs}
-use Rattle.runs.specs.declared.types.Row.{Row}
+use Rattle.held.specs.declared.types.HeldRow.{HeldRow}
 use Rattle.bench.specs.declared.types.Bench.{Bench}
 use Rattle.benchcalls.proofs.values.empty_bench.Statement.{statement}
 use Rattle.benchcalls.proofs.values.empty_bench.Tie as tie
@@ -11,7 +11,7 @@ zero-row-requires : tie.Need-zero-row-requires
 zero-row-requires c κs = search needs
 
 returns : tie.Need-returns
-returns c = ap {B = Bench} (λ (r : Row). record { rows = replicate 4 r }) (c .zero-row .ensures)
+returns c = ap {B = Bench} (λ (r : HeldRow). record { rows = replicate 4 r }) (c .zero-row .ensures)
 
 pub empty-bench-spec : {M : Type 1} → statement M
 empty-bench-spec = tie.close (tie.spec zero-row-requires returns)

@@ -6,7 +6,7 @@ use Prim.Native.Nat.{_*_}
 use Rattle.merit.proofs.Answers.{laid-room, laid-evaluation}
 use Rattle.jobs.specs.Passed.{passed}
 use Rattle.runs.specs.JobMerit.{lensWith, evaluateOf}
-use Rattle.rows.proofs.Laid.{operands-known, laid-kept}
+use Rattle.global.proofs.Laid.{operands-known, laid-kept}
 use borrow.Author.Needs.{needs}
 use Rattle.rows.proofs.pending.evaluation_of.Statement.{statement}
 use Rattle.rows.proofs.pending.evaluation_of.Tie as tie
