@@ -239,11 +239,11 @@ static void job(uint32_t wanted, const char *answer) {
     lists();
     UNLOOKED("turn at the end", lens_turn(&now.bench.lent, place, now.scratch, LONG), LENS_FINISHED, place);
     ALL("admit to a finished place", lens_admit(&now.bench.lent, place, asked), LENS_TAKEN);
-    uint64_t iteration = now.bench.rows[place].damped.iteration;
-    now.bench.rows[place].damped.iteration = 1 + (1ull << 40);
+    uint64_t iteration = now.bench.rows[place].iteration;
+    now.bench.rows[place].iteration = 1 + (1ull << 40);
     UNLOOKED("turn of a row with a counter past its limit", lens_turn(&now.bench.lent, place, now.scratch, LONG), LENS_DAMAGED, place);
     UNLOOKED("fetch of a row with a counter past its limit", lens_fetch(&now.bench.lent, place, &now.result), LENS_DAMAGED, place);
-    now.bench.rows[place].damped.iteration = iteration;
+    now.bench.rows[place].iteration = iteration;
     turns += 2, fetches += 1, admits += 1;
     fetch(place, taken, answer);
 }

@@ -2,19 +2,14 @@
 #include "lensbench.h"
 #include <string.h>
 
+/* in the order of crates/held/src/types.rt, with the names that its places have there */
 typedef struct {
-    LensSurface surfaces[16];
-    double jacobian[96];
-    LensEvaluation evaluation;
-    double plus_residuals[12], params[8], candidate[8], initial_merit, damping;
-    uint64_t phase, iteration, column, attempt, converged;
-} Damped;
-typedef struct {
-    LensJob job;
-    Damped damped;
-    LensResult best;
-    uint64_t kind, turns, generator, trial, cycle, step;
-    double temperature, current_merit;
+    uint64_t kind, turns, phase, iteration, column, attempt, converged, generator, trial, cycle, step, best_iterations, best_converged;
+    double initial_merit, damping, temperature, current_merit, total_merit, best_initial_merit, best_final_merit;
+    uint64_t surface_count, slot_count, variable_count, operand_count, count_settings[5], variables[24], operands[24];
+    double job_surfaces[64], indices[64], pupil, damped_settings[4], annealing_settings[2], variable_numbers[24], operand_numbers[36];
+    double surfaces[64], jacobian[96], values[12], residuals[12], plus_residuals[12], params[8], candidate[8];
+    double best_surfaces[64], best_values[12], best_residuals[12];
 } Row;
 typedef union {
     LensBench lent;
@@ -41,31 +36,29 @@ static void mark_entries(LensJob *j, size_t surfaces, size_t variables, size_t o
     for (size_t i = variables; i < 8; i++) MARK(j->variables[i].min_value), MARK(j->variables[i].max_value), MARK(j->variables[i].step_size);
     for (size_t i = operands; i < 12; i++) MARK(j->operands[i].limit_mm), MARK(j->operands[i].target), MARK(j->operands[i].weight);
 }
-static void mark_damped(LensSettings *s) {
-    MARK(s->initial_damping), MARK(s->relative_merit_tolerance), MARK(s->gradient_tolerance), MARK(s->finite_difference_relative_step);
-}
-static void mark_annealing(LensSettings *s) { MARK(s->initial_temperature), MARK(s->cooling_rate); }
 /* what a row works with, which refusal 12 does not look at */
 static void mark_work(Row *r) {
-    Damped *d = &r->damped;
-    MARK(d->jacobian), MARK(d->evaluation), MARK(d->plus_residuals), MARK(d->params), MARK(d->candidate), MARK(d->initial_merit), MARK(d->damping);
-    MARK(r->best.values), MARK(r->best.residuals), MARK(r->best.initial_merit), MARK(r->best.final_merit), MARK(r->temperature), MARK(r->current_merit);
+    MARK(r->jacobian), MARK(r->values), MARK(r->residuals), MARK(r->plus_residuals), MARK(r->params), MARK(r->candidate);
+    MARK(r->initial_merit), MARK(r->damping), MARK(r->temperature), MARK(r->current_merit), MARK(r->total_merit);
+    MARK(r->best_values), MARK(r->best_residuals), MARK(r->best_initial_merit), MARK(r->best_final_merit);
+}
+static void mark_job(Row *r, size_t surfaces, size_t variables, size_t operands) {
+    MARK_FROM(r->job_surfaces, 4 * surfaces), MARK_FROM(r->indices, 4 * surfaces);
+    MARK_FROM(r->variable_numbers, 3 * variables), MARK_FROM(r->operand_numbers, 3 * operands);
 }
 static void mark_row(Row *r) {
-    mark_entries(&r->job, 0, 0, 0);
-    MARK(r->job.entrance_pupil_diameter_mm);
-    mark_damped(&r->job.settings), mark_annealing(&r->job.settings);
-    MARK(r->damped.surfaces), MARK(r->best.surfaces);
+    mark_job(r, 0, 0, 0);
+    MARK(r->pupil), MARK(r->damped_settings), MARK(r->annealing_settings), MARK(r->surfaces), MARK(r->best_surfaces);
     mark_work(r);
 }
 /* every f64 that the row's kind and counts leave unused, or that refusal 12 does not look at: the row is no more damaged than before */
 static void mark_unlooked(Row *r) {
-    LensJob *j = &r->job;
-    mark_entries(j, j->surface_count, j->variable_count, j->operand_count);
-    for (size_t i = 0; i < j->surface_count; i++)
-        for (size_t k = j->slot_count; k < 4; k++) MARK(j->indices[4 * i + k]);
-    if (r->kind == LENS_ANNEALING) mark_damped(&j->settings);
-    else mark_annealing(&j->settings);
-    MARK_FROM(r->damped.surfaces, j->surface_count), MARK_FROM(r->best.surfaces, j->surface_count);
+    size_t n = r->surface_count;
+    mark_job(r, n, r->variable_count, r->operand_count);
+    for (size_t i = 0; i < n; i++)
+        for (size_t k = r->slot_count; k < 4; k++) MARK(r->indices[4 * i + k]);
+    if (r->kind == LENS_ANNEALING) MARK(r->damped_settings);
+    else MARK(r->annealing_settings);
+    MARK_FROM(r->surfaces, 4 * n), MARK_FROM(r->best_surfaces, 4 * n);
     mark_work(r);
 }

@@ -5,7 +5,7 @@
 use std::mem::{offset_of, size_of};
 
 /// `LENS_ABI` of the header that the records below were written from.
-pub const ABI: u32 = 2;
+pub const ABI: u32 = 3;
 /// Places of a bench.
 pub const PLACES: usize = 4;
 /// Surfaces of a job at most.
