@@ -32,16 +32,3 @@ pub fn laid(surfaces: [OpticalSurface; 16]) -> [f64; 64]
     optics::lay_flat(surfaces, 16, &mut flat);
     flat
 }
-
-// The first of the surfaces that stand in flat numbers, laid at the start of scratch; the rest of it stays.
-pub fn lay_standing(flat: &[f64], count: usize, scratch: &mut [f64])
-    requires { ⌜ (count ≤ 16) × (64 ≤ length (now flat)) × (64 ≤ length (now scratch)) ⌝ }
-    ensures { λ _. ⌜ now (scratch .exit) ≡ laidFlat (standing (now (flat .entry))) count ++ drop (4 * count) (now (scratch .entry)) ⌝ }
-{
-    let end = 4 * count;
-    let mut k: usize = 0;
-    while k < end {
-        scratch[k] = flat[k];
-        k += 1;
-    }
-}

@@ -100,19 +100,3 @@ pub fn apply_values(
     }
     s
 }
-
-// The same of surfaces laid flat; those in use are laid at the start of scratch, and the rest of it stays.
-pub fn lay_applied(
-    counts: &[u64; 57],
-    numbers: &[f64],
-    values: [f64; 8],
-    flat: &[f64],
-    scratch: &mut [f64],
-)
-    requires { ⌜ surfaceCountFrom (now counts) ≤ 16 ⌝ ∗ ⌜ variableCountFrom (now counts) ≤ 8 ⌝ ∗ ⌜ 195 ≤ length (now numbers) ⌝ ∗ ⌜ 64 ≤ length (now flat) ⌝ ∗ ⌜ 64 ≤ length (now scratch) ⌝ }
-    ensures { λ _. ⌜ now (scratch .exit) ≡ laidFlat (applied (variablesFrom (now (counts .entry)) (now (numbers .entry))) values (standing (now (flat .entry)))) (surfaceCountFrom (now (counts .entry))) ++ drop (4 * surfaceCountFrom (now (counts .entry))) (now (scratch .entry)) ⌝ }
-{
-    let base = stand(flat);
-    let changed = apply_values(counts, numbers, values, base);
-    optics::lay_flat(changed, surface_count(counts), scratch);
-}
