@@ -3,7 +3,11 @@ use mathlib.Core.Path.{_≡_, refl, sym, ap, _∙_, subst}
 use mathlib.Core.Bool.{Bool, true, false, false≢true}
 use Prim.Native.Nat.{ℕ, suc}
 use lib.Dec.{T, eqb}
+use lib.ListN.{replicate}
 use lib.Ieee.Fits.{and-i}
+use Rattle.floats.specs.Constants.{zero64}
+use Rattle.lists.specs.Tab.{tab}
+use Rattle.optics.specs.Flat.{laidFlat}
 use Rattle.merit.specs.declared.types.MeritEvaluation.{MeritEvaluation}
 use Rattle.jobs.specs.declared.types.Job.{Job}
 use Rattle.jobs.specs.declared.types.Method.{Method}
@@ -24,7 +28,7 @@ use Rattle.runs.specs.Turn.{turned}
 use Rattle.runs.specs.Usable.{usable}
 use Rattle.runs.specs.Lengths.{whole-after}
 use Rattle.held.specs.RowFrom.{rowFrom}
-use Rattle.held.specs.Written.{heldFrom}
+use Rattle.held.specs.Written.{heldFrom, heldCounts, heldNumbers, inTurn}
 use Rattle.held.specs.RowBack.{FullJob, Full, row-back}
 use Rattle.held.specs.declared.types.HeldRow.{HeldRow}
 use Rattle.bench.specs.Admission.{Admissible, kinds-known}
@@ -72,6 +76,26 @@ zero-vacant = refl
 zero-turns : zeroRow .turns ≡ 0
 unfolding zeroRow
 zero-turns = refl
+
+-- "the empty bench from which others are reached is all zero": so is each array of an empty place
+pub zero-held : heldFrom zeroRow ≡ record {
+  words = replicate 13 0;
+  scalars = replicate 7 zero64;
+  counts = replicate 57 0;
+  numbers = replicate 195 zero64;
+  surfaces = replicate 64 zero64;
+  jacobian = replicate 96 zero64;
+  values = replicate 12 zero64;
+  residuals = replicate 12 zero64;
+  «plus_residuals» = replicate 12 zero64;
+  params = replicate 8 zero64;
+  candidate = replicate 8 zero64;
+  «best_surfaces» = replicate 64 zero64;
+  «best_values» = replicate 12 zero64;
+  «best_residuals» = replicate 12 zero64;
+}
+unfolding zeroRow heldCounts heldNumbers inTurn laidFlat tab
+zero-held = refl
 
 pub alike-past : Alike (rowFrom noRow) empty
 alike-past = alike-empty (rowFrom noRow) refl refl
