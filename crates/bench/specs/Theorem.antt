@@ -102,7 +102,8 @@ pub record Demand3 : Type 0 where
   -- ---- "after the list each place .."
   pub places : (calls : List Call) (place : ℕ) → place < 4 → SamePlace (rowAt (benchAfter calls) place) (entryAt (bookAfter calls) place)
   -- ---- "Two such lists leave equal benches exactly when each place holds the same job, or none, with equally many working turns since that job came."
-  pub equalBenches : (some others : List Call) → SameBench (benchAfter some) (benchAfter others) ↔ ((place : ℕ) → place < 4 → entryAt (bookAfter some) place ≡ entryAt (bookAfter others) place)
+  pub equalBenches : (some others : List Call) → SameBench (benchAfter some) (benchAfter others) ↔
+      ((place : ℕ) → place < 4 → entryAt (bookAfter some) place ≡ entryAt (bookAfter others) place)
   -- "Jobs are the same when all their used entries are equal bit for bit", settings after defaults: requests that are taken make one job exactly then
   pub sameJobs : (a b : JobRequest) → firstRefusal (admissionRefusals a) ≡ 0 → (jobFrom a ≡ jobFrom b) ↔ SameJob a b
   -- ---- "In every such list a working turn works out just one merit"

@@ -28,7 +28,8 @@ module _ (b : Bench) (place : ℕ) where
       by true e = (e ∙ admit-past b place h request .0, admit-past b place h request .1)
       by false e = (e, refl)
 
-  pub record-there : place ≤ 3 → (q : RequestRecord) (r : RowAnswer) → r ≡ recordRowOf (heldAt b place) place q → (r .number ≡ admitRecordNumber b place q) × (withHeld b place (r .row) ≡ admittedRecordBench b place q)
+  pub record-there : place ≤ 3 → (q : RequestRecord) (r : RowAnswer) → r ≡ recordRowOf (heldAt b place) place q →
+      (r .number ≡ admitRecordNumber b place q) × (withHeld b place (r .row) ≡ admittedRecordBench b place q)
   unfolding recordRowOf
   record-there h q r e = by (isRequest q) e
     where

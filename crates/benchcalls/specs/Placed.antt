@@ -113,7 +113,8 @@ module _ (b : Bench) (place : ℕ) where
     admit-at request = refl
 
     -- what the row's answer says, the bench's call says
-    placed : (n m : ℕ) (new : Row) (r : RowAnswer) → m ≡ n → r ≡ answered n new (heldAt b place) → (r .number ≡ m) × (withHeld b place (r .row) ≡ unlessRefused m (withRow b place new) b)
+    placed : (n m : ℕ) (new : Row) (r : RowAnswer) → m ≡ n → r ≡ answered n new (heldAt b place) →
+        (r .number ≡ m) × (withHeld b place (r .row) ≡ unlessRefused m (withRow b place new) b)
     placed n m new r e a = (
       ap (λ (z : RowAnswer). z .number) a ∙ sym e,
       ap (λ (z : RowAnswer). withHeld b place (z .row)) a ∙ stored n new ∙ ap (λ (k : ℕ). unlessRefused k (withRow b place new) b) (sym e),
@@ -133,11 +134,13 @@ module _ (b : Bench) (place : ℕ) where
         let n = turnRowNumber (length s) (rowAt b place) in
         let same = sym (turn-at (length s)) in (
           e .0 ∙ same,
-          ap (λ (x : HeldRow). withHeld b place x) (as-written n z l m (e .1)) ∙ stored n (turned (rowAt b place)) ∙ ap (λ (k : ℕ). unlessRefused k (withRow b place (turned (rowAt b place))) b) same,
+          ap (λ (x : HeldRow). withHeld b place x) (as-written n z l m (e .1)) ∙ stored n (turned (rowAt b place))
+              ∙ ap (λ (k : ℕ). unlessRefused k (withRow b place (turned (rowAt b place))) b) same,
           e .2 ∙ ap (λ (k : ℕ). unlessRefused k (cleared s) s) same,
         )
 
-    pub admitted-there : (request : JobRequest) (r : RowAnswer) → r ≡ admitRowOf (heldAt b place) place request → (r .number ≡ admitNumber b place request) × (withHeld b place (r .row) ≡ admittedBench b place request)
+    pub admitted-there : (request : JobRequest) (r : RowAnswer) → r ≡ admitRowOf (heldAt b place) place request →
+        (r .number ≡ admitNumber b place request) × (withHeld b place (r .row) ≡ admittedBench b place request)
     unfolding admitRowOf
     admitted-there request r a = placed (admitRowNumber (rowAt b place) place request) (admitNumber b place request) (admitted (jobFrom request)) r (admit-at request) a
 

@@ -4,7 +4,8 @@ use mathlib.Core.List.{List}
 use lib.Ieee.{Float}
 use Rattle.held.specs.declared.types.HeldRow.{HeldRow}
 
-abbrev pub heldOf : (words : List ℕ) (scalars : List Float) (counts : List ℕ) (numbers surfaces jacobian values residuals plusResiduals params candidate bestSurfaces bestValues bestResiduals : List Float) → HeldRow
+abbrev pub heldOf : (words : List ℕ) (scalars : List Float) (counts : List ℕ)
+    (numbers surfaces jacobian values residuals plusResiduals params candidate bestSurfaces bestValues bestResiduals : List Float) → HeldRow
 heldOf words scalars counts numbers surfaces jacobian values residuals plusResiduals params candidate bestSurfaces bestValues bestResiduals = record {
   words = words;
   scalars = scalars;

@@ -12,7 +12,8 @@ use Rattle.runs.specs.declared.types.OptimizationResult.{OptimizationRes
 use Rattle.runs.specs.Run.{Surfaces, bind}
 use Rattle.runs.specs.Ends.{Ends, now, later, Ends-more, Ends-bind}
 use Rattle.runs.specs.DampedRun.{damped}
-use Rattle.runs.specs.AnnealingRun.{Annealer, Walk, withRng, cooled, ifBest, prob, trialParams, afterDraws, trialPresc, moved, accepted, ifDrawn, ifNotRisen, judged, tried, steps, cycles, started, polisher, withPrior, polish, annealing}
+use Rattle.runs.specs.AnnealingRun.{Annealer, Walk, withRng, cooled, ifBest, prob, trialParams, afterDraws, trialPresc, moved, accepted, ifDrawn}
+use Rattle.runs.specs.AnnealingRun.{ifNotRisen, judged, tried, steps, cycles, started, polisher, withPrior, polish, annealing}
 
 -- ---- What the surfaces of the walk, current and best, keep
 module _ (a : Annealer) (Sound : Surfaces → Type 0) (tries : (trial : List Float) (w : Walk) → Sound (w .surfaces) → Sound (trialPresc a trial w)) where

@@ -87,7 +87,8 @@ module _ (o : Optimizer) (base : Surfaces) (based : Sixteen base) (trials : ℕ)
   merged-sixteen true result best h g = h
   merged-sixteen false result best h g = g
 
-  best-sixteen : (trial : ℕ) (best result : OptimizationResult) → Sixteen (best .surfaces) → Sixteen (result .surfaces) → Sixteen (merged (MultiStartRow.bestBefore trial best) result .surfaces)
+  best-sixteen : (trial : ℕ) (best result : OptimizationResult) → Sixteen (best .surfaces) → Sixteen (result .surfaces) →
+      Sixteen (merged (MultiStartRow.bestBefore trial best) result .surfaces)
   unfolding MultiStartRow.bestBefore merged
   best-sixteen zero best result h g = g
   best-sixteen (suc t) best result h g = merged-sixteen (isLower result best) result best g h

@@ -23,7 +23,9 @@ Worked x = T (fits binary64 x) × T (finiteOf x)
 
 pub merit-worked : (job : Job) (s : Surfaces) → Worked (evaluateOf job s .«total_merit»)
 unfolding evaluateOf
-merit-worked job s = (total-fits (surfaceAt s) (slotIndex (job .prescription .indices)) (job .prescription .«entrance_pupil_diameter_mm») (job .prescription .«surface_count») (job .«merit_function»), merit-finite job s)
+merit-worked job s =
+    let p = job .prescription in
+    (total-fits (surfaceAt s) (slotIndex (p .indices)) (p .«entrance_pupil_diameter_mm») (p .«surface_count») (job .«merit_function»), merit-finite job s)
 
 never-lower : (x y : Float) → x ≡ overflowMerit → Worked y → lt x y ≡ false
 never-lower x y e w = ap (λ (z : Float). lt z y) e ∙ overflow-never-lower y (w .0) (finite-test y (w .1))
