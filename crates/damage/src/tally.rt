@@ -33,110 +33,54 @@ pub(crate) fn counted(t: Tally, entry: usize, is_right: bool) -> Tally
     }
 }
 
-// One of four names, twelve letters each.
+// One of ten names, twelve letters each.
 fn put_name(out: &mut [u8], waiting: Waiting, names: &[u8], at: usize) -> Waiting
-    requires { ⌜ 48 ≤ length (now names) ⌝ }
+    requires { ⌜ 120 ≤ length (now names) ⌝ }
 {
-    let from = at % 4 * 12;
+    let from = at % 10 * 12;
     let to = from + 12;
     output::put(out, waiting, &names[from..to])
 }
 
-// The entries 0 to 27.
-fn put_first_name(out: &mut [u8], waiting: Waiting, e: usize) -> Waiting {
-    match e / 4 {
+fn put_entry_name(out: &mut [u8], waiting: Waiting, e: usize) -> Waiting {
+    match e / 10 {
         0 => put_name(
             out,
             waiting,
-            b"kind        phase       turns       column      ",
+            b"kind        phase       turns       column      attempt     iteration   trial       cycle       step        surfaces    ",
             e,
         ),
         1 => put_name(
             out,
             waiting,
-            b"attempt     iteration   trial       cycle       ",
+            b"slots       variables   operands    iterations  trials      steps       cycles      variable    at-surface  enabled     ",
             e,
         ),
         2 => put_name(
             out,
             waiting,
-            b"step        surfaces    slots       variables   ",
+            b"operand     at          radius      conic       thickness   semi        now-radius  now-conic   now-thick   now-semi    ",
             e,
         ),
         3 => put_name(
             out,
             waiting,
-            b"operands    iterations  trials      steps       ",
+            b"best-radius best-conic  best-thick  best-semi   index       pupil       min         max         step-size   limit       ",
             e,
         ),
         4 => put_name(
             out,
             waiting,
-            b"cycles      variable    at-surface  enabled     ",
-            e,
-        ),
-        5 => put_name(
-            out,
-            waiting,
-            b"operand     at          radius      conic       ",
+            b"target      weight      damping     merit-tol   gradient-tolrel-step    temperature cooling     crossed     lower-semi  ",
             e,
         ),
         _ => put_name(
             out,
             waiting,
-            b"thickness   semi        now-radius  now-conic   ",
+            b"taken       empty                                                                                                       ",
             e,
         ),
     }
-}
-
-// The entries from 28 on.
-fn put_last_name(out: &mut [u8], waiting: Waiting, e: usize) -> Waiting {
-    match e / 4 {
-        7 => put_name(
-            out,
-            waiting,
-            b"now-thick   now-semi    best-radius best-conic  ",
-            e,
-        ),
-        8 => put_name(
-            out,
-            waiting,
-            b"best-thick  best-semi   index       pupil       ",
-            e,
-        ),
-        9 => put_name(
-            out,
-            waiting,
-            b"min         max         step-size   limit       ",
-            e,
-        ),
-        10 => put_name(
-            out,
-            waiting,
-            b"target      weight      damping     merit-tol   ",
-            e,
-        ),
-        11 => put_name(
-            out,
-            waiting,
-            b"gradient-tolrel-step    temperature cooling     ",
-            e,
-        ),
-        _ => put_name(
-            out,
-            waiting,
-            b"crossed     lower-semi  taken       empty       ",
-            e,
-        ),
-    }
-}
-
-fn put_entry_name(out: &mut [u8], waiting: Waiting, e: usize) -> Waiting {
-    if e < 28 {
-        return put_first_name(out, waiting, e);
-    }
-    put_last_name(out, waiting, e)
 }
 
 fn put_entry(out: &mut [u8], waiting: Waiting, e: usize, tried: u64, right: u64) -> Waiting {

@@ -63,10 +63,13 @@ fn is_taken(bench: Bench, place: usize) -> bool {
     let turn = benchcalls::turned(bench, place, &mut scratch);
     let fetch = benchcalls::fetched(bench, place, marked());
     let finished = finished::listed(bench);
-    let number = turn.number;
-    match number {
-        0 => fetch.number == 14 && finished.count == 3,
-        13 => fetch.number == 0 && finished.count == 4,
+    agree(turn.number, fetch.number, finished.count)
+}
+
+fn agree(turn: u32, fetch: u32, listed: usize) -> bool {
+    match turn {
+        0 => fetch == 14 && listed == 3,
+        13 => fetch == 0 && listed == 4,
         _ => false,
     }
 }
