@@ -47,7 +47,7 @@ pub extern "C" fn turn(bench: &mut Bench, place: usize, scratch: &mut [f64]) -> 
         return 2;
     }
     let row = &mut bench.rows[place];
-    rowslent::turn_parts(
+    rows::turn_parts(
         &mut row.words,
         &mut row.scalars,
         &row.counts,

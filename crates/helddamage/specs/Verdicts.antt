@@ -20,7 +20,7 @@ use Rattle.jobs.specs.declared.types.Method.the-variants.{Damped, MultiStart, A
 use Rattle.jobs.specs.Records.{dlsConfig, multiStartConfig, annealingConfig, method, knownVariables, knownOperands}
 use Rattle.runs.specs.Rows.{isFinished, finishedBy, bound}
 use Rattle.runs.specs.Damage.{isKind, stateSound, jobSound, turnsSound, damaged}
-use Rattle.global.specs.Limits.{CountsWithin}
+use Rattle.kinds.specs.Limits.{CountsWithin}
 use Rattle.held.specs.JobFrom.{surfaceCountFrom, slotCountFrom, operandCountFrom, settingsFrom, jobRecordFrom, heldJob, prescriptionFrom, variablesFrom, operandsFrom}
 use Rattle.held.specs.RowFrom.{kindFrom, turnsFrom, rowFrom}
 use Rattle.helddamage.specs.Others.{Others, heldWith, stateWith}

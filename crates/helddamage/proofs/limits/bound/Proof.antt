@@ -7,7 +7,7 @@ use mathlib.Core.List.{[]}
 use Prim.Native.Nat.{ℕ, _+_, _*_, _≤_}
 use native.Mathlib.Omega.{arith}
 use Rattle.runs.specs.Rows.{dampedBound, boundBy}
-use Rattle.global.specs.Limits.{CountsWithin}
+use Rattle.kinds.specs.Limits.{CountsWithin}
 use Rattle.held.specs.JobFrom.{settingsFrom}
 use borrow.Author.Needs.{needs}
 use Rattle.helddamage.proofs.limits.bound.Statement.{statement}

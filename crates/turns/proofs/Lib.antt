@@ -1,0 +1,3 @@
+-- Laws that several functions' proofs cite.
+pub mod Laid
+pub mod Methods
