@@ -54,7 +54,13 @@ pub fn resume_iterations(
     params: &mut [f64; 8],
     candidate: &mut [f64; 8],
 ) -> Head
-    ensures { λ r. ⌜ ((surfaces values residuals : List Float) → dampedFrom r surfaces (now (jacobian .exit)) values residuals (now («plus_residuals» .exit)) (now (params .exit)) (now (candidate .exit)) ≡ iterationEntered (ltb (h .iteration) limit) (currentOf (dampedFrom h surfaces (now (jacobian .entry)) values residuals (now («plus_residuals» .entry)) (now (params .entry)) (now (candidate .entry))))) ⌝ }
+    ensures { λ r.
+        ⌜ ((surfaces values residuals : List Float) →
+        let before = dampedFrom h surfaces (now (jacobian .entry)) values residuals (now («plus_residuals» .entry)) (now (params .entry))
+        (now (candidate .entry)) in
+        let after = dampedFrom r surfaces (now (jacobian .exit)) values residuals (now («plus_residuals» .exit)) (now (params .exit))
+        (now (candidate .exit)) in
+        after ≡ iterationEntered (ltb (h .iteration) limit) (currentOf before)) ⌝ }
 {
     if h.iteration < limit {
         *jacobian = [0.0; 96];
@@ -79,7 +85,15 @@ fn moved(
     candidate: &[f64; 8],
 ) -> Head
     requires { ⌜ variableCountFrom (now counts) ≤ mostVariables ⌝ ∗ ⌜ 195 ≤ length (now numbers) ⌝ ∗ ⌜ operandCountFrom (now counts) ≤ mostOperands ⌝ }
-    ensures { λ r. ⌜ ForFound (now (counts .entry)) (now (numbers .entry)) (now (found .entry)) (λ e. e .«total_merit» ≡ merit → (config : DlsConfig) (m : ℕ) (jacobian plus : List Float) → dampedFrom r (now (surfaces .exit)) jacobian (now (values .exit)) (now (residuals .exit)) plus (now (params .exit)) (now (candidate .entry)) ≡ withCurrent (dampedFrom h (now (surfaces .entry)) jacobian (now (values .entry)) (now (residuals .entry)) plus (now (params .entry)) (now (candidate .entry))) (moved (optimizer config (variablesFrom (now (counts .entry)) (now (numbers .entry))) m) (now (candidate .entry)) e (currentOf (dampedFrom h (now (surfaces .entry)) jacobian (now (values .entry)) (now (residuals .entry)) plus (now (params .entry)) (now (candidate .entry)))))) ⌝ }
+    ensures { λ r.
+        ⌜ ForFound (now (counts .entry)) (now (numbers .entry)) (now (found .entry))
+        (λ e. e .«total_merit» ≡ merit → (config : DlsConfig) (m : ℕ) (jacobian plus : List Float) →
+        let o = optimizer config (variablesFrom (now (counts .entry)) (now (numbers .entry))) m in
+        let before = dampedFrom h (now (surfaces .entry)) jacobian (now (values .entry)) (now (residuals .entry)) plus (now (params .entry))
+        (now (candidate .entry)) in
+        let after = dampedFrom r (now (surfaces .exit)) jacobian (now (values .exit)) (now (residuals .exit)) plus (now (params .exit))
+        (now (candidate .entry)) in
+        after ≡ withCurrent before (moved o (now (candidate .entry)) e (currentOf before))) ⌝ }
 {
     let x = *candidate;
     let s = stand(surfaces);
@@ -114,8 +128,18 @@ fn advance_accepted(
     params: &mut [f64; 8],
     candidate: &mut [f64; 8],
 ) -> Head
-    requires { ⌜ variableCountFrom (now counts) ≤ mostVariables ⌝ ∗ ⌜ 195 ≤ length (now numbers) ⌝ ∗ ⌜ operandCountFrom (now counts) ≤ mostOperands ⌝ ∗ ⌜ 0 < numActive (variablesFrom (now counts) (now numbers)) ⌝ }
-    ensures { λ r. ⌜ ForFound (now (counts .entry)) (now (numbers .entry)) (now (found .entry)) (λ e. e .«total_merit» ≡ merit → (m : ℕ) → dampedFrom r (now (surfaces .exit)) (now (jacobian .exit)) (now (values .exit)) (now (residuals .exit)) (now («plus_residuals» .exit)) (now (params .exit)) (now (candidate .exit)) ≡ resumeAfter (optimizer config (variablesFrom (now (counts .entry)) (now (numbers .entry))) m) (accepted (optimizer config (variablesFrom (now (counts .entry)) (now (numbers .entry))) m) (now (candidate .entry)) e (currentOf (dampedFrom h (now (surfaces .entry)) (now (jacobian .entry)) (now (values .entry)) (now (residuals .entry)) (now («plus_residuals» .entry)) (now (params .entry)) (now (candidate .entry)))))) ⌝ }
+    requires { ⌜ variableCountFrom (now counts) ≤ mostVariables ⌝
+        ∗ ⌜ 195 ≤ length (now numbers) ⌝
+        ∗ ⌜ operandCountFrom (now counts) ≤ mostOperands ⌝
+        ∗ ⌜ 0 < numActive (variablesFrom (now counts) (now numbers)) ⌝ }
+    ensures { λ r.
+        ⌜ ForFound (now (counts .entry)) (now (numbers .entry)) (now (found .entry)) (λ e. e .«total_merit» ≡ merit → (m : ℕ) →
+        let o = optimizer config (variablesFrom (now (counts .entry)) (now (numbers .entry))) m in
+        let before = dampedFrom h (now (surfaces .entry)) (now (jacobian .entry)) (now (values .entry)) (now (residuals .entry))
+        (now («plus_residuals» .entry)) (now (params .entry)) (now (candidate .entry)) in
+        let after = dampedFrom r (now (surfaces .exit)) (now (jacobian .exit)) (now (values .exit)) (now (residuals .exit)) (now («plus_residuals» .exit))
+        (now (params .exit)) (now (candidate .exit)) in
+        after ≡ resumeAfter o (accepted o (now (candidate .entry)) e (currentOf before))) ⌝ }
 {
     let gain = rel_improvement(merit, h.total_merit);
     let next = moved(
@@ -159,8 +183,20 @@ pub fn advance_candidate(
     candidate: &mut [f64; 8],
     scratch: &mut [f64],
 ) -> Head
-    requires { ⌜ scratchLength ≤ length (now scratch) ⌝ ∗ ⌜ variableCountFrom (now counts) ≤ mostVariables ⌝ ∗ ⌜ 195 ≤ length (now numbers) ⌝ ∗ ⌜ operandCountFrom (now counts) ≤ mostOperands ⌝ ∗ ⌜ 0 < numActive (variablesFrom (now counts) (now numbers)) ⌝ }
-    ensures { λ r. ⌜ ForFound (now (counts .entry)) (now (numbers .entry)) (now (found .entry)) (λ e. dampedFrom r (now (surfaces .exit)) (now (jacobian .exit)) (now (values .exit)) (now (residuals .exit)) (now («plus_residuals» .exit)) (now (params .exit)) (now (candidate .exit)) ≡ advanceAt (optimizer config (variablesFrom (now (counts .entry)) (now (numbers .entry))) (operandCountFrom (now (counts .entry)))) Damped.candidate (dampedFrom h (now (surfaces .entry)) (now (jacobian .entry)) (now (values .entry)) (now (residuals .entry)) (now («plus_residuals» .entry)) (now (params .entry)) (now (candidate .entry))) e) ⌝ ∗ ⌜ ScratchKept (now (scratch .entry)) (now (scratch .exit)) ⌝ }
+    requires { ⌜ scratchLength ≤ length (now scratch) ⌝
+        ∗ ⌜ variableCountFrom (now counts) ≤ mostVariables ⌝
+        ∗ ⌜ 195 ≤ length (now numbers) ⌝
+        ∗ ⌜ operandCountFrom (now counts) ≤ mostOperands ⌝
+        ∗ ⌜ 0 < numActive (variablesFrom (now counts) (now numbers)) ⌝ }
+    ensures { λ r.
+        ⌜ ForFound (now (counts .entry)) (now (numbers .entry)) (now (found .entry)) (λ e.
+        let o = optimizer config (variablesFrom (now (counts .entry)) (now (numbers .entry))) (operandCountFrom (now (counts .entry))) in
+        let before = dampedFrom h (now (surfaces .entry)) (now (jacobian .entry)) (now (values .entry)) (now (residuals .entry))
+        (now («plus_residuals» .entry)) (now (params .entry)) (now (candidate .entry)) in
+        let after = dampedFrom r (now (surfaces .exit)) (now (jacobian .exit)) (now (values .exit)) (now (residuals .exit)) (now («plus_residuals» .exit))
+        (now (params .exit)) (now (candidate .exit)) in
+        after ≡ advanceAt o Damped.candidate before e) ⌝
+        ∗ ⌜ ScratchKept (now (scratch .entry)) (now (scratch .exit)) ⌝ }
 {
     let merit = merit_of(found, counts, numbers);
     if is_reduction(merit, h.total_merit) {

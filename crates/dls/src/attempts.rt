@@ -51,7 +51,10 @@ fn candidate_params(
     params: [f64; 8],
     scratch: &[f64],
 ) -> [f64; 8]
-    requires { ⌜ scratchLength ≤ length (now scratch) ⌝ ∗ ⌜ variableCountFrom (now counts) ≤ mostVariables ⌝ ∗ ⌜ 195 ≤ length (now numbers) ⌝ ∗ ⌜ p ≡ numActive (variablesFrom (now counts) (now numbers)) ⌝ }
+    requires { ⌜ scratchLength ≤ length (now scratch) ⌝
+        ∗ ⌜ variableCountFrom (now counts) ≤ mostVariables ⌝
+        ∗ ⌜ 195 ≤ length (now numbers) ⌝
+        ∗ ⌜ p ≡ numActive (variablesFrom (now counts) (now numbers)) ⌝ }
     ensures { λ r. ⌜ r ≡ candidateIn (variablesFrom (now (counts .entry)) (now (numbers .entry))) params (now (scratch .entry)) ⌝ }
 {
     let moved = stepped(params, p, scratch);
@@ -72,8 +75,17 @@ fn resume_attempts(
     candidate: &mut [f64; 8],
     scratch: &mut [f64],
 ) -> Head
-    requires { ⌜ scratchLength ≤ length (now scratch) ⌝ ∗ ⌜ variableCountFrom (now counts) ≤ mostVariables ⌝ ∗ ⌜ 195 ≤ length (now numbers) ⌝ ∗ ⌜ p ≡ numActive (variablesFrom (now counts) (now numbers)) ⌝ }
-    ensures { λ r. ⌜ ((surfaces values residuals : List Float) → AttemptsMade (variablesFrom (now (counts .entry)) (now (numbers .entry))) (dampedFrom h surfaces (now (jacobian .entry)) values residuals (now («plus_residuals» .entry)) (now (params .entry)) (now (candidate .entry))) damping first (now (scratch .entry)) (now (scratch .exit)) (dampedFrom r surfaces (now (jacobian .exit)) values residuals (now («plus_residuals» .exit)) (now (params .exit)) (now (candidate .exit)))) ⌝ }
+    requires { ⌜ scratchLength ≤ length (now scratch) ⌝
+        ∗ ⌜ variableCountFrom (now counts) ≤ mostVariables ⌝
+        ∗ ⌜ 195 ≤ length (now numbers) ⌝
+        ∗ ⌜ p ≡ numActive (variablesFrom (now counts) (now numbers)) ⌝ }
+    ensures { λ r.
+        ⌜ ((surfaces values residuals : List Float) →
+        let before = dampedFrom h surfaces (now (jacobian .entry)) values residuals (now («plus_residuals» .entry)) (now (params .entry))
+        (now (candidate .entry)) in
+        let after = dampedFrom r surfaces (now (jacobian .exit)) values residuals (now («plus_residuals» .exit)) (now (params .exit))
+        (now (candidate .exit)) in
+        AttemptsMade (variablesFrom (now (counts .entry)) (now (numbers .entry))) before damping first (now (scratch .entry)) (now (scratch .exit)) after) ⌝ }
 {
     let mut now = damping;
     let mut k = first;
@@ -114,8 +126,19 @@ pub fn resume_stationary(
     candidate: &mut [f64; 8],
     scratch: &mut [f64],
 ) -> Head
-    requires { ⌜ scratchLength ≤ length (now scratch) ⌝ ∗ ⌜ variableCountFrom (now counts) ≤ mostVariables ⌝ ∗ ⌜ 195 ≤ length (now numbers) ⌝ ∗ ⌜ operandCountFrom (now counts) ≤ mostOperands ⌝ }
-    ensures { λ r. ⌜ ((surfaces values : List Float) → dampedFrom r surfaces (now (jacobian .exit)) values (now (residuals .entry)) (now («plus_residuals» .exit)) (now (params .exit)) (now (candidate .exit)) ≡ resumeStationary (optimizer config (variablesFrom (now (counts .entry)) (now (numbers .entry))) (operandCountFrom (now (counts .entry)))) (isStationary (optimizer config (variablesFrom (now (counts .entry)) (now (numbers .entry))) (operandCountFrom (now (counts .entry)))) (now (jacobian .entry)) (currentOf (dampedFrom h surfaces (now (jacobian .entry)) values (now (residuals .entry)) (now («plus_residuals» .entry)) (now (params .entry)) (now (candidate .entry))))) (now (jacobian .entry)) (currentOf (dampedFrom h surfaces (now (jacobian .entry)) values (now (residuals .entry)) (now («plus_residuals» .entry)) (now (params .entry)) (now (candidate .entry))))) ⌝ ∗ ⌜ ScratchKept (now (scratch .entry)) (now (scratch .exit)) ⌝ }
+    requires { ⌜ scratchLength ≤ length (now scratch) ⌝
+        ∗ ⌜ variableCountFrom (now counts) ≤ mostVariables ⌝
+        ∗ ⌜ 195 ≤ length (now numbers) ⌝
+        ∗ ⌜ operandCountFrom (now counts) ≤ mostOperands ⌝ }
+    ensures { λ r.
+        ⌜ ((surfaces values : List Float) →
+        let o = optimizer config (variablesFrom (now (counts .entry)) (now (numbers .entry))) (operandCountFrom (now (counts .entry))) in
+        let before = dampedFrom h surfaces (now (jacobian .entry)) values (now (residuals .entry)) (now («plus_residuals» .entry)) (now (params .entry))
+        (now (candidate .entry)) in
+        let after = dampedFrom r surfaces (now (jacobian .exit)) values (now (residuals .entry)) (now («plus_residuals» .exit)) (now (params .exit))
+        (now (candidate .exit)) in
+        after ≡ resumeStationary o (isStationary o (now (jacobian .entry)) (currentOf before)) (now (jacobian .entry)) (currentOf before)) ⌝
+        ∗ ⌜ ScratchKept (now (scratch .entry)) (now (scratch .exit)) ⌝ }
 {
     let p = num_active(counts, numbers);
     let m = operand_count(counts);
@@ -151,8 +174,19 @@ pub fn resume_rejected(
     candidate: &mut [f64; 8],
     scratch: &mut [f64],
 ) -> Head
-    requires { ⌜ scratchLength ≤ length (now scratch) ⌝ ∗ ⌜ variableCountFrom (now counts) ≤ mostVariables ⌝ ∗ ⌜ 195 ≤ length (now numbers) ⌝ ∗ ⌜ operandCountFrom (now counts) ≤ mostOperands ⌝ }
-    ensures { λ r. ⌜ ((config : DlsConfig) (surfaces values : List Float) → dampedFrom r surfaces (now (jacobian .exit)) values (now (residuals .entry)) (now («plus_residuals» .exit)) (now (params .exit)) (now (candidate .exit)) ≡ resumeAttempts (optimizer config (variablesFrom (now (counts .entry)) (now (numbers .entry))) (operandCountFrom (now (counts .entry)))) (10 - h .attempt) (now (jacobian .entry)) (raised (currentOf (dampedFrom h surfaces (now (jacobian .entry)) values (now (residuals .entry)) (now («plus_residuals» .entry)) (now (params .entry)) (now (candidate .entry))))) (h .attempt)) ⌝ ∗ ⌜ ScratchKept (now (scratch .entry)) (now (scratch .exit)) ⌝ }
+    requires { ⌜ scratchLength ≤ length (now scratch) ⌝
+        ∗ ⌜ variableCountFrom (now counts) ≤ mostVariables ⌝
+        ∗ ⌜ 195 ≤ length (now numbers) ⌝
+        ∗ ⌜ operandCountFrom (now counts) ≤ mostOperands ⌝ }
+    ensures { λ r.
+        ⌜ ((config : DlsConfig) (surfaces values : List Float) →
+        let o = optimizer config (variablesFrom (now (counts .entry)) (now (numbers .entry))) (operandCountFrom (now (counts .entry))) in
+        let before = dampedFrom h surfaces (now (jacobian .entry)) values (now (residuals .entry)) (now («plus_residuals» .entry)) (now (params .entry))
+        (now (candidate .entry)) in
+        let after = dampedFrom r surfaces (now (jacobian .exit)) values (now (residuals .entry)) (now («plus_residuals» .exit)) (now (params .exit))
+        (now (candidate .exit)) in
+        after ≡ resumeAttempts o (10 - h .attempt) (now (jacobian .entry)) (raised (currentOf before)) (h .attempt)) ⌝
+        ∗ ⌜ ScratchKept (now (scratch .entry)) (now (scratch .exit)) ⌝ }
 {
     let p = num_active(counts, numbers);
     let m = operand_count(counts);

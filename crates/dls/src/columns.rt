@@ -52,7 +52,8 @@ fn perturbed(
     params: &[f64; 8],
 ) -> [OpticalSurface; 16]
     requires { ⌜ variableCountFrom (now counts) ≤ mostVariables ⌝ ∗ ⌜ 195 ≤ length (now numbers) ⌝ ∗ ⌜ q < mostVariables ⌝ }
-    ensures { λ r. ⌜ r ≡ applied (variablesFrom (now (counts .entry)) (now (numbers .entry))) (set (now (params .entry)) q x) (standing (now (surfaces .entry))) ⌝ }
+    ensures { λ r.
+        ⌜ r ≡ applied (variablesFrom (now (counts .entry)) (now (numbers .entry))) (set (now (params .entry)) q x) (standing (now (surfaces .entry))) ⌝ }
 {
     let mut moved = *params;
     moved[q] = x;
@@ -70,7 +71,11 @@ pub fn presc_plus(
     params: &[f64; 8],
 ) -> [OpticalSurface; 16]
     requires { ⌜ variableCountFrom (now counts) ≤ mostVariables ⌝ ∗ ⌜ 195 ≤ length (now numbers) ⌝ ∗ ⌜ h .column < mostVariables ⌝ }
-    ensures { λ r. ⌜ ((m : ℕ) (jacobian values residuals plus candidate : List Float) → r ≡ prescPlus (optimizer config (variablesFrom (now (counts .entry)) (now (numbers .entry))) m) (currentOf (dampedFrom h (now (surfaces .entry)) jacobian values residuals plus (now (params .entry)) candidate)) (h .column)) ⌝ }
+    ensures { λ r.
+        ⌜ ((m : ℕ) (jacobian values residuals plus candidate : List Float) →
+        let o = optimizer config (variablesFrom (now (counts .entry)) (now (numbers .entry))) m in
+        let state = dampedFrom h (now (surfaces .entry)) jacobian values residuals plus (now (params .entry)) candidate in
+        r ≡ prescPlus o (currentOf state) (h .column)) ⌝ }
 {
     let q = h.column as usize;
     let variable = active_at(counts, numbers, q);
@@ -89,7 +94,11 @@ pub fn presc_minus(
     params: &[f64; 8],
 ) -> [OpticalSurface; 16]
     requires { ⌜ variableCountFrom (now counts) ≤ mostVariables ⌝ ∗ ⌜ 195 ≤ length (now numbers) ⌝ ∗ ⌜ h .column < mostVariables ⌝ }
-    ensures { λ r. ⌜ ((m : ℕ) (jacobian values residuals plus candidate : List Float) → r ≡ prescMinus (optimizer config (variablesFrom (now (counts .entry)) (now (numbers .entry))) m) (currentOf (dampedFrom h (now (surfaces .entry)) jacobian values residuals plus (now (params .entry)) candidate)) (h .column)) ⌝ }
+    ensures { λ r.
+        ⌜ ((m : ℕ) (jacobian values residuals plus candidate : List Float) →
+        let o = optimizer config (variablesFrom (now (counts .entry)) (now (numbers .entry))) m in
+        let state = dampedFrom h (now (surfaces .entry)) jacobian values residuals plus (now (params .entry)) candidate in
+        r ≡ prescMinus o (currentOf state) (h .column)) ⌝ }
 {
     let q = h.column as usize;
     let variable = active_at(counts, numbers, q);
@@ -107,7 +116,11 @@ fn between(
     params: &[f64; 8],
 ) -> f64
     requires { ⌜ variableCountFrom (now counts) ≤ mostVariables ⌝ ∗ ⌜ 195 ≤ length (now numbers) ⌝ ∗ ⌜ h .column < mostVariables ⌝ }
-    ensures { λ r. ⌜ ((m : ℕ) (surfaces jacobian values residuals plus candidate : List Float) → r ≡ denom (optimizer config (variablesFrom (now (counts .entry)) (now (numbers .entry))) m) (currentOf (dampedFrom h surfaces jacobian values residuals plus (now (params .entry)) candidate)) (h .column)) ⌝ }
+    ensures { λ r.
+        ⌜ ((m : ℕ) (surfaces jacobian values residuals plus candidate : List Float) →
+        let o = optimizer config (variablesFrom (now (counts .entry)) (now (numbers .entry))) m in
+        let state = dampedFrom h surfaces jacobian values residuals plus (now (params .entry)) candidate in
+        r ≡ denom o (currentOf state) (h .column)) ⌝ }
 {
     let q = h.column as usize;
     let variable = active_at(counts, numbers, q);
@@ -129,8 +142,16 @@ pub fn with_differences(
     plus_residuals: &[f64; 12],
     params: &[f64; 8],
 )
-    requires { ⌜ variableCountFrom (now counts) ≤ mostVariables ⌝ ∗ ⌜ 195 ≤ length (now numbers) ⌝ ∗ ⌜ operandCountFrom (now counts) ≤ mostOperands ⌝ ∗ ⌜ h .column < mostVariables ⌝ }
-    ensures { λ _. ⌜ ((surfaces values residuals candidate : List Float) → dampedFrom h surfaces (now (jacobian .exit)) values residuals (now («plus_residuals» .entry)) (now (params .entry)) candidate ≡ withJacobian (dampedFrom h surfaces (now (jacobian .entry)) values residuals (now («plus_residuals» .entry)) (now (params .entry)) candidate) (withDifferences (optimizer config (variablesFrom (now (counts .entry)) (now (numbers .entry))) (operandCountFrom (now (counts .entry)))) (currentOf (dampedFrom h surfaces (now (jacobian .entry)) values residuals (now («plus_residuals» .entry)) (now (params .entry)) candidate)) (h .column) (now (jacobian .entry)) (now («plus_residuals» .entry)) minus)) ⌝ }
+    requires { ⌜ variableCountFrom (now counts) ≤ mostVariables ⌝
+        ∗ ⌜ 195 ≤ length (now numbers) ⌝
+        ∗ ⌜ operandCountFrom (now counts) ≤ mostOperands ⌝
+        ∗ ⌜ h .column < mostVariables ⌝ }
+    ensures { λ _.
+        ⌜ ((surfaces values residuals candidate : List Float) →
+        let o = optimizer config (variablesFrom (now (counts .entry)) (now (numbers .entry))) (operandCountFrom (now (counts .entry))) in
+        let before = dampedFrom h surfaces (now (jacobian .entry)) values residuals (now («plus_residuals» .entry)) (now (params .entry)) candidate in
+        let after = dampedFrom h surfaces (now (jacobian .exit)) values residuals (now («plus_residuals» .entry)) (now (params .entry)) candidate in
+        after ≡ withJacobian before (withDifferences o (currentOf before) (h .column) (now (jacobian .entry)) (now («plus_residuals» .entry)) minus)) ⌝ }
 {
     let d = between(h, config, counts, numbers, params);
     let q = h.column as usize;

@@ -40,8 +40,14 @@ pub fn pending_damped(
     params: &[f64; 8],
     candidate: &[f64; 8],
 ) -> [OpticalSurface; 16]
-    requires { ⌜ variableCountFrom (now counts) ≤ mostVariables ⌝ ∗ ⌜ 195 ≤ length (now numbers) ⌝ ∗ ⌜ h .column < numActive (variablesFrom (now counts) (now numbers)) ⌝ }
-    ensures { λ r. ⌜ ((m : ℕ) (jacobian values residuals plus : List Float) → r ≡ pending (optimizer config (variablesFrom (now (counts .entry)) (now (numbers .entry))) m) (dampedFrom h (now (surfaces .entry)) jacobian values residuals plus (now (params .entry)) (now (candidate .entry)))) ⌝ }
+    requires { ⌜ variableCountFrom (now counts) ≤ mostVariables ⌝
+        ∗ ⌜ 195 ≤ length (now numbers) ⌝
+        ∗ ⌜ h .column < numActive (variablesFrom (now counts) (now numbers)) ⌝ }
+    ensures { λ r.
+        ⌜ ((m : ℕ) (jacobian values residuals plus : List Float) →
+        let o = optimizer config (variablesFrom (now (counts .entry)) (now (numbers .entry))) m in
+        let state = dampedFrom h (now (surfaces .entry)) jacobian values residuals plus (now (params .entry)) (now (candidate .entry)) in
+        r ≡ pending o state) ⌝ }
 {
     let phase = h.phase;
     if phase == 1 {
@@ -73,8 +79,18 @@ fn advance_first(
     params: &mut [f64; 8],
     candidate: &mut [f64; 8],
 ) -> Head
-    requires { ⌜ variableCountFrom (now counts) ≤ mostVariables ⌝ ∗ ⌜ 195 ≤ length (now numbers) ⌝ ∗ ⌜ operandCountFrom (now counts) ≤ mostOperands ⌝ ∗ ⌜ 0 < numActive (variablesFrom (now counts) (now numbers)) ⌝ }
-    ensures { λ r. ⌜ ForFound (now (counts .entry)) (now (numbers .entry)) (now (found .entry)) (λ e. (m : ℕ) → dampedFrom r (now (surfaces .entry)) (now (jacobian .exit)) (now (values .exit)) (now (residuals .exit)) (now («plus_residuals» .exit)) (now (params .exit)) (now (candidate .exit)) ≡ advanceAt (optimizer config (variablesFrom (now (counts .entry)) (now (numbers .entry))) m) Damped.first (dampedFrom h (now (surfaces .entry)) (now (jacobian .entry)) (now (values .entry)) (now (residuals .entry)) (now («plus_residuals» .entry)) (now (params .entry)) (now (candidate .entry))) e) ⌝ }
+    requires { ⌜ variableCountFrom (now counts) ≤ mostVariables ⌝
+        ∗ ⌜ 195 ≤ length (now numbers) ⌝
+        ∗ ⌜ operandCountFrom (now counts) ≤ mostOperands ⌝
+        ∗ ⌜ 0 < numActive (variablesFrom (now counts) (now numbers)) ⌝ }
+    ensures { λ r.
+        ⌜ ForFound (now (counts .entry)) (now (numbers .entry)) (now (found .entry)) (λ e. (m : ℕ) →
+        let o = optimizer config (variablesFrom (now (counts .entry)) (now (numbers .entry))) m in
+        let before = dampedFrom h (now (surfaces .entry)) (now (jacobian .entry)) (now (values .entry)) (now (residuals .entry))
+        (now («plus_residuals» .entry)) (now (params .entry)) (now (candidate .entry)) in
+        let after = dampedFrom r (now (surfaces .entry)) (now (jacobian .exit)) (now (values .exit)) (now (residuals .exit)) (now («plus_residuals» .exit))
+        (now (params .exit)) (now (candidate .exit)) in
+        after ≡ advanceAt o Damped.first before e) ⌝ }
 {
     let x = extract_values(counts, numbers, surfaces);
     *params = x;
@@ -112,8 +128,20 @@ fn advance_minus(
     candidate: &mut [f64; 8],
     scratch: &mut [f64],
 ) -> Head
-    requires { ⌜ scratchLength ≤ length (now scratch) ⌝ ∗ ⌜ variableCountFrom (now counts) ≤ mostVariables ⌝ ∗ ⌜ 195 ≤ length (now numbers) ⌝ ∗ ⌜ operandCountFrom (now counts) ≤ mostOperands ⌝ ∗ ⌜ h .column < numActive (variablesFrom (now counts) (now numbers)) ⌝ }
-    ensures { λ r. ⌜ ForFound (now (counts .entry)) (now (numbers .entry)) (now (found .entry)) (λ e. (surfaces values : List Float) → dampedFrom r surfaces (now (jacobian .exit)) values (now (residuals .entry)) (now («plus_residuals» .exit)) (now (params .exit)) (now (candidate .exit)) ≡ advanceAt (optimizer config (variablesFrom (now (counts .entry)) (now (numbers .entry))) (operandCountFrom (now (counts .entry)))) Damped.minus (dampedFrom h surfaces (now (jacobian .entry)) values (now (residuals .entry)) (now («plus_residuals» .entry)) (now (params .entry)) (now (candidate .entry))) e) ⌝ ∗ ⌜ ScratchKept (now (scratch .entry)) (now (scratch .exit)) ⌝ }
+    requires { ⌜ scratchLength ≤ length (now scratch) ⌝
+        ∗ ⌜ variableCountFrom (now counts) ≤ mostVariables ⌝
+        ∗ ⌜ 195 ≤ length (now numbers) ⌝
+        ∗ ⌜ operandCountFrom (now counts) ≤ mostOperands ⌝
+        ∗ ⌜ h .column < numActive (variablesFrom (now counts) (now numbers)) ⌝ }
+    ensures { λ r.
+        ⌜ ForFound (now (counts .entry)) (now (numbers .entry)) (now (found .entry)) (λ e. (surfaces values : List Float) →
+        let o = optimizer config (variablesFrom (now (counts .entry)) (now (numbers .entry))) (operandCountFrom (now (counts .entry))) in
+        let before = dampedFrom h surfaces (now (jacobian .entry)) values (now (residuals .entry)) (now («plus_residuals» .entry)) (now (params .entry))
+        (now (candidate .entry)) in
+        let after = dampedFrom r surfaces (now (jacobian .exit)) values (now (residuals .entry)) (now («plus_residuals» .exit)) (now (params .exit))
+        (now (candidate .exit)) in
+        after ≡ advanceAt o Damped.minus before e) ⌝
+        ∗ ⌜ ScratchKept (now (scratch .entry)) (now (scratch .exit)) ⌝ }
 {
     let below = residuals_of(found, counts, numbers);
     with_differences(
@@ -161,8 +189,20 @@ pub fn advance_damped(
     candidate: &mut [f64; 8],
     scratch: &mut [f64],
 ) -> Head
-    requires { ⌜ scratchLength ≤ length (now scratch) ⌝ ∗ ⌜ variableCountFrom (now counts) ≤ mostVariables ⌝ ∗ ⌜ 195 ≤ length (now numbers) ⌝ ∗ ⌜ operandCountFrom (now counts) ≤ mostOperands ⌝ ∗ ⌜ h .column < numActive (variablesFrom (now counts) (now numbers)) ⌝ }
-    ensures { λ r. ⌜ ForFound (now (counts .entry)) (now (numbers .entry)) (now (found .entry)) (λ e. dampedFrom r (now (surfaces .exit)) (now (jacobian .exit)) (now (values .exit)) (now (residuals .exit)) (now («plus_residuals» .exit)) (now (params .exit)) (now (candidate .exit)) ≡ advance (optimizer config (variablesFrom (now (counts .entry)) (now (numbers .entry))) (operandCountFrom (now (counts .entry)))) (dampedFrom h (now (surfaces .entry)) (now (jacobian .entry)) (now (values .entry)) (now (residuals .entry)) (now («plus_residuals» .entry)) (now (params .entry)) (now (candidate .entry))) e) ⌝ ∗ ⌜ ScratchKept (now (scratch .entry)) (now (scratch .exit)) ⌝ }
+    requires { ⌜ scratchLength ≤ length (now scratch) ⌝
+        ∗ ⌜ variableCountFrom (now counts) ≤ mostVariables ⌝
+        ∗ ⌜ 195 ≤ length (now numbers) ⌝
+        ∗ ⌜ operandCountFrom (now counts) ≤ mostOperands ⌝
+        ∗ ⌜ h .column < numActive (variablesFrom (now counts) (now numbers)) ⌝ }
+    ensures { λ r.
+        ⌜ ForFound (now (counts .entry)) (now (numbers .entry)) (now (found .entry)) (λ e.
+        let o = optimizer config (variablesFrom (now (counts .entry)) (now (numbers .entry))) (operandCountFrom (now (counts .entry))) in
+        let before = dampedFrom h (now (surfaces .entry)) (now (jacobian .entry)) (now (values .entry)) (now (residuals .entry))
+        (now («plus_residuals» .entry)) (now (params .entry)) (now (candidate .entry)) in
+        let after = dampedFrom r (now (surfaces .exit)) (now (jacobian .exit)) (now (values .exit)) (now (residuals .exit)) (now («plus_residuals» .exit))
+        (now (params .exit)) (now (candidate .exit)) in
+        after ≡ advance o before e) ⌝
+        ∗ ⌜ ScratchKept (now (scratch .entry)) (now (scratch .exit)) ⌝ }
 {
     let phase = h.phase;
     if phase == 0 {

@@ -17,7 +17,11 @@ pub fn holding(
     residuals: &mut [f64; 12],
     plus_residuals: &mut [f64; 12],
 ) -> Head
-    ensures { λ r. ⌜ ((surfaces params candidate : List Float) → dampedFrom r surfaces (now (jacobian .exit)) (now (values .exit)) (now (residuals .exit)) (now («plus_residuals» .exit)) params candidate ≡ holding phase (standing surfaces) params candidate) ⌝ }
+    ensures { λ r.
+        ⌜ ((surfaces params candidate : List Float) →
+        let after = dampedFrom r surfaces (now (jacobian .exit)) (now (values .exit)) (now (residuals .exit)) (now («plus_residuals» .exit)) params
+        candidate in
+        after ≡ holding phase (standing surfaces) params candidate) ⌝ }
 {
     *jacobian = [0.0; 96];
     *values = [0.0; 12];
@@ -44,7 +48,11 @@ pub fn at_first(
     params: &mut [f64; 8],
     candidate: &mut [f64; 8],
 ) -> Head
-    ensures { λ r. ⌜ ((surfaces : List Float) → dampedFrom r surfaces (now (jacobian .exit)) (now (values .exit)) (now (residuals .exit)) (now («plus_residuals» .exit)) (now (params .exit)) (now (candidate .exit)) ≡ atFirst (standing surfaces)) ⌝ }
+    ensures { λ r.
+        ⌜ ((surfaces : List Float) →
+        let after = dampedFrom r surfaces (now (jacobian .exit)) (now (values .exit)) (now (residuals .exit)) (now («plus_residuals» .exit))
+        (now (params .exit)) (now (candidate .exit)) in
+        after ≡ atFirst (standing surfaces)) ⌝ }
 {
     *params = [0.0; 8];
     *candidate = [0.0; 8];
@@ -58,7 +66,11 @@ pub fn at_plus(
     plus_residuals: &mut [f64; 12],
     candidate: &mut [f64; 8],
 ) -> Head
-    ensures { λ r. ⌜ ((surfaces jacobian values residuals params : List Float) → dampedFrom r surfaces jacobian values residuals (now («plus_residuals» .exit)) params (now (candidate .exit)) ≡ atPlus (currentOf (dampedFrom h surfaces jacobian values residuals (now («plus_residuals» .entry)) params (now (candidate .entry)))) jacobian column) ⌝ }
+    ensures { λ r.
+        ⌜ ((surfaces jacobian values residuals params : List Float) →
+        let before = dampedFrom h surfaces jacobian values residuals (now («plus_residuals» .entry)) params (now (candidate .entry)) in
+        let after = dampedFrom r surfaces jacobian values residuals (now («plus_residuals» .exit)) params (now (candidate .exit)) in
+        after ≡ atPlus (currentOf before) jacobian column) ⌝ }
 {
     *plus_residuals = [0.0; 12];
     *candidate = [0.0; 8];
@@ -77,7 +89,11 @@ pub fn at_minus(
     plus_residuals: &mut [f64; 12],
     candidate: &mut [f64; 8],
 ) -> Head
-    ensures { λ r. ⌜ ((surfaces jacobian values residuals params : List Float) → dampedFrom r surfaces jacobian values residuals (now («plus_residuals» .exit)) params (now (candidate .exit)) ≡ atMinus (currentOf (dampedFrom h surfaces jacobian values residuals (now («plus_residuals» .entry)) params (now (candidate .entry)))) jacobian (h .column) found) ⌝ }
+    ensures { λ r.
+        ⌜ ((surfaces jacobian values residuals params : List Float) →
+        let before = dampedFrom h surfaces jacobian values residuals (now («plus_residuals» .entry)) params (now (candidate .entry)) in
+        let after = dampedFrom r surfaces jacobian values residuals (now («plus_residuals» .exit)) params (now (candidate .exit)) in
+        after ≡ atMinus (currentOf before) jacobian (h .column) found) ⌝ }
 {
     *plus_residuals = found;
     *candidate = [0.0; 8];
@@ -97,7 +113,11 @@ pub fn at_candidate(
     plus_residuals: &mut [f64; 12],
     candidate: &mut [f64; 8],
 ) -> Head
-    ensures { λ r. ⌜ ((surfaces jacobian values residuals params : List Float) → dampedFrom r surfaces jacobian values residuals (now («plus_residuals» .exit)) params (now (candidate .exit)) ≡ atCandidate (withDamping damping (currentOf (dampedFrom h surfaces jacobian values residuals (now («plus_residuals» .entry)) params (now (candidate .entry))))) jacobian attempt found) ⌝ }
+    ensures { λ r.
+        ⌜ ((surfaces jacobian values residuals params : List Float) →
+        let before = dampedFrom h surfaces jacobian values residuals (now («plus_residuals» .entry)) params (now (candidate .entry)) in
+        let after = dampedFrom r surfaces jacobian values residuals (now («plus_residuals» .exit)) params (now (candidate .exit)) in
+        after ≡ atCandidate (withDamping damping (currentOf before)) jacobian attempt found) ⌝ }
 {
     *plus_residuals = [0.0; 12];
     *candidate = found;
@@ -119,7 +139,13 @@ pub fn ended(
     params: &mut [f64; 8],
     candidate: &mut [f64; 8],
 ) -> Head
-    ensures { λ r. ⌜ ((surfaces values residuals : List Float) → dampedFrom r surfaces (now (jacobian .exit)) values residuals (now («plus_residuals» .exit)) (now (params .exit)) (now (candidate .exit)) ≡ ended converged (currentOf (dampedFrom h surfaces (now (jacobian .entry)) values residuals (now («plus_residuals» .entry)) (now (params .entry)) (now (candidate .entry))))) ⌝ }
+    ensures { λ r.
+        ⌜ ((surfaces values residuals : List Float) →
+        let before = dampedFrom h surfaces (now (jacobian .entry)) values residuals (now («plus_residuals» .entry)) (now (params .entry))
+        (now (candidate .entry)) in
+        let after = dampedFrom r surfaces (now (jacobian .exit)) values residuals (now («plus_residuals» .exit)) (now (params .exit))
+        (now (candidate .exit)) in
+        after ≡ ended converged (currentOf before)) ⌝ }
 {
     *jacobian = [0.0; 96];
     *plus_residuals = [0.0; 12];

@@ -19,7 +19,9 @@ pub struct Drawn {
 // `rng.uniform(var.min_value, var.max_value)` for each, and +0.0 after them.
 pub fn random_params(generator: u64, counts: &[u64; 57], numbers: &[f64]) -> Drawn
     requires { ⌜ variableCountFrom (now counts) ≤ 8 ⌝ ∗ ⌜ 195 ≤ length (now numbers) ⌝ }
-    ensures { λ r. ⌜ (r .params ≡ randomParams (variablesFrom (now (counts .entry)) (now (numbers .entry))) generator) × (r .generator ≡ afterDraws (variablesFrom (now (counts .entry)) (now (numbers .entry))) generator) ⌝ }
+    ensures { λ r.
+        ⌜ (r .params ≡ randomParams (variablesFrom (now (counts .entry)) (now (numbers .entry))) generator)
+        × (r .generator ≡ afterDraws (variablesFrom (now (counts .entry)) (now (numbers .entry))) generator) ⌝ }
 {
     let count = variable_count(counts);
     let mut x = [0.0; 8];
@@ -45,7 +47,9 @@ pub fn random_params(generator: u64, counts: &[u64; 57], numbers: &[f64]) -> Dra
 // Each param moved by up to a twentieth of its range either way, and clamped; what stands after them is kept.
 pub fn trial_params(generator: u64, counts: &[u64; 57], numbers: &[f64], params: [f64; 8]) -> Drawn
     requires { ⌜ variableCountFrom (now counts) ≤ 8 ⌝ ∗ ⌜ 195 ≤ length (now numbers) ⌝ }
-    ensures { λ r. ⌜ TriedBy (variablesFrom (now (counts .entry)) (now (numbers .entry))) params generator (r .params) × (r .generator ≡ stepTimes (numActive (variablesFrom (now (counts .entry)) (now (numbers .entry)))) generator) ⌝ }
+    ensures { λ r.
+        ⌜ TriedBy (variablesFrom (now (counts .entry)) (now (numbers .entry))) params generator (r .params)
+        × (r .generator ≡ stepTimes (numActive (variablesFrom (now (counts .entry)) (now (numbers .entry)))) generator) ⌝ }
 {
     let count = variable_count(counts);
     let mut x = params;

@@ -28,7 +28,10 @@ pub fn started(
     best_surfaces: &mut [f64; 64],
 ) -> WalkHead
     requires { ⌜ variableCountFrom (now counts) ≤ 8 ⌝ ∗ ⌜ 195 ≤ length (now numbers) ⌝ }
-    ensures { λ r. ⌜ ForAnnealerBy config (variablesFrom (now (counts .entry)) (now (numbers .entry))) (λ a. (e : MeritEvaluation) → e .«total_merit» ≡ merit → walkFrom r (now (surfaces .entry)) (now (params .exit)) (now («best_surfaces» .exit)) ≡ Run.started a (standing (now (surfaces .entry))) e) ⌝ }
+    ensures { λ r.
+        ⌜ ForAnnealerBy config (variablesFrom (now (counts .entry)) (now (numbers .entry))) (λ a. (e : MeritEvaluation) → e .«total_merit» ≡ merit →
+        let after = walkFrom r (now (surfaces .entry)) (now (params .exit)) (now («best_surfaces» .exit)) in
+        after ≡ Run.started a (standing (now (surfaces .entry))) e) ⌝ }
 {
     let x = held::extract_values(counts, numbers, surfaces);
     *params = x;
@@ -61,7 +64,11 @@ fn accepted(
     best_surfaces: &mut [f64; 64],
 ) -> WalkHead
     requires { ⌜ variableCountFrom (now counts) ≤ 8 ⌝ ∗ ⌜ 195 ≤ length (now numbers) ⌝ }
-    ensures { λ r. ⌜ ForAnnealer (variablesFrom (now (counts .entry)) (now (numbers .entry))) (λ a. walkFrom r (now (surfaces .exit)) (now (params .exit)) (now («best_surfaces» .exit)) ≡ Run.accepted a (now (candidate .entry)) merit (walkFrom w (now (surfaces .entry)) (now (params .entry)) (now («best_surfaces» .entry)))) ⌝ }
+    ensures { λ r.
+        ⌜ ForAnnealer (variablesFrom (now (counts .entry)) (now (numbers .entry))) (λ a.
+        let walking = walkFrom w (now (surfaces .entry)) (now (params .entry)) (now («best_surfaces» .entry)) in
+        let after = walkFrom r (now (surfaces .exit)) (now (params .exit)) (now («best_surfaces» .exit)) in
+        after ≡ Run.accepted a (now (candidate .entry)) merit walking) ⌝ }
 {
     let x = *candidate;
     let s = held::stand(surfaces);
@@ -91,7 +98,11 @@ pub fn judged(
     best_surfaces: &mut [f64; 64],
 ) -> WalkHead
     requires { ⌜ variableCountFrom (now counts) ≤ 8 ⌝ ∗ ⌜ 195 ≤ length (now numbers) ⌝ }
-    ensures { λ r. ⌜ ForAnnealer (variablesFrom (now (counts .entry)) (now (numbers .entry))) (λ a. (e : MeritEvaluation) → e .«total_merit» ≡ merit → walkFrom r (now (surfaces .exit)) (now (params .exit)) (now («best_surfaces» .exit)) ≡ Run.judged a (now (candidate .entry)) e (walkFrom w (now (surfaces .entry)) (now (params .entry)) (now («best_surfaces» .entry)))) ⌝ }
+    ensures { λ r.
+        ⌜ ForAnnealer (variablesFrom (now (counts .entry)) (now (numbers .entry))) (λ a. (e : MeritEvaluation) → e .«total_merit» ≡ merit →
+        let walking = walkFrom w (now (surfaces .entry)) (now (params .entry)) (now («best_surfaces» .entry)) in
+        let after = walkFrom r (now (surfaces .exit)) (now (params .exit)) (now («best_surfaces» .exit)) in
+        after ≡ Run.judged a (now (candidate .entry)) e walking) ⌝ }
 {
     let delta_merit = merit - w.current_merit;
     if delta_merit <= 0.0 {

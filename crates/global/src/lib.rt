@@ -2,6 +2,8 @@
 mod cycles;
 mod draws;
 mod judging;
+mod merging;
+mod steps;
 mod trials;
 mod walk;
 

@@ -1,4 +1,4 @@
-// Multi-start: the best result so far, and from the end of a trial to just before the next one's first merit.
+// Multi-start: a trial of it, and from the end of a trial to just before the next one's first merit.
 ghost use mathlib.Core.Path.{_≡_};
 ghost use mathlib.Core.List.{List};
 ghost use Prim.Native.Nat.{_≤_, _<_};
@@ -8,86 +8,20 @@ ghost use lib.ListN.{length};
 ghost use Rattle.normal.specs.Layout.{scratchLength, mostOperands, mostVariables};
 ghost use Rattle.variables.specs.Active.{numActive};
 ghost use Rattle.runs.specs.declared.types.DampedState.{DampedState};
-ghost use Rattle.runs.specs.MultiStartRun.{merged, afterDraws, trialPresc};
-ghost use Rattle.runs.specs.MultiStartRow.{bestBefore, ended, resumeTrials, resumeDamped, advance};
+ghost use Rattle.runs.specs.MultiStartRun.{afterDraws, trialPresc};
+ghost use Rattle.runs.specs.MultiStartRow.{ended, resumeTrials, resumeDamped, advance};
 ghost use Rattle.runs.specs.DampedRow as Damped;
 ghost use Rattle.runs.specs.State.{withDamped};
 ghost use Rattle.jobs.specs.Records.{dlsConfig};
 ghost use Rattle.dls.specs.DampedSteps.{optimizer, ScratchKept};
 ghost use Rattle.held.specs.JobFrom.{standing, variableCountFrom, operandCountFrom, numTrialsFrom, settingsFrom, variablesFrom};
-ghost use Rattle.held.specs.RowFrom.{dampedFrom};
 ghost use Rattle.dls.specs.Found.{ForFound};
 ghost use Rattle.global.specs.Parts.{ForOptimizer};
 ghost use Rattle.held.specs.RowFrom.{resultFrom, stateFrom};
 use crate::draws;
+use crate::merging::merged;
 use held::BestHead;
-use held::Head;
 use held::RowHead;
-
-// The result of a run at its end, kept as the best.
-fn keep(
-    h: Head,
-    surfaces: &[f64; 64],
-    values: &[f64; 12],
-    residuals: &[f64; 12],
-    best_surfaces: &mut [f64; 64],
-    best_values: &mut [f64; 12],
-    best_residuals: &mut [f64; 12],
-) -> BestHead
-    ensures { λ r. ⌜ ((jacobian plus params candidate : List Float) → resultFrom r (now («best_surfaces» .exit)) (now («best_values» .exit)) (now («best_residuals» .exit)) ≡ Damped.resultOf (dampedFrom h (now (surfaces .entry)) jacobian (now (values .entry)) (now (residuals .entry)) plus params candidate)) ⌝ }
-{
-    let s = *surfaces;
-    *best_surfaces = s;
-    let v = *values;
-    *best_values = v;
-    let found = *residuals;
-    *best_residuals = found;
-    BestHead {
-        initial_merit: h.initial_merit,
-        final_merit: h.total_merit,
-        iterations: h.iteration,
-        converged: h.converged,
-    }
-}
-
-// A later result replaces the best only when strictly lower; before the base's, in trial 0, there is none.
-fn merged(
-    h: RowHead,
-    surfaces: &[f64; 64],
-    values: &[f64; 12],
-    residuals: &[f64; 12],
-    best_surfaces: &mut [f64; 64],
-    best_values: &mut [f64; 12],
-    best_residuals: &mut [f64; 12],
-) -> BestHead
-    ensures { λ r. ⌜ ((jacobian plus params candidate : List Float) → resultFrom r (now («best_surfaces» .exit)) (now («best_values» .exit)) (now («best_residuals» .exit)) ≡ merged (bestBefore (h .trial) (resultFrom (h .best) (now («best_surfaces» .entry)) (now («best_values» .entry)) (now («best_residuals» .entry)))) (Damped.resultOf (dampedFrom (h .damped) (now (surfaces .entry)) jacobian (now (values .entry)) (now (residuals .entry)) plus params candidate))) ⌝ }
-{
-    let damped = h.damped;
-    if h.trial == 0 {
-        return keep(
-            damped,
-            surfaces,
-            values,
-            residuals,
-            best_surfaces,
-            best_values,
-            best_residuals,
-        );
-    }
-    if damped.total_merit < h.best.final_merit {
-        return keep(
-            damped,
-            surfaces,
-            values,
-            residuals,
-            best_surfaces,
-            best_values,
-            best_residuals,
-        );
-    }
-    let best = h.best;
-    best
-}
 
 // The surfaces that a trial starts from; the generator after its draws.
 fn trial_surfaces(
@@ -97,7 +31,10 @@ fn trial_surfaces(
     surfaces: &mut [f64; 64],
 ) -> u64
     requires { ⌜ variableCountFrom (now counts) ≤ 8 ⌝ ∗ ⌜ 195 ≤ length (now numbers) ⌝ }
-    ensures { λ r. ⌜ ForOptimizer (variablesFrom (now (counts .entry)) (now (numbers .entry))) (λ o. standing (now (surfaces .exit)) ≡ trialPresc o (standing (now (numbers .entry))) generator) × (r ≡ afterDraws (variablesFrom (now (counts .entry)) (now (numbers .entry))) generator) ⌝ }
+    ensures { λ r.
+        ⌜ ForOptimizer (variablesFrom (now (counts .entry)) (now (numbers .entry)))
+        (λ o. standing (now (surfaces .exit)) ≡ trialPresc o (standing (now (numbers .entry))) generator)
+        × (r ≡ afterDraws (variablesFrom (now (counts .entry)) (now (numbers .entry))) generator) ⌝ }
 {
     let drawn = draws::random_params(generator, counts, numbers);
     let params = drawn.params;
@@ -118,7 +55,12 @@ fn ended(
     params: &mut [f64; 8],
     candidate: &mut [f64; 8],
 ) -> RowHead
-    ensures { λ r. ⌜ ((bs bv br : List Float) → stateFrom r (now (surfaces .exit)) (now (jacobian .exit)) (now (values .exit)) (now (residuals .exit)) (now («plus_residuals» .exit)) (now (params .exit)) (now (candidate .exit)) bs bv br ≡ ended (resultFrom best bs bv br)) ⌝ }
+    ensures { λ r.
+        ⌜ ((bs bv br : List Float) →
+        let kept = resultFrom best bs bv br in
+        let after = stateFrom r (now (surfaces .exit)) (now (jacobian .exit)) (now (values .exit)) (now (residuals .exit)) (now («plus_residuals» .exit))
+        (now (params .exit)) (now (candidate .exit)) bs bv br in
+        after ≡ ended kept) ⌝ }
 {
     *surfaces = [0.0; 64];
     *params = [0.0; 8];
@@ -152,7 +94,13 @@ fn resume_trials(
     candidate: &mut [f64; 8],
 ) -> RowHead
     requires { ⌜ variableCountFrom (now counts) ≤ 8 ⌝ ∗ ⌜ 195 ≤ length (now numbers) ⌝ }
-    ensures { λ r. ⌜ ForOptimizer (variablesFrom (now (counts .entry)) (now (numbers .entry))) (λ o. (bs bv br : List Float) → stateFrom r (now (surfaces .exit)) (now (jacobian .exit)) (now (values .exit)) (now (residuals .exit)) (now («plus_residuals» .exit)) (now (params .exit)) (now (candidate .exit)) bs bv br ≡ resumeTrials o (standing (now (numbers .entry))) (numTrialsFrom (now (counts .entry))) (ltb trial (numTrialsFrom (now (counts .entry)))) (resultFrom best bs bv br) generator trial) ⌝ }
+    ensures { λ r.
+        ⌜ ForOptimizer (variablesFrom (now (counts .entry)) (now (numbers .entry))) (λ o. (bs bv br : List Float) →
+        let kept = resultFrom best bs bv br in
+        let after = stateFrom r (now (surfaces .exit)) (now (jacobian .exit)) (now (values .exit)) (now (residuals .exit)) (now («plus_residuals» .exit))
+        (now (params .exit)) (now (candidate .exit)) bs bv br in
+        after ≡ resumeTrials o (standing (now (numbers .entry))) (numTrialsFrom (now (counts .entry))) (ltb trial (numTrialsFrom (now (counts .entry)))) kept
+        generator trial) ⌝ }
 {
     if trial < held::num_trials(counts) {
         let next = trial_surfaces(generator, counts, numbers, surfaces);
@@ -204,7 +152,15 @@ fn resume_damped(
     best_residuals: &mut [f64; 12],
 ) -> RowHead
     requires { ⌜ variableCountFrom (now counts) ≤ 8 ⌝ ∗ ⌜ 195 ≤ length (now numbers) ⌝ }
-    ensures { λ r. ⌜ ForOptimizer (variablesFrom (now (counts .entry)) (now (numbers .entry))) (λ o. (before : DampedState) → stateFrom r (now (surfaces .exit)) (now (jacobian .exit)) (now (values .exit)) (now (residuals .exit)) (now («plus_residuals» .exit)) (now (params .exit)) (now (candidate .exit)) (now («best_surfaces» .exit)) (now («best_values» .exit)) (now («best_residuals» .exit)) ≡ resumeDamped o (standing (now (numbers .entry))) (numTrialsFrom (now (counts .entry))) (Damped.isFinished (dampedFrom (h .damped) (now (surfaces .entry)) (now (jacobian .entry)) (now (values .entry)) (now (residuals .entry)) (now («plus_residuals» .entry)) (now (params .entry)) (now (candidate .entry)))) (withDamped (stateFrom h (now (surfaces .entry)) (now (jacobian .entry)) (now (values .entry)) (now (residuals .entry)) (now («plus_residuals» .entry)) (now (params .entry)) (now (candidate .entry)) (now («best_surfaces» .entry)) (now («best_values» .entry)) (now («best_residuals» .entry))) before) (dampedFrom (h .damped) (now (surfaces .entry)) (now (jacobian .entry)) (now (values .entry)) (now (residuals .entry)) (now («plus_residuals» .entry)) (now (params .entry)) (now (candidate .entry)))) ⌝ }
+    ensures { λ r.
+        ⌜ ForOptimizer (variablesFrom (now (counts .entry)) (now (numbers .entry))) (λ o. (old : DampedState) →
+        let before = stateFrom h (now (surfaces .entry)) (now (jacobian .entry)) (now (values .entry)) (now (residuals .entry))
+        (now («plus_residuals» .entry)) (now (params .entry)) (now (candidate .entry)) (now («best_surfaces» .entry)) (now («best_values» .entry))
+        (now («best_residuals» .entry)) in
+        let after = stateFrom r (now (surfaces .exit)) (now (jacobian .exit)) (now (values .exit)) (now (residuals .exit)) (now («plus_residuals» .exit))
+        (now (params .exit)) (now (candidate .exit)) (now («best_surfaces» .exit)) (now («best_values» .exit)) (now («best_residuals» .exit)) in
+        after ≡ resumeDamped o (standing (now (numbers .entry))) (numTrialsFrom (now (counts .entry))) (Damped.isFinished (before .damped))
+        (withDamped before old) (before .damped)) ⌝ }
 {
     if kinds::damped_over(h.damped.phase) {
         let best = merged(
@@ -252,8 +208,22 @@ pub fn advance_trials(
     best_residuals: &mut [f64; 12],
     scratch: &mut [f64],
 ) -> RowHead
-    requires { ⌜ scratchLength ≤ length (now scratch) ⌝ ∗ ⌜ variableCountFrom (now counts) ≤ mostVariables ⌝ ∗ ⌜ 195 ≤ length (now numbers) ⌝ ∗ ⌜ operandCountFrom (now counts) ≤ mostOperands ⌝ ∗ ⌜ h .damped .column < numActive (variablesFrom (now counts) (now numbers)) ⌝ }
-    ensures { λ r. ⌜ ForFound (now (counts .entry)) (now (numbers .entry)) (now (found .entry)) (λ e. stateFrom r (now (surfaces .exit)) (now (jacobian .exit)) (now (values .exit)) (now (residuals .exit)) (now («plus_residuals» .exit)) (now (params .exit)) (now (candidate .exit)) (now («best_surfaces» .exit)) (now («best_values» .exit)) (now («best_residuals» .exit)) ≡ advance (optimizer (dlsConfig (settingsFrom (now (counts .entry)) (now (numbers .entry)))) (variablesFrom (now (counts .entry)) (now (numbers .entry))) (operandCountFrom (now (counts .entry)))) (standing (now (numbers .entry))) (numTrialsFrom (now (counts .entry))) (stateFrom h (now (surfaces .entry)) (now (jacobian .entry)) (now (values .entry)) (now (residuals .entry)) (now («plus_residuals» .entry)) (now (params .entry)) (now (candidate .entry)) (now («best_surfaces» .entry)) (now («best_values» .entry)) (now («best_residuals» .entry))) e) ⌝ ∗ ⌜ ScratchKept (now (scratch .entry)) (now (scratch .exit)) ⌝ }
+    requires { ⌜ scratchLength ≤ length (now scratch) ⌝
+        ∗ ⌜ variableCountFrom (now counts) ≤ mostVariables ⌝
+        ∗ ⌜ 195 ≤ length (now numbers) ⌝
+        ∗ ⌜ operandCountFrom (now counts) ≤ mostOperands ⌝
+        ∗ ⌜ h .damped .column < numActive (variablesFrom (now counts) (now numbers)) ⌝ }
+    ensures { λ r.
+        ⌜ ForFound (now (counts .entry)) (now (numbers .entry)) (now (found .entry)) (λ e.
+        let o = optimizer (dlsConfig (settingsFrom (now (counts .entry)) (now (numbers .entry)))) (variablesFrom (now (counts .entry)) (now (numbers .entry)))
+        (operandCountFrom (now (counts .entry))) in
+        let before = stateFrom h (now (surfaces .entry)) (now (jacobian .entry)) (now (values .entry)) (now (residuals .entry))
+        (now («plus_residuals» .entry)) (now (params .entry)) (now (candidate .entry)) (now («best_surfaces» .entry)) (now («best_values» .entry))
+        (now («best_residuals» .entry)) in
+        let after = stateFrom r (now (surfaces .exit)) (now (jacobian .exit)) (now (values .exit)) (now (residuals .exit)) (now («plus_residuals» .exit))
+        (now (params .exit)) (now (candidate .exit)) (now («best_surfaces» .exit)) (now («best_values» .exit)) (now («best_residuals» .exit)) in
+        after ≡ advance o (standing (now (numbers .entry))) (numTrialsFrom (now (counts .entry))) before e) ⌝
+        ∗ ⌜ ScratchKept (now (scratch .entry)) (now (scratch .exit)) ⌝ }
 {
     let before = h.damped;
     let local = held::dls_config(counts, numbers);

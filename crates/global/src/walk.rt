@@ -1,116 +1,21 @@
 // Annealing's walk, from merit to merit as far as the polish: a step judged and the next one's draws made.
 ghost use mathlib.Core.Path.{_≡_};
 ghost use mathlib.Core.Bool.{false};
-ghost use mathlib.Core.List.{List};
 ghost use Prim.Native.Nat.{ℕ, _≤_};
-ghost use lib.Ieee.{Float};
 ghost use lib.ListN.{length};
-ghost use Rattle.runs.specs.AnnealingRow.{walk, walkFirst, atPolish, atStep, resumeSteps, advanceAt};
-ghost use Rattle.runs.specs.DampedRow.{atFirst};
-ghost use Rattle.held.specs.JobFrom.{standing, variableCountFrom, variablesFrom};
-ghost use Rattle.global.specs.Parts.{ForAnnealer, ForAnnealerBy};
+ghost use Rattle.runs.specs.AnnealingRow.{walk, walkFirst, resumeSteps, advanceAt};
+ghost use Rattle.held.specs.JobFrom.{variableCountFrom, variablesFrom};
+ghost use Rattle.global.specs.Parts.{ForAnnealerBy};
 ghost use Rattle.held.specs.RowFrom.{stateFrom};
 ghost use Rattle.global.specs.WalkFrom.{walkFrom};
 use crate::cycles;
-use crate::draws;
 use crate::judging;
 use crate::judging::WalkHead;
-use held::BestHead;
+use crate::steps::at_polish;
+use crate::steps::at_step;
 use held::RowHead;
 use jobs::SimulatedAnnealingConfig;
 use merit::MeritEvaluation;
-
-// Step k of cycle c, with its draws made.
-fn at_step(
-    w: WalkHead,
-    initial_merit: f64,
-    c: u64,
-    k: u64,
-    counts: &[u64; 57],
-    numbers: &[f64],
-    jacobian: &mut [f64; 96],
-    values: &mut [f64; 12],
-    residuals: &mut [f64; 12],
-    plus_residuals: &mut [f64; 12],
-    params: &[f64; 8],
-    candidate: &mut [f64; 8],
-    best_values: &mut [f64; 12],
-    best_residuals: &mut [f64; 12],
-) -> RowHead
-    requires { ⌜ variableCountFrom (now counts) ≤ 8 ⌝ ∗ ⌜ 195 ≤ length (now numbers) ⌝ }
-    ensures { λ r. ⌜ ForAnnealer (variablesFrom (now (counts .entry)) (now (numbers .entry))) (λ a. (surfaces bs : List Float) → stateFrom r surfaces (now (jacobian .exit)) (now (values .exit)) (now (residuals .exit)) (now («plus_residuals» .exit)) (now (params .entry)) (now (candidate .exit)) bs (now («best_values» .exit)) (now («best_residuals» .exit)) ≡ atStep a «initial_merit» (walkFrom w surfaces (now (params .entry)) bs) c k) ⌝ }
-{
-    let x = *params;
-    let drawn = draws::trial_params(w.rng, counts, numbers, x);
-    let trial = drawn.params;
-    *candidate = trial;
-    let damped = dls::holding(6, jacobian, values, residuals, plus_residuals);
-    *best_values = [0.0; 12];
-    *best_residuals = [0.0; 12];
-    let best = BestHead {
-        initial_merit: initial_merit,
-        final_merit: w.best_merit,
-        iterations: 0,
-        converged: 0,
-    };
-    RowHead {
-        damped: damped,
-        best: best,
-        generator: drawn.generator,
-        trial: 0,
-        cycle: c,
-        step: k,
-        temperature: w.temp,
-        current_merit: w.current_merit,
-    }
-}
-
-// The polish begins, from the best surfaces.
-fn at_polish(
-    initial_merit: f64,
-    surfaces: &mut [f64; 64],
-    jacobian: &mut [f64; 96],
-    values: &mut [f64; 12],
-    residuals: &mut [f64; 12],
-    plus_residuals: &mut [f64; 12],
-    params: &mut [f64; 8],
-    candidate: &mut [f64; 8],
-    best_surfaces: &mut [f64; 64],
-    best_values: &mut [f64; 12],
-    best_residuals: &mut [f64; 12],
-) -> RowHead
-    ensures { λ r. ⌜ stateFrom r (now (surfaces .exit)) (now (jacobian .exit)) (now (values .exit)) (now (residuals .exit)) (now («plus_residuals» .exit)) (now (params .exit)) (now (candidate .exit)) (now («best_surfaces» .exit)) (now («best_values» .exit)) (now («best_residuals» .exit)) ≡ atPolish «initial_merit» (atFirst (standing (now («best_surfaces» .entry)))) ⌝ }
-{
-    let flat = *best_surfaces;
-    *surfaces = flat;
-    let damped = dls::at_first(
-        jacobian,
-        values,
-        residuals,
-        plus_residuals,
-        params,
-        candidate,
-    );
-    *best_surfaces = [0.0; 64];
-    *best_values = [0.0; 12];
-    *best_residuals = [0.0; 12];
-    let best = BestHead {
-        initial_merit: initial_merit,
-        final_merit: 0.0,
-        iterations: 0,
-        converged: 0,
-    };
-    RowHead {
-        damped: damped,
-        best: best,
-        generator: 0,
-        trial: 0,
-        cycle: 0,
-        step: 0,
-        temperature: 0.0,
-        current_merit: 0.0,
-    }
-}
 
 // The cycle is over: it cools, and the next one begins, or the polish.
 fn next_cycle(
@@ -132,7 +37,12 @@ fn next_cycle(
     best_residuals: &mut [f64; 12],
 ) -> RowHead
     requires { ⌜ variableCountFrom (now counts) ≤ 8 ⌝ ∗ ⌜ 195 ≤ length (now numbers) ⌝ }
-    ensures { λ r. ⌜ ForAnnealerBy config (variablesFrom (now (counts .entry)) (now (numbers .entry))) (λ a. (k : ℕ) → stateFrom r (now (surfaces .exit)) (now (jacobian .exit)) (now (values .exit)) (now (residuals .exit)) (now («plus_residuals» .exit)) (now (params .exit)) (now (candidate .exit)) (now («best_surfaces» .exit)) (now («best_values» .exit)) (now («best_residuals» .exit)) ≡ resumeSteps a false «initial_merit» (walkFrom w (now (surfaces .entry)) (now (params .entry)) (now («best_surfaces» .entry))) c k) ⌝ }
+    ensures { λ r.
+        ⌜ ForAnnealerBy config (variablesFrom (now (counts .entry)) (now (numbers .entry))) (λ a. (k : ℕ) →
+        let walking = walkFrom w (now (surfaces .entry)) (now (params .entry)) (now («best_surfaces» .entry)) in
+        let after = stateFrom r (now (surfaces .exit)) (now (jacobian .exit)) (now (values .exit)) (now (residuals .exit)) (now («plus_residuals» .exit))
+        (now (params .exit)) (now (candidate .exit)) (now («best_surfaces» .exit)) (now («best_values» .exit)) (now («best_residuals» .exit)) in
+        after ≡ resumeSteps a false «initial_merit» walking c k) ⌝ }
 {
     let mut cool = w;
     cool.temp = w.temp * config.cooling_rate;
@@ -187,7 +97,15 @@ pub fn advance_walk_first(
     best_residuals: &mut [f64; 12],
 ) -> RowHead
     requires { ⌜ variableCountFrom (now counts) ≤ 8 ⌝ ∗ ⌜ 195 ≤ length (now numbers) ⌝ }
-    ensures { λ r. ⌜ ForAnnealerBy config (variablesFrom (now (counts .entry)) (now (numbers .entry))) (λ a. (h : RowHead) (e : MeritEvaluation) → e .«total_merit» ≡ merit → stateFrom r (now (surfaces .exit)) (now (jacobian .exit)) (now (values .exit)) (now (residuals .exit)) (now («plus_residuals» .exit)) (now (params .exit)) (now (candidate .exit)) (now («best_surfaces» .exit)) (now («best_values» .exit)) (now («best_residuals» .exit)) ≡ advanceAt a walkFirst (stateFrom h (now (surfaces .entry)) (now (jacobian .entry)) (now (values .entry)) (now (residuals .entry)) (now («plus_residuals» .entry)) (now (params .entry)) (now (candidate .entry)) (now («best_surfaces» .entry)) (now («best_values» .entry)) (now («best_residuals» .entry))) e) ⌝ }
+    ensures { λ r.
+        ⌜ ForAnnealerBy config (variablesFrom (now (counts .entry)) (now (numbers .entry)))
+        (λ a. (h : RowHead) (e : MeritEvaluation) → e .«total_merit» ≡ merit →
+        let before = stateFrom h (now (surfaces .entry)) (now (jacobian .entry)) (now (values .entry)) (now (residuals .entry))
+        (now («plus_residuals» .entry)) (now (params .entry)) (now (candidate .entry)) (now («best_surfaces» .entry)) (now («best_values» .entry))
+        (now («best_residuals» .entry)) in
+        let after = stateFrom r (now (surfaces .exit)) (now (jacobian .exit)) (now (values .exit)) (now (residuals .exit)) (now («plus_residuals» .exit))
+        (now (params .exit)) (now (candidate .exit)) (now («best_surfaces» .exit)) (now («best_values» .exit)) (now («best_residuals» .exit)) in
+        after ≡ advanceAt a walkFirst before e) ⌝ }
 {
     let w = judging::started(
         config,
@@ -250,7 +168,14 @@ pub fn advance_walk(
     best_residuals: &mut [f64; 12],
 ) -> RowHead
     requires { ⌜ variableCountFrom (now counts) ≤ 8 ⌝ ∗ ⌜ 195 ≤ length (now numbers) ⌝ }
-    ensures { λ r. ⌜ ForAnnealerBy config (variablesFrom (now (counts .entry)) (now (numbers .entry))) (λ a. (e : MeritEvaluation) → e .«total_merit» ≡ merit → stateFrom r (now (surfaces .exit)) (now (jacobian .exit)) (now (values .exit)) (now (residuals .exit)) (now («plus_residuals» .exit)) (now (params .exit)) (now (candidate .exit)) (now («best_surfaces» .exit)) (now («best_values» .exit)) (now («best_residuals» .exit)) ≡ advanceAt a walk (stateFrom h (now (surfaces .entry)) (now (jacobian .entry)) (now (values .entry)) (now (residuals .entry)) (now («plus_residuals» .entry)) (now (params .entry)) (now (candidate .entry)) (now («best_surfaces» .entry)) (now («best_values» .entry)) (now («best_residuals» .entry))) e) ⌝ }
+    ensures { λ r.
+        ⌜ ForAnnealerBy config (variablesFrom (now (counts .entry)) (now (numbers .entry))) (λ a. (e : MeritEvaluation) → e .«total_merit» ≡ merit →
+        let before = stateFrom h (now (surfaces .entry)) (now (jacobian .entry)) (now (values .entry)) (now (residuals .entry))
+        (now («plus_residuals» .entry)) (now (params .entry)) (now (candidate .entry)) (now («best_surfaces» .entry)) (now («best_values» .entry))
+        (now («best_residuals» .entry)) in
+        let after = stateFrom r (now (surfaces .exit)) (now (jacobian .exit)) (now (values .exit)) (now (residuals .exit)) (now («plus_residuals» .exit))
+        (now (params .exit)) (now (candidate .exit)) (now («best_surfaces» .exit)) (now («best_values» .exit)) (now («best_residuals» .exit)) in
+        after ≡ advanceAt a walk before e) ⌝ }
 {
     let w = WalkHead {
         current_merit: h.current_merit,

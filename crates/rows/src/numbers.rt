@@ -12,7 +12,11 @@ fn usable_number(
     surfaces: &[f64; 64],
     best_surfaces: &[f64; 64],
 ) -> u32
-    ensures { λ r. ⌜ ((o : Others) → r ≡ usableNumber (rowFrom (heldWith (now (words .entry)) (now (counts .entry)) (now (numbers .entry)) (now (surfaces .entry)) (now («best_surfaces» .entry)) o))) ⌝ }
+    ensures { λ r.
+        ⌜ ((o : Others) →
+        let row = rowFrom (heldWith (now (words .entry)) (now (counts .entry)) (now (numbers .entry)) (now (surfaces .entry)) (now («best_surfaces» .entry))
+        o) in
+        r ≡ usableNumber row) ⌝ }
 {
     if held::kind(words) == 0 {
         return 11;
@@ -31,7 +35,11 @@ pub fn turn_number(
     surfaces: &[f64; 64],
     best_surfaces: &[f64; 64],
 ) -> u32
-    ensures { λ r. ⌜ ((o : Others) → r ≡ turnRowNumber room (rowFrom (heldWith (now (words .entry)) (now (counts .entry)) (now (numbers .entry)) (now (surfaces .entry)) (now («best_surfaces» .entry)) o))) ⌝ }
+    ensures { λ r.
+        ⌜ ((o : Others) →
+        let row = rowFrom (heldWith (now (words .entry)) (now (counts .entry)) (now (numbers .entry)) (now (surfaces .entry)) (now («best_surfaces» .entry))
+        o) in
+        r ≡ turnRowNumber room row) ⌝ }
 {
     if room < normal::SCRATCH {
         return 9;
@@ -53,7 +61,11 @@ pub fn fetch_number(
     surfaces: &[f64; 64],
     best_surfaces: &[f64; 64],
 ) -> u32
-    ensures { λ r. ⌜ ((o : Others) → r ≡ fetchRowNumber (rowFrom (heldWith (now (words .entry)) (now (counts .entry)) (now (numbers .entry)) (now (surfaces .entry)) (now («best_surfaces» .entry)) o))) ⌝ }
+    ensures { λ r.
+        ⌜ ((o : Others) →
+        let row = rowFrom (heldWith (now (words .entry)) (now (counts .entry)) (now (numbers .entry)) (now (surfaces .entry)) (now («best_surfaces» .entry))
+        o) in
+        r ≡ fetchRowNumber row) ⌝ }
 {
     let number = usable_number(words, counts, numbers, surfaces, best_surfaces);
     if number > 0 {

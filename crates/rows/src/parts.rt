@@ -24,7 +24,16 @@ pub fn turn_parts(
     best_residuals: &mut [f64; 12],
     scratch: &mut [f64],
 ) -> u32
-    ensures { λ r. ⌜ (r ≡ turnRowNumber (length (now (scratch .entry))) (rowFrom (heldOf (now (words .entry)) (now (scalars .entry)) (now (counts .entry)) (now (numbers .entry)) (now (surfaces .entry)) (now (jacobian .entry)) (now (values .entry)) (now (residuals .entry)) (now («plus_residuals» .entry)) (now (params .entry)) (now (candidate .entry)) (now («best_surfaces» .entry)) (now («best_values» .entry)) (now («best_residuals» .entry))))) × (rowFrom (heldOf (now (words .exit)) (now (scalars .exit)) (now (counts .entry)) (now (numbers .entry)) (now (surfaces .exit)) (now (jacobian .exit)) (now (values .exit)) (now (residuals .exit)) (now («plus_residuals» .exit)) (now (params .exit)) (now (candidate .exit)) (now («best_surfaces» .exit)) (now («best_values» .exit)) (now («best_residuals» .exit))) ≡ turnedRow (rowFrom (heldOf (now (words .entry)) (now (scalars .entry)) (now (counts .entry)) (now (numbers .entry)) (now (surfaces .entry)) (now (jacobian .entry)) (now (values .entry)) (now (residuals .entry)) (now («plus_residuals» .entry)) (now (params .entry)) (now (candidate .entry)) (now («best_surfaces» .entry)) (now («best_values» .entry)) (now («best_residuals» .entry)))) (length (now (scratch .entry)))) × (now (scratch .exit) ≡ scratchOf (rowFrom (heldOf (now (words .entry)) (now (scalars .entry)) (now (counts .entry)) (now (numbers .entry)) (now (surfaces .entry)) (now (jacobian .entry)) (now (values .entry)) (now (residuals .entry)) (now («plus_residuals» .entry)) (now (params .entry)) (now (candidate .entry)) (now («best_surfaces» .entry)) (now («best_values» .entry)) (now («best_residuals» .entry)))) (now (scratch .entry))) ⌝ }
+    ensures { λ r.
+        ⌜ (let before = rowFrom (heldOf (now (words .entry)) (now (scalars .entry)) (now (counts .entry)) (now (numbers .entry)) (now (surfaces .entry))
+        (now (jacobian .entry)) (now (values .entry)) (now (residuals .entry)) (now («plus_residuals» .entry)) (now (params .entry)) (now (candidate .entry))
+        (now («best_surfaces» .entry)) (now («best_values» .entry)) (now («best_residuals» .entry))) in
+        let after = rowFrom (heldOf (now (words .exit)) (now (scalars .exit)) (now (counts .entry)) (now (numbers .entry)) (now (surfaces .exit))
+        (now (jacobian .exit)) (now (values .exit)) (now (residuals .exit)) (now («plus_residuals» .exit)) (now (params .exit)) (now (candidate .exit))
+        (now («best_surfaces» .exit)) (now («best_values» .exit)) (now («best_residuals» .exit))) in
+        (r ≡ turnRowNumber (length (now (scratch .entry))) before)
+        × (after ≡ turnedRow before (length (now (scratch .entry))))
+        × (now (scratch .exit) ≡ scratchOf before (now (scratch .entry)))) ⌝ }
 {
     let refused = turn_number(
         scratch.len(),

@@ -18,7 +18,10 @@ use optics::OpticalSurface;
 
 // The merit of surfaces under a held job, worked out where they are laid flat.
 fn merit_at(lens: [OpticalSurface; 16], counts: &[u64; 57], numbers: &[f64]) -> f64
-    requires { ⌜ surfaceCountFrom (now counts) ≤ 16 ⌝ ∗ ⌜ operandCountFrom (now counts) ≤ 12 ⌝ ∗ ⌜ 195 ≤ length (now numbers) ⌝ ∗ ⌜ SlotsKnown (operandsFrom (now counts) (now numbers)) ⌝ }
+    requires { ⌜ surfaceCountFrom (now counts) ≤ 16 ⌝
+        ∗ ⌜ operandCountFrom (now counts) ≤ 12 ⌝
+        ∗ ⌜ 195 ≤ length (now numbers) ⌝
+        ∗ ⌜ SlotsKnown (operandsFrom (now counts) (now numbers)) ⌝ }
     ensures { λ r. ⌜ ((kind : ℕ) → r ≡ evaluateOf (heldJob (now (counts .entry)) (now (numbers .entry)) kind) lens .«total_merit») ⌝ }
 {
     let mut flat = [0.0; 64];

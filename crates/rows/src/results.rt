@@ -36,7 +36,10 @@ fn result_from(
 
 // That of the damped part.
 fn damped_result(h: Head, held: HeldRow) -> OptimizationResult
-    ensures { λ r. ⌜ r ≡ Damped.resultOf (dampedFrom h (held .surfaces) (held .jacobian) (held .values) (held .residuals) (held .«plus_residuals») (held .params) (held .candidate)) ⌝ }
+    ensures { λ r.
+        ⌜ (let state = dampedFrom h (held .surfaces) (held .jacobian) (held .values) (held .residuals) (held .«plus_residuals») (held .params)
+        (held .candidate) in
+        r ≡ Damped.resultOf state) ⌝ }
 {
     let surfaces = held.surfaces;
     let values = held.values;
@@ -63,7 +66,11 @@ fn best_result(b: BestHead, held: HeldRow) -> OptimizationResult
 // Annealing's: the polish's, with the first merit and the steps of the walk.
 fn polished(h: RowHead, held: HeldRow) -> OptimizationResult
     requires { ⌜ (maxCoolingCyclesFrom (held .counts) ≤ 1000) × (stepsPerTemperatureFrom (held .counts) ≤ 1000) × (h .damped .iteration ≤ 1000) ⌝ }
-    ensures { λ r. ⌜ ((a : Annealer) → a .config ≡ annealingConfig (settingsFrom (held .counts) (held .numbers)) → r ≡ withPrior a (h .best .«initial_merit») (Damped.resultOf (dampedFrom (h .damped) (held .surfaces) (held .jacobian) (held .values) (held .residuals) (held .«plus_residuals») (held .params) (held .candidate)))) ⌝ }
+    ensures { λ r.
+        ⌜ ((a : Annealer) → a .config ≡ annealingConfig (settingsFrom (held .counts) (held .numbers)) →
+        let state = dampedFrom (h .damped) (held .surfaces) (held .jacobian) (held .values) (held .residuals) (held .«plus_residuals») (held .params)
+        (held .candidate) in
+        r ≡ withPrior a (h .best .«initial_merit») (Damped.resultOf state)) ⌝ }
 {
     let counts = held.counts;
     let damped = h.damped;

@@ -36,8 +36,20 @@ fn advance_part(
     candidate: &mut [f64; 8],
     scratch: &mut [f64],
 ) -> RowHead
-    requires { ⌜ scratchLength ≤ length (now scratch) ⌝ ∗ ⌜ variableCountFrom (now counts) ≤ 8 ⌝ ∗ ⌜ 195 ≤ length (now numbers) ⌝ ∗ ⌜ operandCountFrom (now counts) ≤ mostOperands ⌝ ∗ ⌜ h .damped .column < numActive (variablesFrom (now counts) (now numbers)) ⌝ }
-    ensures { λ r. ⌜ ForFound (now (counts .entry)) (now (numbers .entry)) (now (found .entry)) (λ e. (bs bv br : List Float) → stateFrom r (now (surfaces .exit)) (now (jacobian .exit)) (now (values .exit)) (now (residuals .exit)) (now («plus_residuals» .exit)) (now (params .exit)) (now (candidate .exit)) bs bv br ≡ withDamped (stateFrom h (now (surfaces .entry)) (now (jacobian .entry)) (now (values .entry)) (now (residuals .entry)) (now («plus_residuals» .entry)) (now (params .entry)) (now (candidate .entry)) bs bv br) (Damped.advance (optimizer config (variablesFrom (now (counts .entry)) (now (numbers .entry))) (operandCountFrom (now (counts .entry)))) (dampedFrom (h .damped) (now (surfaces .entry)) (now (jacobian .entry)) (now (values .entry)) (now (residuals .entry)) (now («plus_residuals» .entry)) (now (params .entry)) (now (candidate .entry))) e)) ⌝ ∗ ⌜ ScratchKept (now (scratch .entry)) (now (scratch .exit)) ⌝ }
+    requires { ⌜ scratchLength ≤ length (now scratch) ⌝
+        ∗ ⌜ variableCountFrom (now counts) ≤ 8 ⌝
+        ∗ ⌜ 195 ≤ length (now numbers) ⌝
+        ∗ ⌜ operandCountFrom (now counts) ≤ mostOperands ⌝
+        ∗ ⌜ h .damped .column < numActive (variablesFrom (now counts) (now numbers)) ⌝ }
+    ensures { λ r.
+        ⌜ ForFound (now (counts .entry)) (now (numbers .entry)) (now (found .entry)) (λ e. (bs bv br : List Float) →
+        let o = optimizer config (variablesFrom (now (counts .entry)) (now (numbers .entry))) (operandCountFrom (now (counts .entry))) in
+        let before = stateFrom h (now (surfaces .entry)) (now (jacobian .entry)) (now (values .entry)) (now (residuals .entry))
+        (now («plus_residuals» .entry)) (now (params .entry)) (now (candidate .entry)) bs bv br in
+        let after = stateFrom r (now (surfaces .exit)) (now (jacobian .exit)) (now (values .exit)) (now (residuals .exit)) (now («plus_residuals» .exit))
+        (now (params .exit)) (now (candidate .exit)) bs bv br in
+        after ≡ withDamped before (Damped.advance o (before .damped) e)) ⌝
+        ∗ ⌜ ScratchKept (now (scratch .entry)) (now (scratch .exit)) ⌝ }
 {
     let before = h.damped;
     let damped = dls::advance_damped(
@@ -77,8 +89,22 @@ fn advance_annealing(
     best_residuals: &mut [f64; 12],
     scratch: &mut [f64],
 ) -> RowHead
-    requires { ⌜ scratchLength ≤ length (now scratch) ⌝ ∗ ⌜ variableCountFrom (now counts) ≤ 8 ⌝ ∗ ⌜ 195 ≤ length (now numbers) ⌝ ∗ ⌜ operandCountFrom (now counts) ≤ mostOperands ⌝ ∗ ⌜ h .damped .column < numActive (variablesFrom (now counts) (now numbers)) ⌝ }
-    ensures { λ r. ⌜ ForFound (now (counts .entry)) (now (numbers .entry)) (now (found .entry)) (λ e. stateFrom r (now (surfaces .exit)) (now (jacobian .exit)) (now (values .exit)) (now (residuals .exit)) (now («plus_residuals» .exit)) (now (params .exit)) (now (candidate .exit)) (now («best_surfaces» .exit)) (now («best_values» .exit)) (now («best_residuals» .exit)) ≡ Annealing.advance (annealerOf (heldJob (now (counts .entry)) (now (numbers .entry)) 3) (annealingConfig (settingsFrom (now (counts .entry)) (now (numbers .entry))))) (stateFrom h (now (surfaces .entry)) (now (jacobian .entry)) (now (values .entry)) (now (residuals .entry)) (now («plus_residuals» .entry)) (now (params .entry)) (now (candidate .entry)) (now («best_surfaces» .entry)) (now («best_values» .entry)) (now («best_residuals» .entry))) e) ⌝ ∗ ⌜ ScratchKept (now (scratch .entry)) (now (scratch .exit)) ⌝ }
+    requires { ⌜ scratchLength ≤ length (now scratch) ⌝
+        ∗ ⌜ variableCountFrom (now counts) ≤ 8 ⌝
+        ∗ ⌜ 195 ≤ length (now numbers) ⌝
+        ∗ ⌜ operandCountFrom (now counts) ≤ mostOperands ⌝
+        ∗ ⌜ h .damped .column < numActive (variablesFrom (now counts) (now numbers)) ⌝ }
+    ensures { λ r.
+        ⌜ ForFound (now (counts .entry)) (now (numbers .entry)) (now (found .entry)) (λ e.
+        let a = annealerOf (heldJob (now (counts .entry)) (now (numbers .entry)) 3)
+        (annealingConfig (settingsFrom (now (counts .entry)) (now (numbers .entry)))) in
+        let before = stateFrom h (now (surfaces .entry)) (now (jacobian .entry)) (now (values .entry)) (now (residuals .entry))
+        (now («plus_residuals» .entry)) (now (params .entry)) (now (candidate .entry)) (now («best_surfaces» .entry)) (now («best_values» .entry))
+        (now («best_residuals» .entry)) in
+        let after = stateFrom r (now (surfaces .exit)) (now (jacobian .exit)) (now (values .exit)) (now (residuals .exit)) (now («plus_residuals» .exit))
+        (now (params .exit)) (now (candidate .exit)) (now («best_surfaces» .exit)) (now («best_values» .exit)) (now («best_residuals» .exit)) in
+        after ≡ Annealing.advance a before e) ⌝
+        ∗ ⌜ ScratchKept (now (scratch .entry)) (now (scratch .exit)) ⌝ }
 {
     let config = held::annealing_config(counts, numbers);
     let phase = h.damped.phase;
@@ -157,8 +183,21 @@ pub fn advance_run(
     best_residuals: &mut [f64; 12],
     scratch: &mut [f64],
 ) -> RowHead
-    requires { ⌜ scratchLength ≤ length (now scratch) ⌝ ∗ ⌜ variableCountFrom (now counts) ≤ 8 ⌝ ∗ ⌜ 195 ≤ length (now numbers) ⌝ ∗ ⌜ operandCountFrom (now counts) ≤ mostOperands ⌝ ∗ ⌜ h .damped .column < numActive (variablesFrom (now counts) (now numbers)) ⌝ }
-    ensures { λ r. ⌜ ForFound (now (counts .entry)) (now (numbers .entry)) (now (found .entry)) (λ e. stateFrom r (now (surfaces .exit)) (now (jacobian .exit)) (now (values .exit)) (now (residuals .exit)) (now («plus_residuals» .exit)) (now (params .exit)) (now (candidate .exit)) (now («best_surfaces» .exit)) (now («best_values» .exit)) (now («best_residuals» .exit)) ≡ advanceBy (heldJob (now (counts .entry)) (now (numbers .entry)) kind .method) (heldJob (now (counts .entry)) (now (numbers .entry)) kind) (stateFrom h (now (surfaces .entry)) (now (jacobian .entry)) (now (values .entry)) (now (residuals .entry)) (now («plus_residuals» .entry)) (now (params .entry)) (now (candidate .entry)) (now («best_surfaces» .entry)) (now («best_values» .entry)) (now («best_residuals» .entry))) e) ⌝ ∗ ⌜ ScratchKept (now (scratch .entry)) (now (scratch .exit)) ⌝ }
+    requires { ⌜ scratchLength ≤ length (now scratch) ⌝
+        ∗ ⌜ variableCountFrom (now counts) ≤ 8 ⌝
+        ∗ ⌜ 195 ≤ length (now numbers) ⌝
+        ∗ ⌜ operandCountFrom (now counts) ≤ mostOperands ⌝
+        ∗ ⌜ h .damped .column < numActive (variablesFrom (now counts) (now numbers)) ⌝ }
+    ensures { λ r.
+        ⌜ ForFound (now (counts .entry)) (now (numbers .entry)) (now (found .entry)) (λ e.
+        let job = heldJob (now (counts .entry)) (now (numbers .entry)) kind in
+        let before = stateFrom h (now (surfaces .entry)) (now (jacobian .entry)) (now (values .entry)) (now (residuals .entry))
+        (now («plus_residuals» .entry)) (now (params .entry)) (now (candidate .entry)) (now («best_surfaces» .entry)) (now («best_values» .entry))
+        (now («best_residuals» .entry)) in
+        let after = stateFrom r (now (surfaces .exit)) (now (jacobian .exit)) (now (values .exit)) (now (residuals .exit)) (now («plus_residuals» .exit))
+        (now (params .exit)) (now (candidate .exit)) (now («best_surfaces» .exit)) (now («best_values» .exit)) (now («best_residuals» .exit)) in
+        after ≡ advanceBy (job .method) job before e) ⌝
+        ∗ ⌜ ScratchKept (now (scratch .entry)) (now (scratch .exit)) ⌝ }
 {
     if kind == 1 {
         let config = held::dls_config(counts, numbers);

@@ -22,8 +22,13 @@ fn pending_annealing(
     params: &[f64; 8],
     candidate: &[f64; 8],
 ) -> [OpticalSurface; 16]
-    requires { ⌜ variableCountFrom (now counts) ≤ 8 ⌝ ∗ ⌜ 195 ≤ length (now numbers) ⌝ ∗ ⌜ h .damped .column < numActive (variablesFrom (now counts) (now numbers)) ⌝ }
-    ensures { λ r. ⌜ ForAnnealer (variablesFrom (now (counts .entry)) (now (numbers .entry))) (λ a. (jacobian values residuals plus bs bv br : List Float) → r ≡ Annealing.pending a (stateFrom h (now (surfaces .entry)) jacobian values residuals plus (now (params .entry)) (now (candidate .entry)) bs bv br)) ⌝ }
+    requires { ⌜ variableCountFrom (now counts) ≤ 8 ⌝
+        ∗ ⌜ 195 ≤ length (now numbers) ⌝
+        ∗ ⌜ h .damped .column < numActive (variablesFrom (now counts) (now numbers)) ⌝ }
+    ensures { λ r.
+        ⌜ ForAnnealer (variablesFrom (now (counts .entry)) (now (numbers .entry))) (λ a. (jacobian values residuals plus bs bv br : List Float) →
+        let state = stateFrom h (now (surfaces .entry)) jacobian values residuals plus (now (params .entry)) (now (candidate .entry)) bs bv br in
+        r ≡ Annealing.pending a state) ⌝ }
 {
     let damped = h.damped;
     if damped.phase == 5 {
@@ -54,8 +59,14 @@ pub fn pending_surfaces(
     params: &[f64; 8],
     candidate: &[f64; 8],
 ) -> [OpticalSurface; 16]
-    requires { ⌜ variableCountFrom (now counts) ≤ 8 ⌝ ∗ ⌜ 195 ≤ length (now numbers) ⌝ ∗ ⌜ h .damped .column < numActive (variablesFrom (now counts) (now numbers)) ⌝ }
-    ensures { λ r. ⌜ ((jacobian values residuals plus bs bv br : List Float) → r ≡ pendingBy (heldJob (now (counts .entry)) (now (numbers .entry)) kind .method) (heldJob (now (counts .entry)) (now (numbers .entry)) kind) (stateFrom h (now (surfaces .entry)) jacobian values residuals plus (now (params .entry)) (now (candidate .entry)) bs bv br)) ⌝ }
+    requires { ⌜ variableCountFrom (now counts) ≤ 8 ⌝
+        ∗ ⌜ 195 ≤ length (now numbers) ⌝
+        ∗ ⌜ h .damped .column < numActive (variablesFrom (now counts) (now numbers)) ⌝ }
+    ensures { λ r.
+        ⌜ ((jacobian values residuals plus bs bv br : List Float) →
+        let job = heldJob (now (counts .entry)) (now (numbers .entry)) kind in
+        let state = stateFrom h (now (surfaces .entry)) jacobian values residuals plus (now (params .entry)) (now (candidate .entry)) bs bv br in
+        r ≡ pendingBy (job .method) job state) ⌝ }
 {
     let damped = h.damped;
     let config = held::dls_config(counts, numbers);

@@ -32,8 +32,19 @@ pub fn turned(
     best_residuals: &mut [f64; 12],
     scratch: &mut [f64],
 ) -> RowHead
-    requires { ⌜ scratchLength ≤ length (now scratch) ⌝ ∗ ⌜ 195 ≤ length (now numbers) ⌝ ∗ ⌜ jobTaken (heldJob (now counts) (now numbers) kind) ≡ true ⌝ ∗ ⌜ h .damped .column < numActive (variablesFrom (now counts) (now numbers)) ⌝ }
-    ensures { λ r. ⌜ stateFrom r (now (surfaces .exit)) (now (jacobian .exit)) (now (values .exit)) (now (residuals .exit)) (now («plus_residuals» .exit)) (now (params .exit)) (now (candidate .exit)) (now («best_surfaces» .exit)) (now («best_values» .exit)) (now («best_residuals» .exit)) ≡ turnedBy (heldJob (now (counts .entry)) (now (numbers .entry)) kind) (stateFrom h (now (surfaces .entry)) (now (jacobian .entry)) (now (values .entry)) (now (residuals .entry)) (now («plus_residuals» .entry)) (now (params .entry)) (now (candidate .entry)) (now («best_surfaces» .entry)) (now («best_values» .entry)) (now («best_residuals» .entry))) ⌝ ∗ ⌜ ScratchKept (now (scratch .entry)) (now (scratch .exit)) ⌝ }
+    requires { ⌜ scratchLength ≤ length (now scratch) ⌝
+        ∗ ⌜ 195 ≤ length (now numbers) ⌝
+        ∗ ⌜ jobTaken (heldJob (now counts) (now numbers) kind) ≡ true ⌝
+        ∗ ⌜ h .damped .column < numActive (variablesFrom (now counts) (now numbers)) ⌝ }
+    ensures { λ r.
+        ⌜ (let job = heldJob (now (counts .entry)) (now (numbers .entry)) kind in
+        let before = stateFrom h (now (surfaces .entry)) (now (jacobian .entry)) (now (values .entry)) (now (residuals .entry))
+        (now («plus_residuals» .entry)) (now (params .entry)) (now (candidate .entry)) (now («best_surfaces» .entry)) (now («best_values» .entry))
+        (now («best_residuals» .entry)) in
+        let after = stateFrom r (now (surfaces .exit)) (now (jacobian .exit)) (now (values .exit)) (now (residuals .exit)) (now («plus_residuals» .exit))
+        (now (params .exit)) (now (candidate .exit)) (now («best_surfaces» .exit)) (now («best_values» .exit)) (now («best_residuals» .exit)) in
+        after ≡ turnedBy job before) ⌝
+        ∗ ⌜ ScratchKept (now (scratch .entry)) (now (scratch .exit)) ⌝ }
 {
     let pending = pending_surfaces(h, kind, counts, numbers, surfaces, params, candidate);
     optics::lay_flat(pending, held::surface_count(counts), scratch);

@@ -79,8 +79,8 @@ returns-2 c = λ jacobian values residuals plus bv br.
     let job : ℕ → Job = λ kind. heldJob (x .counts .now) (x .numbers .now) kind in
     let state : RowHead → State = λ head. stateFrom head (x .surfaces .now) jacobian values residuals plus (x .params .now) (x .candidate .now) (x .best-surfaces .now) bv br in
     let pending : c .before .before .pending-surfaces .result ≡ pendingSurfaces r =
-        c .before .before .pending-surfaces .ensures jacobian values residuals plus (x .best-surfaces .now) bv br
-        ∙ (λ i. pendingBy (job (c .before .before .before .before .kind .ensures i) .method) (job (c .before .before .before .before .kind .ensures i)) (state (c .before .before .before .before .before .head-of .ensures i))) in
+    c .before .before .pending-surfaces .ensures jacobian values residuals plus (x .best-surfaces .now) bv br
+    ∙ (λ i. pendingBy (job (c .before .before .before .before .kind .ensures i) .method) (job (c .before .before .before .before .kind .ensures i)) (state (c .before .before .before .before .before .head-of .ensures i))) in
     let merit = c .merit-at .ensures (kindFrom (x .words .now)) ∙ ap (λ (s : Surfaces). evaluateOf (jobOfRow r) s .«total_merit») pending in
     λ i. record {
       surfaces = (pending ∙ made-by _ n e (pendingSurfaces r) zeroSurfaces going) i;

@@ -1,4 +1,4 @@
--- `global::walk::at_step` meets its contract: what was drawn, and zeros. Assumes nothing.
+-- `global::steps::at_step` meets its contract: what was drawn, and zeros. Assumes nothing.
 use mathlib.Core.Path.{_≡_, refl, sym, ap, _∙_}
 use mathlib.Core.List.{List}
 use Prim.Native.Nat.{ℕ}
@@ -13,8 +13,8 @@ use Rattle.runs.specs.AnnealingRun.{Annealer, Walk, trialParams, afterDraws}
 use Rattle.runs.specs.AnnealingRow.{kept, atStep}
 use Rattle.global.specs.WalkFrom.{walkFrom}
 use borrow.Author.Needs.{needs}
-use Rattle.global.proofs.walk.at_step.Statement.{statement}
-use Rattle.global.proofs.walk.at_step.Tie as tie
+use Rattle.global.proofs.steps.at_step.Statement.{statement}
+use Rattle.global.proofs.steps.at_step.Tie as tie
 
 abbrev drawn : Walk → (initialMerit : Float) (c k : ℕ) → DampedState → (generator : ℕ) → State
 drawn w initialMerit c k d g = record {

@@ -1,11 +1,11 @@
--- `global::trials::merged` meets its contract: by whether there is a best result, and by which merit is lower. Assumes nothing.
+-- `global::merging::merged` meets its contract: by whether there is a best result, and by which merit is lower. Assumes nothing.
 use Rattle.runs.specs.MultiStartRun.{merged, isLower}
 use Rattle.runs.specs.MultiStartRow.{bestBefore}
 use Rattle.global.proofs.Best.{before-some}
 use Rattle.held.specs.RowFrom.{resultFrom}
 use borrow.Author.Needs.{needs}
-use Rattle.global.proofs.trials.merged.Statement.{statement}
-use Rattle.global.proofs.trials.merged.Tie as tie
+use Rattle.global.proofs.merging.merged.Statement.{statement}
+use Rattle.global.proofs.merging.merged.Tie as tie
 
 keep-requires : tie.Need-keep-requires
 keep-requires c κs = search needs

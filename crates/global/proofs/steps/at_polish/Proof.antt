@@ -1,4 +1,4 @@
--- `global::walk::at_polish` meets its contract: zero surfaces stand in zeros. Assumes nothing.
+-- `global::steps::at_polish` meets its contract: zero surfaces stand in zeros. Assumes nothing.
 use mathlib.Core.Path.{ap, _∙_}
 use lib.ListN.{replicate}
 use Rattle.floats.specs.Constants.{zero64}
@@ -10,8 +10,8 @@ use Rattle.runs.specs.AnnealingRow.{kept}
 use Rattle.held.specs.JobFrom.{standing}
 use Rattle.global.proofs.Zero.{standing-zero}
 use borrow.Author.Needs.{needs}
-use Rattle.global.proofs.walk.at_polish.Statement.{statement}
-use Rattle.global.proofs.walk.at_polish.Tie as tie
+use Rattle.global.proofs.steps.at_polish.Statement.{statement}
+use Rattle.global.proofs.steps.at_polish.Tie as tie
 
 at-first-requires : tie.Need-at-first-requires
 at-first-requires c κs = search needs
