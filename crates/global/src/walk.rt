@@ -20,9 +20,9 @@ use merit::MeritEvaluation;
 // The cycle is over: it cools, and the next one begins, or the polish.
 fn next_cycle(
     w: WalkHead,
+    config: SimulatedAnnealingConfig,
     initial_merit: f64,
     c: u64,
-    config: SimulatedAnnealingConfig,
     counts: &[u64; 57],
     numbers: &[f64],
     surfaces: &mut [f64; 64],
@@ -214,9 +214,9 @@ pub fn advance_walk(
     }
     next_cycle(
         next,
+        config,
         initial_merit,
         h.cycle,
-        config,
         counts,
         numbers,
         surfaces,

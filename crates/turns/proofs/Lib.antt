@@ -1,3 +1,2 @@
--- Laws that several functions' proofs cite.
+-- A law that belongs to no one function.
 pub mod Laid
-pub mod Methods

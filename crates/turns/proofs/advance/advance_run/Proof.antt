@@ -1,12 +1,12 @@
 -- `turns::advance::advance_run` meets its contract: by kind. Assumes nothing.
 use Rattle.runs.specs.DampedRow as Damped
-use mathlib.Core.Path.{ap, _∙_}
+use mathlib.Core.Path.{sym, ap, _∙_}
 use Rattle.jobs.specs.declared.types.DlsConfig.{DlsConfig}
 use Rattle.jobs.specs.declared.types.Method.{Method}
 use Rattle.runs.specs.State.{withDamped}
 use Rattle.runs.specs.Rows.{advanceBy}
 use Rattle.dls.specs.DampedSteps.{optimizer}
-use Rattle.turns.proofs.Methods.{kind-damped, kind-multi-start, kind-annealing}
+use Rattle.kinds.specs.Methods.{is-damped, is-multi-start, is-annealing}
 use Rattle.held.specs.JobFrom.{operandCountFrom, settingsFrom, variablesFrom, heldJob}
 use Rattle.held.specs.RowFrom.{dampedFrom, stateFrom}
 use Rattle.runs.specs.JobMerit.{evaluateOf}
@@ -30,7 +30,7 @@ returns c =
     let a = c .before .before .advance-part .ensures in (
       λ k lens w. a .0 k lens w (x .best-surfaces .now) (x .best-values .now) (x .best-residuals .now)
           ∙ ap (λ (l : DlsConfig). withDamped (stateFrom (x .h) (x .surfaces .now) (x .jacobian .now) (x .values .now) (x .residuals .now) (x .plus-residuals .now) (x .params .now) (x .candidate .now) (x .best-surfaces .now) (x .best-values .now) (x .best-residuals .now)) (Damped.advance (optimizer l (variablesFrom (x .counts .now) (x .numbers .now)) (operandCountFrom (x .counts .now))) (dampedFrom (x .h .damped) (x .surfaces .now) (x .jacobian .now) (x .values .now) (x .residuals .now) (x .plus-residuals .now) (x .params .now) (x .candidate .now)) (evaluateOf (heldJob (x .counts .now) (x .numbers .now) k) lens))) (c .before .before .before .before .before .before .before .before .before .before .before .dls-config .ensures)
-          ∙ ap (λ (m : Method). advanceBy m (heldJob (x .counts .now) (x .numbers .now) (x .kind)) (stateFrom (x .h) (x .surfaces .now) (x .jacobian .now) (x .values .now) (x .residuals .now) (x .plus-residuals .now) (x .params .now) (x .candidate .now) (x .best-surfaces .now) (x .best-values .now) (x .best-residuals .now)) (evaluateOf (heldJob (x .counts .now) (x .numbers .now) k) lens)) (kind-damped (x .kind) (settingsFrom (x .counts .now) (x .numbers .now)) (c .before .before .before .before .before .before .before .before .before .before .before .before .if1 .taken)),
+          ∙ ap (λ (m : Method). advanceBy m (heldJob (x .counts .now) (x .numbers .now) (x .kind)) (stateFrom (x .h) (x .surfaces .now) (x .jacobian .now) (x .values .now) (x .residuals .now) (x .plus-residuals .now) (x .params .now) (x .candidate .now) (x .best-surfaces .now) (x .best-values .now) (x .best-residuals .now)) (evaluateOf (heldJob (x .counts .now) (x .numbers .now) k) lens)) (sym (is-damped (x .kind) (settingsFrom (x .counts .now) (x .numbers .now)) (c .before .before .before .before .before .before .before .before .before .before .before .before .if1 .taken))),
       a .1,
     )
 
@@ -46,7 +46,7 @@ returns-2 c =
     let x = c .before .before .before .before .before .before .before .before .before .before .before .before .before .before .before .before .before .before .args in
     let a = c .before .before .advance-trials .ensures in (
       λ k lens w. a .0 k lens w
-          ∙ ap (λ (m : Method). advanceBy m (heldJob (x .counts .now) (x .numbers .now) (x .kind)) (stateFrom (x .h) (x .surfaces .now) (x .jacobian .now) (x .values .now) (x .residuals .now) (x .plus-residuals .now) (x .params .now) (x .candidate .now) (x .best-surfaces .now) (x .best-values .now) (x .best-residuals .now)) (evaluateOf (heldJob (x .counts .now) (x .numbers .now) k) lens)) (kind-multi-start (x .kind) (settingsFrom (x .counts .now) (x .numbers .now)) (c .before .before .before .before .before .before .before .before .before .before .before .before .before .before .if2 .taken)),
+          ∙ ap (λ (m : Method). advanceBy m (heldJob (x .counts .now) (x .numbers .now) (x .kind)) (stateFrom (x .h) (x .surfaces .now) (x .jacobian .now) (x .values .now) (x .residuals .now) (x .plus-residuals .now) (x .params .now) (x .candidate .now) (x .best-surfaces .now) (x .best-values .now) (x .best-residuals .now)) (evaluateOf (heldJob (x .counts .now) (x .numbers .now) k) lens)) (sym (is-multi-start (x .kind) (settingsFrom (x .counts .now) (x .numbers .now)) (c .before .before .before .before .before .before .before .before .before .before .before .before .before .before .if2 .taken))),
       a .1,
     )
 
@@ -62,7 +62,7 @@ returns-3 c =
     let x = c .before .before .before .before .before .before .before .before .before .before .before .before .before .before .before .before .before .before .args in
     let a = c .before .before .advance-annealing .ensures in (
       λ k lens w. a .0 k lens w
-          ∙ ap (λ (m : Method). advanceBy m (heldJob (x .counts .now) (x .numbers .now) (x .kind)) (stateFrom (x .h) (x .surfaces .now) (x .jacobian .now) (x .values .now) (x .residuals .now) (x .plus-residuals .now) (x .params .now) (x .candidate .now) (x .best-surfaces .now) (x .best-values .now) (x .best-residuals .now)) (evaluateOf (heldJob (x .counts .now) (x .numbers .now) k) lens)) (kind-annealing (x .kind) (settingsFrom (x .counts .now) (x .numbers .now)) (c .before .before .before .before .before .before .before .before .before .before .before .before .before .before .before .if1 .left) (c .before .before .before .before .before .before .before .before .before .before .before .before .before .before .if2 .left)),
+          ∙ ap (λ (m : Method). advanceBy m (heldJob (x .counts .now) (x .numbers .now) (x .kind)) (stateFrom (x .h) (x .surfaces .now) (x .jacobian .now) (x .values .now) (x .residuals .now) (x .plus-residuals .now) (x .params .now) (x .candidate .now) (x .best-surfaces .now) (x .best-values .now) (x .best-residuals .now)) (evaluateOf (heldJob (x .counts .now) (x .numbers .now) k) lens)) (sym (is-annealing (x .kind) (settingsFrom (x .counts .now) (x .numbers .now)) (c .before .before .before .before .before .before .before .before .before .before .before .before .before .before .before .if1 .left) (c .before .before .before .before .before .before .before .before .before .before .before .before .before .before .if2 .left))),
       a .1,
     )
 

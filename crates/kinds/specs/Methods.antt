@@ -1,5 +1,5 @@
 -- The method of a job, by its row's kind. Assumes nothing.
-use mathlib.Core.Path.{_≡_}
+use mathlib.Core.Path.{_≡_, refl}
 use Prim.Native.Nat.{ℕ}
 use borrow.Author.Tests.{ne-eqb}
 use Rattle.jobs.specs.declared.types.SettingsRecord.{SettingsRecord}
@@ -7,14 +7,14 @@ use Rattle.jobs.specs.declared.types.Method.the-variants.{Damped, MultiStart, A
 use Rattle.jobs.specs.Records.{dlsConfig, multiStartConfig, annealingConfig, method}
 
 module _ (kind : ℕ) (s : SettingsRecord) where
-  pub kind-damped : kind ≡ 1 → Damped (dlsConfig s) ≡ method kind s
+  pub is-damped : kind ≡ 1 → method kind s ≡ Damped (dlsConfig s)
   unfolding method
-  kind-damped e = rw e
+  is-damped e = rw e refl
 
-  pub kind-multi-start : kind ≡ 2 → MultiStart (multiStartConfig s) ≡ method kind s
+  pub is-multi-start : kind ≡ 2 → method kind s ≡ MultiStart (multiStartConfig s)
   unfolding method
-  kind-multi-start e = rw e
+  is-multi-start e = rw e refl
 
-  pub kind-annealing : (kind ≡ 1 → ⊥) → (kind ≡ 2 → ⊥) → Annealing (annealingConfig s) ≡ method kind s
+  pub is-annealing : (kind ≡ 1 → ⊥) → (kind ≡ 2 → ⊥) → method kind s ≡ Annealing (annealingConfig s)
   unfolding method
-  kind-annealing a b = simp (ne-eqb kind 1 a, ne-eqb kind 2 b)
+  is-annealing a b = rw (ne-eqb kind 1 a, ne-eqb kind 2 b) refl
