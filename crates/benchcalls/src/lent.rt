@@ -26,7 +26,9 @@ pub fn admit(bench: &mut Bench, place: usize, request: JobRequest) -> u32
 // The same for a caller in C: a record of numbers, lent. A number for a kind that is none gives 1.
 #[no_mangle]
 pub extern "C" fn admit_record(bench: &mut Bench, place: usize, asked: &RequestRecord) -> u32
-    ensures { λ r. ⌜ (r ≡ admitRecordNumber (now (bench .entry)) place (now (asked .entry))) × (now (bench .exit) ≡ admittedRecordBench (now (bench .entry)) place (now (asked .entry))) ⌝ }
+    ensures { λ r.
+        ⌜ (r ≡ admitRecordNumber (now (bench .entry)) place (now (asked .entry)))
+        × (now (bench .exit) ≡ admittedRecordBench (now (bench .entry)) place (now (asked .entry))) ⌝ }
 {
     let record = *asked;
     if place > 3 {
@@ -41,13 +43,16 @@ pub extern "C" fn admit_record(bench: &mut Bench, place: usize, asked: &RequestR
 // One merit of the job at the place. 2, 9 and 11 to 13.
 #[no_mangle]
 pub extern "C" fn turn(bench: &mut Bench, place: usize, scratch: &mut [f64]) -> u32
-    ensures { λ r. ⌜ (r ≡ turnNumber (now (bench .entry)) place (length (now (scratch .entry)))) × (now (bench .exit) ≡ turnedBench (now (bench .entry)) place (length (now (scratch .entry)))) × (now (scratch .exit) ≡ scratchAfter (now (bench .entry)) place (now (scratch .entry))) ⌝ }
+    ensures { λ r.
+        ⌜ (r ≡ turnNumber (now (bench .entry)) place (length (now (scratch .entry))))
+        × (now (bench .exit) ≡ turnedBench (now (bench .entry)) place (length (now (scratch .entry))))
+        × (now (scratch .exit) ≡ scratchAfter (now (bench .entry)) place (now (scratch .entry))) ⌝ }
 {
     if place > 3 {
         return 2;
     }
     let row = &mut bench.rows[place];
-    rowslent::turn_parts(
+    rows::turn_parts(
         &mut row.words,
         &mut row.scalars,
         &row.counts,

@@ -161,7 +161,7 @@ fn fetch(
 
 // A fetch that is done is one of the four places.
 fn put_fetched(out: &mut [u8], waiting: Waiting, bench: Bench, place: usize) -> Waiting {
-    let none = global::zero_result();
+    let none = rows::zero_result();
     let fetched = benchcalls::fetched(bench, place, none);
     if fetched.number > 0 {
         return put_call(out, waiting, b"F", fetched.number);

@@ -1,1 +1,2 @@
 pub mod DampedSteps
+pub mod Found

@@ -1,13 +1,22 @@
 // The Jacobian of a damped run, by central differences: the surfaces on either side of a parameter, and the column out of
-// their residuals. An array is taken out of the state before it is indexed: an index into a field copies the whole state.
+// their residuals.
 ghost use mathlib.Core.Path.{_≡_};
+ghost use mathlib.Core.List.{List};
 ghost use Prim.Native.Nat.{ℕ, _≤_, _<_};
-ghost use lib.ListN.{set};
+ghost use lib.Ieee.{Float};
+ghost use lib.ListN.{length, set};
 ghost use Rattle.normal.specs.Layout.{mostOperands, mostVariables};
 ghost use Rattle.variables.specs.Values.{applied};
 ghost use Rattle.runs.specs.DampedRun.{prescPlus, prescMinus, denom, withDifferences};
 ghost use Rattle.runs.specs.DampedRow.{currentOf};
 ghost use Rattle.dls.specs.DampedSteps.{optimizer, movedUp, movedDown, withJacobian};
+ghost use Rattle.held.specs.JobFrom.{standing, variableCountFrom, operandCountFrom, variablesFrom};
+ghost use Rattle.held.specs.RowFrom.{dampedFrom};
+use held::Head;
+use held::active_at;
+use held::apply_values;
+use held::operand_count;
+use held::stand;
 use jobs::DlsConfig;
 use normal::delta;
 use normal::denominator;
@@ -15,14 +24,10 @@ use normal::jacobian_column;
 use normal::minus_value;
 use normal::plus_value;
 use optics::OpticalSurface;
-use runs::DampedState;
 use variables::VariableDef;
-use variables::VariableSet;
-use variables::active_at;
-use variables::apply_values;
 
 // A variable's value moved up, within its bounds.
-pub fn moved_up(x0: f64, relative: f64, variable: VariableDef) -> f64
+fn moved_up(x0: f64, relative: f64, variable: VariableDef) -> f64
     ensures { λ r. ⌜ r ≡ movedUp x0 relative variable ⌝ }
 {
     let by = delta(x0, relative, variable.step_size);
@@ -30,7 +35,7 @@ pub fn moved_up(x0: f64, relative: f64, variable: VariableDef) -> f64
 }
 
 // A variable's value moved down, within its bounds.
-pub fn moved_down(x0: f64, relative: f64, variable: VariableDef) -> f64
+fn moved_down(x0: f64, relative: f64, variable: VariableDef) -> f64
     ensures { λ r. ⌜ r ≡ movedDown x0 relative variable ⌝ }
 {
     let by = delta(x0, relative, variable.step_size);
@@ -38,58 +43,87 @@ pub fn moved_down(x0: f64, relative: f64, variable: VariableDef) -> f64
 }
 
 // The surfaces with all values applied, one of them changed.
-fn perturbed(variables: VariableSet, state: DampedState, q: usize, x: f64) -> [OpticalSurface; 16]
-    requires { ⌜ variables .«variable_count» ≤ mostVariables ⌝ ∗ ⌜ q < mostVariables ⌝ }
-    ensures { λ r. ⌜ r ≡ applied variables (set (state .params) q x) (state .surfaces) ⌝ }
+fn perturbed(
+    q: usize,
+    x: f64,
+    counts: &[u64; 57],
+    numbers: &[f64],
+    surfaces: &[f64; 64],
+    params: &[f64; 8],
+) -> [OpticalSurface; 16]
+    requires { ⌜ variableCountFrom (now counts) ≤ mostVariables ⌝ ∗ ⌜ 195 ≤ length (now numbers) ⌝ ∗ ⌜ q < mostVariables ⌝ }
+    ensures { λ r.
+        ⌜ r ≡ applied (variablesFrom (now (counts .entry)) (now (numbers .entry))) (set (now (params .entry)) q x) (standing (now (surfaces .entry))) ⌝ }
 {
-    let mut values = state.params;
-    values[q] = x;
-    let surfaces = state.surfaces;
-    apply_values(variables, values, surfaces)
+    let mut moved = *params;
+    moved[q] = x;
+    let s = stand(surfaces);
+    apply_values(counts, numbers, moved, s)
 }
 
 // The surfaces with the parameter of this column moved up.
 pub fn presc_plus(
+    h: Head,
     config: DlsConfig,
-    variables: VariableSet,
-    state: DampedState,
+    counts: &[u64; 57],
+    numbers: &[f64],
+    surfaces: &[f64; 64],
+    params: &[f64; 8],
 ) -> [OpticalSurface; 16]
-    requires { ⌜ variables .«variable_count» ≤ mostVariables ⌝ ∗ ⌜ state .column < mostVariables ⌝ }
-    ensures { λ r. ⌜ ((m : ℕ) → r ≡ prescPlus (optimizer config variables m) (currentOf state) (state .column)) ⌝ }
+    requires { ⌜ variableCountFrom (now counts) ≤ mostVariables ⌝ ∗ ⌜ 195 ≤ length (now numbers) ⌝ ∗ ⌜ h .column < mostVariables ⌝ }
+    ensures { λ r.
+        ⌜ ((m : ℕ) (jacobian values residuals plus candidate : List Float) →
+        let o = optimizer config (variablesFrom (now (counts .entry)) (now (numbers .entry))) m in
+        let state = dampedFrom h (now (surfaces .entry)) jacobian values residuals plus (now (params .entry)) candidate in
+        r ≡ prescPlus o (currentOf state) (h .column)) ⌝ }
 {
-    let q = state.column as usize;
-    let variable = active_at(variables, q);
-    let params = state.params;
+    let q = h.column as usize;
+    let variable = active_at(counts, numbers, q);
     let x0 = params[q];
     let x = moved_up(x0, config.finite_difference_relative_step, variable);
-    perturbed(variables, state, q, x)
+    perturbed(q, x, counts, numbers, surfaces, params)
 }
 
 // The surfaces with it moved down.
 pub fn presc_minus(
+    h: Head,
     config: DlsConfig,
-    variables: VariableSet,
-    state: DampedState,
+    counts: &[u64; 57],
+    numbers: &[f64],
+    surfaces: &[f64; 64],
+    params: &[f64; 8],
 ) -> [OpticalSurface; 16]
-    requires { ⌜ variables .«variable_count» ≤ mostVariables ⌝ ∗ ⌜ state .column < mostVariables ⌝ }
-    ensures { λ r. ⌜ ((m : ℕ) → r ≡ prescMinus (optimizer config variables m) (currentOf state) (state .column)) ⌝ }
+    requires { ⌜ variableCountFrom (now counts) ≤ mostVariables ⌝ ∗ ⌜ 195 ≤ length (now numbers) ⌝ ∗ ⌜ h .column < mostVariables ⌝ }
+    ensures { λ r.
+        ⌜ ((m : ℕ) (jacobian values residuals plus candidate : List Float) →
+        let o = optimizer config (variablesFrom (now (counts .entry)) (now (numbers .entry))) m in
+        let state = dampedFrom h (now (surfaces .entry)) jacobian values residuals plus (now (params .entry)) candidate in
+        r ≡ prescMinus o (currentOf state) (h .column)) ⌝ }
 {
-    let q = state.column as usize;
-    let variable = active_at(variables, q);
-    let params = state.params;
+    let q = h.column as usize;
+    let variable = active_at(counts, numbers, q);
     let x0 = params[q];
     let x = moved_down(x0, config.finite_difference_relative_step, variable);
-    perturbed(variables, state, q, x)
+    perturbed(q, x, counts, numbers, surfaces, params)
 }
 
 // What lies between the parameter moved up and moved down.
-fn between(config: DlsConfig, variables: VariableSet, state: DampedState) -> f64
-    requires { ⌜ variables .«variable_count» ≤ mostVariables ⌝ ∗ ⌜ state .column < mostVariables ⌝ }
-    ensures { λ r. ⌜ ((m : ℕ) → r ≡ denom (optimizer config variables m) (currentOf state) (state .column)) ⌝ }
+fn between(
+    h: Head,
+    config: DlsConfig,
+    counts: &[u64; 57],
+    numbers: &[f64],
+    params: &[f64; 8],
+) -> f64
+    requires { ⌜ variableCountFrom (now counts) ≤ mostVariables ⌝ ∗ ⌜ 195 ≤ length (now numbers) ⌝ ∗ ⌜ h .column < mostVariables ⌝ }
+    ensures { λ r.
+        ⌜ ((m : ℕ) (surfaces jacobian values residuals plus candidate : List Float) →
+        let o = optimizer config (variablesFrom (now (counts .entry)) (now (numbers .entry))) m in
+        let state = dampedFrom h surfaces jacobian values residuals plus (now (params .entry)) candidate in
+        r ≡ denom o (currentOf state) (h .column)) ⌝ }
 {
-    let q = state.column as usize;
-    let variable = active_at(variables, q);
-    let params = state.params;
+    let q = h.column as usize;
+    let variable = active_at(counts, numbers, q);
     let x0 = params[q];
     let relative = config.finite_difference_relative_step;
     let plus = moved_up(x0, relative, variable);
@@ -97,23 +131,30 @@ fn between(config: DlsConfig, variables: VariableSet, state: DampedState) -> f64
     denominator(x0, plus, minus)
 }
 
-// The state with this column of the Jacobian written, out of the residuals on either side.
+// This column of the Jacobian written, out of the residuals on either side.
 pub fn with_differences(
+    h: Head,
     config: DlsConfig,
-    variables: VariableSet,
-    operand_count: usize,
-    state: DampedState,
+    counts: &[u64; 57],
+    numbers: &[f64],
     minus: [f64; 12],
-) -> DampedState
-    requires { ⌜ variables .«variable_count» ≤ mostVariables ⌝ ∗ ⌜ «operand_count» ≤ mostOperands ⌝ ∗ ⌜ state .column < mostVariables ⌝ }
-    ensures { λ r. ⌜ r ≡ withJacobian state (withDifferences (optimizer config variables «operand_count») (currentOf state) (state .column) (state .jacobian) (state .«plus_residuals») minus) ⌝ }
+    jacobian: &mut [f64; 96],
+    plus_residuals: &[f64; 12],
+    params: &[f64; 8],
+)
+    requires { ⌜ variableCountFrom (now counts) ≤ mostVariables ⌝
+        ∗ ⌜ 195 ≤ length (now numbers) ⌝
+        ∗ ⌜ operandCountFrom (now counts) ≤ mostOperands ⌝
+        ∗ ⌜ h .column < mostVariables ⌝ }
+    ensures { λ _.
+        ⌜ ((surfaces values residuals candidate : List Float) →
+        let o = optimizer config (variablesFrom (now (counts .entry)) (now (numbers .entry))) (operandCountFrom (now (counts .entry))) in
+        let before = dampedFrom h surfaces (now (jacobian .entry)) values residuals (now («plus_residuals» .entry)) (now (params .entry)) candidate in
+        let after = dampedFrom h surfaces (now (jacobian .exit)) values residuals (now («plus_residuals» .entry)) (now (params .entry)) candidate in
+        after ≡ withJacobian before (withDifferences o (currentOf before) (h .column) (now (jacobian .entry)) (now («plus_residuals» .entry)) minus)) ⌝ }
 {
-    let d = between(config, variables, state);
-    let q = state.column as usize;
-    let plus = state.plus_residuals;
-    let mut jacobian = state.jacobian;
-    jacobian_column(&mut jacobian, q, &plus, &minus, operand_count, d);
-    let mut next = state;
-    next.jacobian = jacobian;
-    next
+    let d = between(h, config, counts, numbers, params);
+    let q = h.column as usize;
+    let m = operand_count(counts);
+    jacobian_column(jacobian, q, plus_residuals, &minus, m, d);
 }

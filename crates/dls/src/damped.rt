@@ -1,231 +1,261 @@
 // A damped run, from one merit to the next: the surfaces whose merit comes next, and how the run goes on with that merit.
 ghost use mathlib.Core.Path.{_≡_};
-ghost use mathlib.Core.Bool.{_&&_};
+ghost use mathlib.Core.List.{List};
 ghost use Prim.Native.Nat.{ℕ, _≤_, _<_};
-ghost use lib.Dec.{ltb};
 ghost use lib.ListN.{length};
-ghost use lib.Ieee.{lt};
-ghost use Rattle.floats.specs.Basic.{finiteOf};
+ghost use lib.Ieee.{Float};
 ghost use Rattle.normal.specs.Layout.{scratchLength, mostOperands, mostVariables};
 ghost use Rattle.variables.specs.Active.{numActive};
-ghost use Rattle.jobs.specs.declared.types.DlsConfig.{DlsConfig};
-ghost use Rattle.runs.specs.DampedRow.{first, minus, candidate, currentOf, pending, advance, advanceAt, resultOf, resumeAfter};
-ghost use Rattle.runs.specs.DampedRun.{moved, accepted};
-ghost use Rattle.dls.specs.DampedSteps.{optimizer, withCurrent, ScratchKept, relativeGain, iterationEntered};
-use crate::attempts::resume_rejected;
+ghost use Rattle.runs.specs.DampedRow as Damped;
+ghost use Rattle.runs.specs.DampedRow.{pending, advance, advanceAt};
+ghost use Rattle.dls.specs.DampedSteps.{optimizer, ScratchKept};
+ghost use Rattle.held.specs.JobFrom.{variableCountFrom, operandCountFrom, variablesFrom};
+ghost use Rattle.held.specs.RowFrom.{dampedFrom};
+ghost use Rattle.dls.specs.Found.{ForFound};
+use crate::accepting::advance_candidate;
+use crate::accepting::resume_iterations;
 use crate::attempts::resume_stationary;
 use crate::columns::presc_minus;
 use crate::columns::presc_plus;
 use crate::columns::with_differences;
 use crate::states::at_minus;
 use crate::states::at_plus;
-use crate::states::ended;
-use floats::is_finite;
-use floats::max;
+use held::Head;
+use held::apply_values;
+use held::extract_values;
+use held::num_active;
+use held::stand;
+use heldmerit::merit_of;
+use heldmerit::residuals_of;
 use jobs::DlsConfig;
-use merit::MeritEvaluation;
-use normal::Damping;
 use optics::OpticalSurface;
-use runs::DampedState;
-use runs::OptimizationResult;
-use variables::VariableSet;
-use variables::apply_values;
-use variables::extract_values;
-use variables::num_active;
 
 // The surfaces whose merit comes next.
 pub fn pending_damped(
+    h: Head,
     config: DlsConfig,
-    variables: VariableSet,
-    state: DampedState,
+    counts: &[u64; 57],
+    numbers: &[f64],
+    surfaces: &[f64; 64],
+    params: &[f64; 8],
+    candidate: &[f64; 8],
 ) -> [OpticalSurface; 16]
-    requires { ⌜ variables .«variable_count» ≤ mostVariables ⌝ ∗ ⌜ state .column < numActive variables ⌝ }
-    ensures { λ r. ⌜ ((m : ℕ) → r ≡ pending (optimizer config variables m) state) ⌝ }
+    requires { ⌜ variableCountFrom (now counts) ≤ mostVariables ⌝
+        ∗ ⌜ 195 ≤ length (now numbers) ⌝
+        ∗ ⌜ h .column < numActive (variablesFrom (now counts) (now numbers)) ⌝ }
+    ensures { λ r.
+        ⌜ ((m : ℕ) (jacobian values residuals plus : List Float) →
+        let o = optimizer config (variablesFrom (now (counts .entry)) (now (numbers .entry))) m in
+        let state = dampedFrom h (now (surfaces .entry)) jacobian values residuals plus (now (params .entry)) (now (candidate .entry)) in
+        r ≡ pending o state) ⌝ }
 {
-    let phase = state.phase;
+    let phase = h.phase;
     if phase == 1 {
-        return presc_plus(config, variables, state);
+        return presc_plus(h, config, counts, numbers, surfaces, params);
     }
     if phase == 2 {
-        return presc_minus(config, variables, state);
+        return presc_minus(h, config, counts, numbers, surfaces, params);
     }
-    let surfaces = state.surfaces;
+    let s = stand(surfaces);
     if phase == 3 {
-        let candidate = state.candidate;
-        return apply_values(variables, candidate, surfaces);
+        let x = *candidate;
+        return apply_values(counts, numbers, x, s);
     }
-    surfaces
-}
-
-// The next iteration, where there is one: its Jacobian is zero, and its first column comes first.
-fn resume_iterations(limit: u64, state: DampedState) -> DampedState
-    ensures { λ r. ⌜ r ≡ iterationEntered (ltb (state .iteration) limit) (currentOf state) ⌝ }
-{
-    if state.iteration < limit {
-        let mut next = state;
-        next.jacobian = [0.0; 96];
-        next.iteration = state.iteration + 1;
-        return at_plus(next, 0);
-    }
-    ended(state, false)
+    s
 }
 
 // The first merit is of the surfaces as they are; the parameters are read from them.
 fn advance_first(
+    h: Head,
     config: DlsConfig,
-    variables: VariableSet,
-    state: DampedState,
-    evaluation: MeritEvaluation,
-) -> DampedState
-    requires { ⌜ variables .«variable_count» ≤ mostVariables ⌝ ∗ ⌜ 0 < numActive variables ⌝ }
-    ensures { λ r. ⌜ ((m : ℕ) → r ≡ advanceAt (optimizer config variables m) first state evaluation) ⌝ }
+    counts: &[u64; 57],
+    numbers: &[f64],
+    found: &[f64; 12],
+    surfaces: &[f64; 64],
+    jacobian: &mut [f64; 96],
+    values: &mut [f64; 12],
+    residuals: &mut [f64; 12],
+    plus_residuals: &mut [f64; 12],
+    params: &mut [f64; 8],
+    candidate: &mut [f64; 8],
+) -> Head
+    requires { ⌜ variableCountFrom (now counts) ≤ mostVariables ⌝
+        ∗ ⌜ 195 ≤ length (now numbers) ⌝
+        ∗ ⌜ operandCountFrom (now counts) ≤ mostOperands ⌝
+        ∗ ⌜ 0 < numActive (variablesFrom (now counts) (now numbers)) ⌝ }
+    ensures { λ r.
+        ⌜ ForFound (now (counts .entry)) (now (numbers .entry)) (now (found .entry)) (λ e. (m : ℕ) →
+        let o = optimizer config (variablesFrom (now (counts .entry)) (now (numbers .entry))) m in
+        let before = dampedFrom h (now (surfaces .entry)) (now (jacobian .entry)) (now (values .entry)) (now (residuals .entry))
+        (now («plus_residuals» .entry)) (now (params .entry)) (now (candidate .entry)) in
+        let after = dampedFrom r (now (surfaces .entry)) (now (jacobian .exit)) (now (values .exit)) (now (residuals .exit)) (now («plus_residuals» .exit))
+        (now (params .exit)) (now (candidate .exit)) in
+        after ≡ advanceAt o Damped.first before e) ⌝ }
 {
-    let surfaces = state.surfaces;
-    let mut next = state;
-    let params = extract_values(variables, surfaces);
-    next.params = params;
-    next.evaluation = evaluation;
-    next.initial_merit = evaluation.total_merit;
+    let x = extract_values(counts, numbers, surfaces);
+    *params = x;
+    let v = *found;
+    *values = v;
+    let r = residuals_of(found, counts, numbers);
+    *residuals = r;
+    let merit = merit_of(found, counts, numbers);
+    let mut next = h;
+    next.total_merit = merit;
+    next.initial_merit = merit;
     next.damping = config.initial_damping;
     next.iteration = 0;
-    resume_iterations(config.max_iterations, next)
+    resume_iterations(
+        next,
+        config.max_iterations,
+        jacobian,
+        plus_residuals,
+        params,
+        candidate,
+    )
 }
 
 // The merit on the lower side: a column is done, and where it was the last the step is sought.
 fn advance_minus(
+    h: Head,
     config: DlsConfig,
-    variables: VariableSet,
-    operand_count: usize,
-    state: DampedState,
-    evaluation: MeritEvaluation,
+    counts: &[u64; 57],
+    numbers: &[f64],
+    found: &[f64; 12],
+    jacobian: &mut [f64; 96],
+    residuals: &[f64; 12],
+    plus_residuals: &mut [f64; 12],
+    params: &mut [f64; 8],
+    candidate: &mut [f64; 8],
     scratch: &mut [f64],
-) -> DampedState
-    requires { ⌜ scratchLength ≤ length (now scratch) ⌝ ∗ ⌜ variables .«variable_count» ≤ mostVariables ⌝ ∗ ⌜ «operand_count» ≤ mostOperands ⌝ ∗ ⌜ state .column < numActive variables ⌝ }
-    ensures { λ r. ⌜ r ≡ advanceAt (optimizer config variables «operand_count») minus state evaluation ⌝ ∗ ⌜ ScratchKept (now (scratch .entry)) (now (scratch .exit)) ⌝ }
+) -> Head
+    requires { ⌜ scratchLength ≤ length (now scratch) ⌝
+        ∗ ⌜ variableCountFrom (now counts) ≤ mostVariables ⌝
+        ∗ ⌜ 195 ≤ length (now numbers) ⌝
+        ∗ ⌜ operandCountFrom (now counts) ≤ mostOperands ⌝
+        ∗ ⌜ h .column < numActive (variablesFrom (now counts) (now numbers)) ⌝ }
+    ensures { λ r.
+        ⌜ ForFound (now (counts .entry)) (now (numbers .entry)) (now (found .entry)) (λ e. (surfaces values : List Float) →
+        let o = optimizer config (variablesFrom (now (counts .entry)) (now (numbers .entry))) (operandCountFrom (now (counts .entry))) in
+        let before = dampedFrom h surfaces (now (jacobian .entry)) values (now (residuals .entry)) (now («plus_residuals» .entry)) (now (params .entry))
+        (now (candidate .entry)) in
+        let after = dampedFrom r surfaces (now (jacobian .exit)) values (now (residuals .entry)) (now («plus_residuals» .exit)) (now (params .exit))
+        (now (candidate .exit)) in
+        after ≡ advanceAt o Damped.minus before e) ⌝
+        ∗ ⌜ ScratchKept (now (scratch .entry)) (now (scratch .exit)) ⌝ }
 {
-    let minus = evaluation.residuals;
-    let next = with_differences(config, variables, operand_count, state, minus);
-    let column = state.column + 1;
-    let p = num_active(variables);
+    let below = residuals_of(found, counts, numbers);
+    with_differences(
+        h,
+        config,
+        counts,
+        numbers,
+        below,
+        jacobian,
+        plus_residuals,
+        params,
+    );
+    let column = h.column + 1;
+    let p = num_active(counts, numbers);
     if (column as usize) < p {
-        return at_plus(next, column);
+        return at_plus(h, column, plus_residuals, candidate);
     }
-    resume_stationary(config, variables, operand_count, next, scratch)
-}
-
-// Whether a merit is an improvement.
-pub fn is_reduction(merit: f64, current: f64) -> bool
-    ensures { λ r. ⌜ r ≡ finiteOf merit && lt merit current ⌝ }
-{
-    is_finite(merit) && merit < current
-}
-
-// By how much, relative to the merit so far.
-pub fn rel_improvement(merit: f64, current: f64) -> f64
-    ensures { λ r. ⌜ r ≡ relativeGain merit current ⌝ }
-{
-    (current - merit) / max(current, 1e-12)
-}
-
-// The candidate's surfaces, parameters and merit become the current ones, and the damping is eased.
-fn moved(variables: VariableSet, state: DampedState, evaluation: MeritEvaluation) -> DampedState
-    requires { ⌜ variables .«variable_count» ≤ mostVariables ⌝ }
-    ensures { λ r. ⌜ ((config : DlsConfig) (m : ℕ) → r ≡ withCurrent state (moved (optimizer config variables m) (state .candidate) evaluation (currentOf state))) ⌝ }
-{
-    let candidate = state.candidate;
-    let surfaces = state.surfaces;
-    let tested = apply_values(variables, candidate, surfaces);
-    let damping = Damping {
-        value: state.damping,
-    };
-    let eased = damping.ease();
-    let mut next = state;
-    next.surfaces = tested;
-    next.params = candidate;
-    next.evaluation = evaluation;
-    next.damping = eased.value;
-    next
-}
-
-// An accepted step: the run has converged where the improvement was small, else it goes on.
-fn advance_accepted(
-    config: DlsConfig,
-    variables: VariableSet,
-    state: DampedState,
-    evaluation: MeritEvaluation,
-) -> DampedState
-    requires { ⌜ variables .«variable_count» ≤ mostVariables ⌝ ∗ ⌜ 0 < numActive variables ⌝ }
-    ensures { λ r. ⌜ ((m : ℕ) → r ≡ resumeAfter (optimizer config variables m) (accepted (optimizer config variables m) (state .candidate) evaluation (currentOf state))) ⌝ }
-{
-    let gain = rel_improvement(evaluation.total_merit, state.evaluation.total_merit);
-    let next = moved(variables, state, evaluation);
-    if gain < config.relative_merit_tolerance {
-        return ended(next, true);
-    }
-    resume_iterations(config.max_iterations, next)
-}
-
-// The candidate's merit.
-fn advance_candidate(
-    config: DlsConfig,
-    variables: VariableSet,
-    operand_count: usize,
-    state: DampedState,
-    evaluation: MeritEvaluation,
-    scratch: &mut [f64],
-) -> DampedState
-    requires { ⌜ scratchLength ≤ length (now scratch) ⌝ ∗ ⌜ variables .«variable_count» ≤ mostVariables ⌝ ∗ ⌜ «operand_count» ≤ mostOperands ⌝ ∗ ⌜ 0 < numActive variables ⌝ }
-    ensures { λ r. ⌜ r ≡ advanceAt (optimizer config variables «operand_count») candidate state evaluation ⌝ ∗ ⌜ ScratchKept (now (scratch .entry)) (now (scratch .exit)) ⌝ }
-{
-    if is_reduction(evaluation.total_merit, state.evaluation.total_merit) {
-        return advance_accepted(config, variables, state, evaluation);
-    }
-    resume_rejected(variables, operand_count, state, scratch)
+    resume_stationary(
+        h,
+        config,
+        counts,
+        numbers,
+        jacobian,
+        residuals,
+        plus_residuals,
+        params,
+        candidate,
+        scratch,
+    )
 }
 
 // The state after the merit that came next. A turn uses the first 256 of scratch.
 pub fn advance_damped(
+    h: Head,
     config: DlsConfig,
-    variables: VariableSet,
-    operand_count: usize,
-    state: DampedState,
-    evaluation: MeritEvaluation,
+    counts: &[u64; 57],
+    numbers: &[f64],
+    found: &[f64; 12],
+    surfaces: &mut [f64; 64],
+    jacobian: &mut [f64; 96],
+    values: &mut [f64; 12],
+    residuals: &mut [f64; 12],
+    plus_residuals: &mut [f64; 12],
+    params: &mut [f64; 8],
+    candidate: &mut [f64; 8],
     scratch: &mut [f64],
-) -> DampedState
-    requires { ⌜ scratchLength ≤ length (now scratch) ⌝ ∗ ⌜ variables .«variable_count» ≤ mostVariables ⌝ ∗ ⌜ «operand_count» ≤ mostOperands ⌝ ∗ ⌜ state .column < numActive variables ⌝ }
-    ensures { λ r. ⌜ r ≡ advance (optimizer config variables «operand_count») state evaluation ⌝ ∗ ⌜ ScratchKept (now (scratch .entry)) (now (scratch .exit)) ⌝ }
+) -> Head
+    requires { ⌜ scratchLength ≤ length (now scratch) ⌝
+        ∗ ⌜ variableCountFrom (now counts) ≤ mostVariables ⌝
+        ∗ ⌜ 195 ≤ length (now numbers) ⌝
+        ∗ ⌜ operandCountFrom (now counts) ≤ mostOperands ⌝
+        ∗ ⌜ h .column < numActive (variablesFrom (now counts) (now numbers)) ⌝ }
+    ensures { λ r.
+        ⌜ ForFound (now (counts .entry)) (now (numbers .entry)) (now (found .entry)) (λ e.
+        let o = optimizer config (variablesFrom (now (counts .entry)) (now (numbers .entry))) (operandCountFrom (now (counts .entry))) in
+        let before = dampedFrom h (now (surfaces .entry)) (now (jacobian .entry)) (now (values .entry)) (now (residuals .entry))
+        (now («plus_residuals» .entry)) (now (params .entry)) (now (candidate .entry)) in
+        let after = dampedFrom r (now (surfaces .exit)) (now (jacobian .exit)) (now (values .exit)) (now (residuals .exit)) (now («plus_residuals» .exit))
+        (now (params .exit)) (now (candidate .exit)) in
+        after ≡ advance o before e) ⌝
+        ∗ ⌜ ScratchKept (now (scratch .entry)) (now (scratch .exit)) ⌝ }
 {
-    let phase = state.phase;
+    let phase = h.phase;
     if phase == 0 {
-        return advance_first(config, variables, state, evaluation);
+        return advance_first(
+            h,
+            config,
+            counts,
+            numbers,
+            found,
+            surfaces,
+            jacobian,
+            values,
+            residuals,
+            plus_residuals,
+            params,
+            candidate,
+        );
     }
     if phase == 1 {
-        let residuals = evaluation.residuals;
-        return at_minus(state, residuals);
+        let above = residuals_of(found, counts, numbers);
+        return at_minus(h, above, plus_residuals, candidate);
     }
     if phase == 2 {
-        return advance_minus(config, variables, operand_count, state, evaluation, scratch);
+        return advance_minus(
+            h,
+            config,
+            counts,
+            numbers,
+            found,
+            jacobian,
+            residuals,
+            plus_residuals,
+            params,
+            candidate,
+            scratch,
+        );
     }
     if phase == 3 {
-        return advance_candidate(config, variables, operand_count, state, evaluation, scratch);
+        return advance_candidate(
+            h,
+            config,
+            counts,
+            numbers,
+            found,
+            surfaces,
+            jacobian,
+            values,
+            residuals,
+            plus_residuals,
+            params,
+            candidate,
+            scratch,
+        );
     }
-    state
-}
-
-// The result is read off the end.
-pub fn damped_result(state: DampedState) -> OptimizationResult
-    ensures { λ r. ⌜ r ≡ resultOf state ⌝ }
-{
-    let surfaces = state.surfaces;
-    let values = state.evaluation.values;
-    let residuals = state.evaluation.residuals;
-    OptimizationResult {
-        surfaces: surfaces,
-        values: values,
-        residuals: residuals,
-        initial_merit: state.initial_merit,
-        final_merit: state.evaluation.total_merit,
-        iterations: state.iteration,
-        converged: state.converged,
-    }
+    h
 }

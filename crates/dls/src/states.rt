@@ -1,29 +1,37 @@
 // The states that a damped run stands in between two merits, one function a phase. What a phase does not use is zero.
+// An array that is not lent is any array: it stays as it is.
 ghost use mathlib.Core.Path.{_≡_};
-ghost use Rattle.runs.specs.DampedRow.{currentOf, atFirst, atPlus, atMinus, atCandidate, ended};
+ghost use mathlib.Core.List.{List};
+ghost use lib.Ieee.{Float};
+ghost use Rattle.runs.specs.DampedRow.{currentOf, holding, atFirst, atPlus, atMinus, atCandidate, ended};
 ghost use Rattle.dls.specs.DampedSteps.{withDamping};
-use merit::MeritEvaluation;
-use optics::OpticalSurface;
-use runs::DampedState;
+ghost use Rattle.held.specs.JobFrom.{standing};
+ghost use Rattle.held.specs.RowFrom.{dampedFrom};
+use held::Head;
 
-// Just before the first merit.
-pub fn at_first(surfaces: [OpticalSurface; 16]) -> DampedState
-    ensures { λ r. ⌜ r ≡ atFirst surfaces ⌝ }
+// Outside the loops: the phase, and surfaces, params and a candidate that stand already.
+pub fn holding(
+    phase: u64,
+    jacobian: &mut [f64; 96],
+    values: &mut [f64; 12],
+    residuals: &mut [f64; 12],
+    plus_residuals: &mut [f64; 12],
+) -> Head
+    ensures { λ r.
+        ⌜ ((surfaces params candidate : List Float) →
+        let after = dampedFrom r surfaces (now (jacobian .exit)) (now (values .exit)) (now (residuals .exit)) (now («plus_residuals» .exit)) params
+        candidate in
+        after ≡ holding phase (standing surfaces) params candidate) ⌝ }
 {
-    DampedState {
-        surfaces: surfaces,
-        jacobian: [0.0; 96],
-        evaluation: MeritEvaluation {
-            values: [0.0; 12],
-            residuals: [0.0; 12],
-            total_merit: 0.0,
-        },
-        plus_residuals: [0.0; 12],
-        params: [0.0; 8],
-        candidate: [0.0; 8],
+    *jacobian = [0.0; 96];
+    *values = [0.0; 12];
+    *residuals = [0.0; 12];
+    *plus_residuals = [0.0; 12];
+    Head {
+        total_merit: 0.0,
         initial_merit: 0.0,
         damping: 0.0,
-        phase: 0,
+        phase: phase,
         iteration: 0,
         column: 0,
         attempt: 0,
@@ -31,13 +39,42 @@ pub fn at_first(surfaces: [OpticalSurface; 16]) -> DampedState
     }
 }
 
-// Just before the merit that moves parameter `column` up.
-pub fn at_plus(state: DampedState, column: u64) -> DampedState
-    ensures { λ r. ⌜ r ≡ atPlus (currentOf state) (state .jacobian) column ⌝ }
+// Just before the first merit, of surfaces that stand already.
+pub fn at_first(
+    jacobian: &mut [f64; 96],
+    values: &mut [f64; 12],
+    residuals: &mut [f64; 12],
+    plus_residuals: &mut [f64; 12],
+    params: &mut [f64; 8],
+    candidate: &mut [f64; 8],
+) -> Head
+    ensures { λ r.
+        ⌜ ((surfaces : List Float) →
+        let after = dampedFrom r surfaces (now (jacobian .exit)) (now (values .exit)) (now (residuals .exit)) (now («plus_residuals» .exit))
+        (now (params .exit)) (now (candidate .exit)) in
+        after ≡ atFirst (standing surfaces)) ⌝ }
 {
-    let mut next = state;
-    next.plus_residuals = [0.0; 12];
-    next.candidate = [0.0; 8];
+    *params = [0.0; 8];
+    *candidate = [0.0; 8];
+    holding(0, jacobian, values, residuals, plus_residuals)
+}
+
+// Just before the merit that moves parameter `column` up.
+pub fn at_plus(
+    h: Head,
+    column: u64,
+    plus_residuals: &mut [f64; 12],
+    candidate: &mut [f64; 8],
+) -> Head
+    ensures { λ r.
+        ⌜ ((surfaces jacobian values residuals params : List Float) →
+        let before = dampedFrom h surfaces jacobian values residuals (now («plus_residuals» .entry)) params (now (candidate .entry)) in
+        let after = dampedFrom r surfaces jacobian values residuals (now («plus_residuals» .exit)) params (now (candidate .exit)) in
+        after ≡ atPlus (currentOf before) jacobian column) ⌝ }
+{
+    *plus_residuals = [0.0; 12];
+    *candidate = [0.0; 8];
+    let mut next = h;
     next.phase = 1;
     next.column = column;
     next.attempt = 0;
@@ -46,12 +83,21 @@ pub fn at_plus(state: DampedState, column: u64) -> DampedState
 }
 
 // Just before the merit that moves it down.
-pub fn at_minus(state: DampedState, residuals: [f64; 12]) -> DampedState
-    ensures { λ r. ⌜ r ≡ atMinus (currentOf state) (state .jacobian) (state .column) residuals ⌝ }
+pub fn at_minus(
+    h: Head,
+    found: [f64; 12],
+    plus_residuals: &mut [f64; 12],
+    candidate: &mut [f64; 8],
+) -> Head
+    ensures { λ r.
+        ⌜ ((surfaces jacobian values residuals params : List Float) →
+        let before = dampedFrom h surfaces jacobian values residuals (now («plus_residuals» .entry)) params (now (candidate .entry)) in
+        let after = dampedFrom r surfaces jacobian values residuals (now («plus_residuals» .exit)) params (now (candidate .exit)) in
+        after ≡ atMinus (currentOf before) jacobian (h .column) found) ⌝ }
 {
-    let mut next = state;
-    next.plus_residuals = residuals;
-    next.candidate = [0.0; 8];
+    *plus_residuals = found;
+    *candidate = [0.0; 8];
+    let mut next = h;
     next.phase = 2;
     next.attempt = 0;
     next.converged = 0;
@@ -60,16 +106,22 @@ pub fn at_minus(state: DampedState, residuals: [f64; 12]) -> DampedState
 
 // Just before the candidate's merit.
 pub fn at_candidate(
-    state: DampedState,
+    h: Head,
     damping: f64,
     attempt: u64,
-    candidate: [f64; 8],
-) -> DampedState
-    ensures { λ r. ⌜ r ≡ atCandidate (withDamping damping (currentOf state)) (state .jacobian) attempt candidate ⌝ }
+    found: [f64; 8],
+    plus_residuals: &mut [f64; 12],
+    candidate: &mut [f64; 8],
+) -> Head
+    ensures { λ r.
+        ⌜ ((surfaces jacobian values residuals params : List Float) →
+        let before = dampedFrom h surfaces jacobian values residuals (now («plus_residuals» .entry)) params (now (candidate .entry)) in
+        let after = dampedFrom r surfaces jacobian values residuals (now («plus_residuals» .exit)) params (now (candidate .exit)) in
+        after ≡ atCandidate (withDamping damping (currentOf before)) jacobian attempt found) ⌝ }
 {
-    let mut next = state;
-    next.plus_residuals = [0.0; 12];
-    next.candidate = candidate;
+    *plus_residuals = [0.0; 12];
+    *candidate = found;
+    let mut next = h;
     next.damping = damping;
     next.phase = 3;
     next.column = 0;
@@ -79,14 +131,27 @@ pub fn at_candidate(
 }
 
 // At the end.
-pub fn ended(state: DampedState, converged: bool) -> DampedState
-    ensures { λ r. ⌜ r ≡ ended converged (currentOf state) ⌝ }
+pub fn ended(
+    h: Head,
+    converged: bool,
+    jacobian: &mut [f64; 96],
+    plus_residuals: &mut [f64; 12],
+    params: &mut [f64; 8],
+    candidate: &mut [f64; 8],
+) -> Head
+    ensures { λ r.
+        ⌜ ((surfaces values residuals : List Float) →
+        let before = dampedFrom h surfaces (now (jacobian .entry)) values residuals (now («plus_residuals» .entry)) (now (params .entry))
+        (now (candidate .entry)) in
+        let after = dampedFrom r surfaces (now (jacobian .exit)) values residuals (now («plus_residuals» .exit)) (now (params .exit))
+        (now (candidate .exit)) in
+        after ≡ ended converged (currentOf before)) ⌝ }
 {
-    let mut next = state;
-    next.jacobian = [0.0; 96];
-    next.plus_residuals = [0.0; 12];
-    next.params = [0.0; 8];
-    next.candidate = [0.0; 8];
+    *jacobian = [0.0; 96];
+    *plus_residuals = [0.0; 12];
+    *params = [0.0; 8];
+    *candidate = [0.0; 8];
+    let mut next = h;
     next.damping = 0.0;
     next.phase = 4;
     next.column = 0;

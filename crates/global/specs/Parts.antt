@@ -1,24 +1,13 @@
--- What a contract says of a state, an annealer or an optimizer of which the call is handed some fields: it holds whatever the others are. Definitions only.
+-- What a contract says of an annealer or an optimizer of which the call is handed some fields: it holds whatever the others are. Definitions only.
 use Prim.Native.Nat.{ℕ}
 use mathlib.Core.Path.{_≡_}
 use mathlib.Core.List.{List}
 use lib.Ieee.{Float}
 use Rattle.variables.specs.declared.types.VariableSet.{VariableSet}
 use Rattle.jobs.specs.declared.types.SimulatedAnnealingConfig.{SimulatedAnnealingConfig}
-use Rattle.runs.specs.declared.types.DampedState.{DampedState}
-use Rattle.runs.specs.declared.types.Row.{Row}
-use Rattle.global.specs.declared.walk.Walk.{Walk}
 use Rattle.runs.specs.DampedRun.{Optimizer}
 use Rattle.runs.specs.AnnealingRun.{Annealer}
 use Rattle.runs.specs.AnnealingRun as Annealing
-use Rattle.runs.specs.State.{State, rowOf}
-
--- every damped part, or state, in this phase
-abbrev pub InPhase : (phase : ℕ) → (DampedState → Type 0) → Type 0
-InPhase n P = (d : DampedState) → d .phase ≡ n → P d
-
-abbrev pub StateInPhase : (phase : ℕ) → (State → Type 0) → Type 0
-StateInPhase n P = (s : State) → s .damped .phase ≡ n → P s
 
 -- every optimizer of these variables
 abbrev pub ForOptimizer : VariableSet → (Optimizer → Type 0) → Type 0
@@ -34,19 +23,3 @@ ForAnnealerBy config v P = (a : Annealer) → a .config ≡ config → a .variab
 -- the values that a step tries, for every annealer and walk with these variables, params and generator
 abbrev pub TriedBy : VariableSet → (params : List Float) (rng : ℕ) → List Float → Type 0
 TriedBy v params rng trial = (a : Annealer) (w : Annealing.Walk) → a .variables ≡ v → w .params ≡ params → w .rng ≡ rng → trial ≡ Annealing.trialParams a w
-
--- the code's walk
-abbrev pub walkIn : Walk → Annealing.Walk
-walkIn w = record {
-  surfaces = w .surfaces;
-  params = w .params;
-  currentMerit = w .«current_merit»;
-  bestSurfaces = w .«best_surfaces»;
-  bestMerit = w .«best_merit»;
-  rng = w .rng;
-  temp = w .temp;
-}
-
--- the row in another state: job, kind and turns stay
-abbrev pub inState : Row → State → Row
-inState r s = rowOf (r .job) (r .kind) (r .turns) s

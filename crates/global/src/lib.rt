@@ -1,35 +1,12 @@
-// Multi-start and annealing on a row, the states that runs begin in, and when a row is damaged (out of global.rs).
-mod damage;
+// Multi-start's trials and annealing's walk, over lent arrays, from merit to merit (out of global.rs).
+mod cycles;
 mod draws;
-mod scratch;
-mod states;
+mod judging;
+mod merging;
+mod steps;
 mod trials;
 mod walk;
-mod zeros;
 
-pub use damage::annealing_bound;
-pub use damage::at_least_one;
-pub use damage::damped_bound;
-pub use damage::is_damaged;
-pub use damage::is_damaged_as;
-pub use damage::is_kind;
-pub use damage::multi_start_bound;
-pub use draws::Drawn;
-pub use scratch::zero_first;
-pub use states::annealing_over;
-pub use states::began;
-pub use states::damped_over;
-pub use states::finished_of;
-pub use states::fresh;
-pub use states::result_of;
-pub use states::with_damped;
-pub use trials::resume_damped;
+pub use trials::advance_trials;
 pub use walk::advance_walk;
 pub use walk::advance_walk_first;
-pub use walk::has_next;
-pub use walk::is_first_cycle;
-pub use walk::is_next_cycle;
-pub use walk::pending_walk;
-pub use walk::prob;
-pub use zeros::zero_result;
-pub use zeros::zero_surfaces;

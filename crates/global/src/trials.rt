@@ -1,119 +1,262 @@
-// Multi-start: the best result so far, and from the end of a trial to just before the next one's first merit.
+// Multi-start: a trial of it, and from the end of a trial to just before the next one's first merit.
 ghost use mathlib.Core.Path.{_≡_};
-ghost use Prim.Native.Nat.{_≤_};
+ghost use mathlib.Core.List.{List};
+ghost use Prim.Native.Nat.{_≤_, _<_};
 ghost use lib.Dec.{ltb};
-ghost use Rattle.runs.specs.MultiStartRun.{merged, afterDraws, trialPresc};
-ghost use Rattle.runs.specs.MultiStartRow.{bestBefore, inTrial, ended, resumeTrials, resumeDamped};
+ghost use lib.Ieee.{Float};
+ghost use lib.ListN.{length};
+ghost use Rattle.normal.specs.Layout.{scratchLength, mostOperands, mostVariables};
+ghost use Rattle.variables.specs.Active.{numActive};
+ghost use Rattle.runs.specs.declared.types.DampedState.{DampedState};
+ghost use Rattle.runs.specs.MultiStartRun.{afterDraws, trialPresc};
+ghost use Rattle.runs.specs.MultiStartRow.{ended, resumeTrials, resumeDamped, advance};
 ghost use Rattle.runs.specs.DampedRow as Damped;
-ghost use Rattle.runs.specs.State.{stateOf};
-ghost use Rattle.global.specs.Parts.{ForOptimizer, inState};
+ghost use Rattle.runs.specs.State.{withDamped};
+ghost use Rattle.jobs.specs.Records.{dlsConfig};
+ghost use Rattle.dls.specs.DampedSteps.{optimizer, ScratchKept};
+ghost use Rattle.held.specs.JobFrom.{standing, variableCountFrom, operandCountFrom, numTrialsFrom, settingsFrom, variablesFrom};
+ghost use Rattle.dls.specs.Found.{ForFound};
+ghost use Rattle.global.specs.Parts.{ForOptimizer};
+ghost use Rattle.held.specs.RowFrom.{resultFrom, stateFrom};
 use crate::draws;
-use crate::states;
-use crate::zeros;
-use optics::OpticalSurface;
-use runs::DampedState;
-use runs::OptimizationResult;
-use runs::Row;
-use variables::VariableSet;
+use crate::merging::merged;
+use held::BestHead;
+use held::RowHead;
 
-// A later result replaces the best only when strictly lower; before the base's, in trial 0, there is none.
-pub fn merged(
-    trial: u64,
-    best: OptimizationResult,
-    result: OptimizationResult,
-) -> OptimizationResult
-    ensures { λ r. ⌜ r ≡ merged (bestBefore trial best) result ⌝ }
-{
-    if trial == 0 {
-        return result;
-    }
-    if result.final_merit < best.final_merit {
-        return result;
-    }
-    best
-}
-
-// The surfaces that a trial starts from, and the generator after its draws.
-pub struct TrialStart {
-    pub surfaces: [OpticalSurface; 16],
-    pub generator: u64,
-}
-
-pub fn trial_surfaces(
-    variables: VariableSet,
-    base: [OpticalSurface; 16],
+// The surfaces that a trial starts from; the generator after its draws.
+fn trial_surfaces(
     generator: u64,
-) -> TrialStart
-    requires { ⌜ variables .«variable_count» ≤ 8 ⌝ }
-    ensures { λ r. ⌜ ForOptimizer variables (λ o. r .surfaces ≡ trialPresc o base generator) × (r .generator ≡ afterDraws variables generator) ⌝ }
+    counts: &[u64; 57],
+    numbers: &[f64],
+    surfaces: &mut [f64; 64],
+) -> u64
+    requires { ⌜ variableCountFrom (now counts) ≤ 8 ⌝ ∗ ⌜ 195 ≤ length (now numbers) ⌝ }
+    ensures { λ r.
+        ⌜ ForOptimizer (variablesFrom (now (counts .entry)) (now (numbers .entry)))
+        (λ o. standing (now (surfaces .exit)) ≡ trialPresc o (standing (now (numbers .entry))) generator)
+        × (r ≡ afterDraws (variablesFrom (now (counts .entry)) (now (numbers .entry))) generator) ⌝ }
 {
-    let drawn = draws::random_params(variables, generator);
+    let drawn = draws::random_params(generator, counts, numbers);
     let params = drawn.params;
-    let surfaces = variables::apply_values(variables, params, base);
-    TrialStart {
-        surfaces: surfaces,
-        generator: drawn.generator,
-    }
-}
-
-fn in_trial(
-    row: Row,
-    damped: DampedState,
-    best: OptimizationResult,
-    generator: u64,
-    trial: u64,
-) -> Row
-    ensures { λ r. ⌜ r ≡ inState row (inTrial damped best generator trial) ⌝ }
-{
-    states::with_state(row, damped, best, generator, trial, 0, 0, 0.0, 0.0)
+    let s = held::stand(numbers);
+    let trial = held::apply_values(counts, numbers, params, s);
+    dls::lay(trial, surfaces);
+    drawn.generator
 }
 
 // At the end the best result alone is left.
-fn ended(row: Row, best: OptimizationResult) -> Row
-    ensures { λ r. ⌜ r ≡ inState row (ended best) ⌝ }
+fn ended(
+    best: BestHead,
+    surfaces: &mut [f64; 64],
+    jacobian: &mut [f64; 96],
+    values: &mut [f64; 12],
+    residuals: &mut [f64; 12],
+    plus_residuals: &mut [f64; 12],
+    params: &mut [f64; 8],
+    candidate: &mut [f64; 8],
+) -> RowHead
+    ensures { λ r.
+        ⌜ ((bs bv br : List Float) →
+        let kept = resultFrom best bs bv br in
+        let after = stateFrom r (now (surfaces .exit)) (now (jacobian .exit)) (now (values .exit)) (now (residuals .exit)) (now («plus_residuals» .exit))
+        (now (params .exit)) (now (candidate .exit)) bs bv br in
+        after ≡ ended kept) ⌝ }
 {
-    let surfaces = zeros::zero_surfaces();
-    let params = [0.0; 8];
-    let damped = zeros::walking(4, surfaces, params, params);
-    in_trial(row, damped, best, 0, 0)
+    *surfaces = [0.0; 64];
+    *params = [0.0; 8];
+    *candidate = [0.0; 8];
+    let damped = dls::holding(4, jacobian, values, residuals, plus_residuals);
+    RowHead {
+        damped: damped,
+        best: best,
+        generator: 0,
+        trial: 0,
+        cycle: 0,
+        step: 0,
+        temperature: 0.0,
+        current_merit: 0.0,
+    }
 }
 
 // From the end of a trial, with the best of all so far: the next trial, or the end.
-pub fn resume_trials(
-    variables: VariableSet,
-    base: [OpticalSurface; 16],
-    num_trials: u64,
-    row: Row,
-    best: OptimizationResult,
-) -> Row
-    requires { ⌜ variables .«variable_count» ≤ 8 ⌝ }
-    ensures { λ r. ⌜ ForOptimizer variables (λ o. r ≡ inState row (resumeTrials o base «num_trials» (ltb (row .trial) «num_trials») best (row .generator) (row .trial))) ⌝ }
+fn resume_trials(
+    best: BestHead,
+    generator: u64,
+    trial: u64,
+    counts: &[u64; 57],
+    numbers: &[f64],
+    surfaces: &mut [f64; 64],
+    jacobian: &mut [f64; 96],
+    values: &mut [f64; 12],
+    residuals: &mut [f64; 12],
+    plus_residuals: &mut [f64; 12],
+    params: &mut [f64; 8],
+    candidate: &mut [f64; 8],
+) -> RowHead
+    requires { ⌜ variableCountFrom (now counts) ≤ 8 ⌝ ∗ ⌜ 195 ≤ length (now numbers) ⌝ }
+    ensures { λ r.
+        ⌜ ForOptimizer (variablesFrom (now (counts .entry)) (now (numbers .entry))) (λ o. (bs bv br : List Float) →
+        let kept = resultFrom best bs bv br in
+        let after = stateFrom r (now (surfaces .exit)) (now (jacobian .exit)) (now (values .exit)) (now (residuals .exit)) (now («plus_residuals» .exit))
+        (now (params .exit)) (now (candidate .exit)) bs bv br in
+        after ≡ resumeTrials o (standing (now (numbers .entry))) (numTrialsFrom (now (counts .entry))) (ltb trial (numTrialsFrom (now (counts .entry)))) kept
+        generator trial) ⌝ }
 {
-    if row.trial < num_trials {
-        let start = trial_surfaces(variables, base, row.generator);
-        let surfaces = start.surfaces;
-        let damped = dls::at_first(surfaces);
-        return in_trial(row, damped, best, start.generator, row.trial + 1);
+    if trial < held::num_trials(counts) {
+        let next = trial_surfaces(generator, counts, numbers, surfaces);
+        let damped = dls::at_first(
+            jacobian,
+            values,
+            residuals,
+            plus_residuals,
+            params,
+            candidate,
+        );
+        return RowHead {
+            damped: damped,
+            best: best,
+            generator: next,
+            trial: trial + 1,
+            cycle: 0,
+            step: 0,
+            temperature: 0.0,
+            current_merit: 0.0,
+        };
     }
-    ended(row, best)
+    ended(
+        best,
+        surfaces,
+        jacobian,
+        values,
+        residuals,
+        plus_residuals,
+        params,
+        candidate,
+    )
 }
 
-// After a merit has taken the trial's damped part to `damped`: it goes on there, or the trial is over.
-pub fn resume_damped(
-    variables: VariableSet,
-    base: [OpticalSurface; 16],
-    num_trials: u64,
-    row: Row,
-    damped: DampedState,
-) -> Row
-    requires { ⌜ variables .«variable_count» ≤ 8 ⌝ }
-    ensures { λ r. ⌜ ForOptimizer variables (λ o. r ≡ inState row (resumeDamped o base «num_trials» (Damped.isFinished damped) (stateOf row) damped)) ⌝ }
+// After a merit has taken the trial's damped part to where it stands: it goes on there, or the trial is over.
+fn resume_damped(
+    h: RowHead,
+    counts: &[u64; 57],
+    numbers: &[f64],
+    surfaces: &mut [f64; 64],
+    jacobian: &mut [f64; 96],
+    values: &mut [f64; 12],
+    residuals: &mut [f64; 12],
+    plus_residuals: &mut [f64; 12],
+    params: &mut [f64; 8],
+    candidate: &mut [f64; 8],
+    best_surfaces: &mut [f64; 64],
+    best_values: &mut [f64; 12],
+    best_residuals: &mut [f64; 12],
+) -> RowHead
+    requires { ⌜ variableCountFrom (now counts) ≤ 8 ⌝ ∗ ⌜ 195 ≤ length (now numbers) ⌝ }
+    ensures { λ r.
+        ⌜ ForOptimizer (variablesFrom (now (counts .entry)) (now (numbers .entry))) (λ o. (old : DampedState) →
+        let before = stateFrom h (now (surfaces .entry)) (now (jacobian .entry)) (now (values .entry)) (now (residuals .entry))
+        (now («plus_residuals» .entry)) (now (params .entry)) (now (candidate .entry)) (now («best_surfaces» .entry)) (now («best_values» .entry))
+        (now («best_residuals» .entry)) in
+        let after = stateFrom r (now (surfaces .exit)) (now (jacobian .exit)) (now (values .exit)) (now (residuals .exit)) (now («plus_residuals» .exit))
+        (now (params .exit)) (now (candidate .exit)) (now («best_surfaces» .exit)) (now («best_values» .exit)) (now («best_residuals» .exit)) in
+        after ≡ resumeDamped o (standing (now (numbers .entry))) (numTrialsFrom (now (counts .entry))) (Damped.isFinished (before .damped))
+        (withDamped before old) (before .damped)) ⌝ }
 {
-    if states::damped_over(damped.phase) {
-        let result = dls::damped_result(damped);
-        let before = row.best;
-        let best = merged(row.trial, before, result);
-        return resume_trials(variables, base, num_trials, row, best);
+    if kinds::damped_over(h.damped.phase) {
+        let best = merged(
+            h,
+            surfaces,
+            values,
+            residuals,
+            best_surfaces,
+            best_values,
+            best_residuals,
+        );
+        return resume_trials(
+            best,
+            h.generator,
+            h.trial,
+            counts,
+            numbers,
+            surfaces,
+            jacobian,
+            values,
+            residuals,
+            plus_residuals,
+            params,
+            candidate,
+        );
     }
-    states::with_damped(row, damped)
+    h
+}
+
+// The state after the merit that came next.
+pub fn advance_trials(
+    h: RowHead,
+    counts: &[u64; 57],
+    numbers: &[f64],
+    found: &[f64; 12],
+    surfaces: &mut [f64; 64],
+    jacobian: &mut [f64; 96],
+    values: &mut [f64; 12],
+    residuals: &mut [f64; 12],
+    plus_residuals: &mut [f64; 12],
+    params: &mut [f64; 8],
+    candidate: &mut [f64; 8],
+    best_surfaces: &mut [f64; 64],
+    best_values: &mut [f64; 12],
+    best_residuals: &mut [f64; 12],
+    scratch: &mut [f64],
+) -> RowHead
+    requires { ⌜ scratchLength ≤ length (now scratch) ⌝
+        ∗ ⌜ variableCountFrom (now counts) ≤ mostVariables ⌝
+        ∗ ⌜ 195 ≤ length (now numbers) ⌝
+        ∗ ⌜ operandCountFrom (now counts) ≤ mostOperands ⌝
+        ∗ ⌜ h .damped .column < numActive (variablesFrom (now counts) (now numbers)) ⌝ }
+    ensures { λ r.
+        ⌜ ForFound (now (counts .entry)) (now (numbers .entry)) (now (found .entry)) (λ e.
+        let o = optimizer (dlsConfig (settingsFrom (now (counts .entry)) (now (numbers .entry)))) (variablesFrom (now (counts .entry)) (now (numbers .entry)))
+        (operandCountFrom (now (counts .entry))) in
+        let before = stateFrom h (now (surfaces .entry)) (now (jacobian .entry)) (now (values .entry)) (now (residuals .entry))
+        (now («plus_residuals» .entry)) (now (params .entry)) (now (candidate .entry)) (now («best_surfaces» .entry)) (now («best_values» .entry))
+        (now («best_residuals» .entry)) in
+        let after = stateFrom r (now (surfaces .exit)) (now (jacobian .exit)) (now (values .exit)) (now (residuals .exit)) (now («plus_residuals» .exit))
+        (now (params .exit)) (now (candidate .exit)) (now («best_surfaces» .exit)) (now («best_values» .exit)) (now («best_residuals» .exit)) in
+        after ≡ advance o (standing (now (numbers .entry))) (numTrialsFrom (now (counts .entry))) before e) ⌝
+        ∗ ⌜ ScratchKept (now (scratch .entry)) (now (scratch .exit)) ⌝ }
+{
+    let before = h.damped;
+    let local = held::dls_config(counts, numbers);
+    let damped = dls::advance_damped(
+        before,
+        local,
+        counts,
+        numbers,
+        found,
+        surfaces,
+        jacobian,
+        values,
+        residuals,
+        plus_residuals,
+        params,
+        candidate,
+        scratch,
+    );
+    let mut next = h;
+    next.damped = damped;
+    resume_damped(
+        next,
+        counts,
+        numbers,
+        surfaces,
+        jacobian,
+        values,
+        residuals,
+        plus_residuals,
+        params,
+        candidate,
+        best_surfaces,
+        best_values,
+        best_residuals,
+    )
 }

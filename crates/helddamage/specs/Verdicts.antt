@@ -20,7 +20,7 @@ use Rattle.jobs.specs.declared.types.Method.the-variants.{Damped, MultiStart, A
 use Rattle.jobs.specs.Records.{dlsConfig, multiStartConfig, annealingConfig, method, knownVariables, knownOperands}
 use Rattle.runs.specs.Rows.{isFinished, finishedBy, bound}
 use Rattle.runs.specs.Damage.{isKind, stateSound, jobSound, turnsSound, damaged}
-use Rattle.global.specs.Limits.{CountsWithin}
+use Rattle.kinds.specs.Limits.{CountsWithin}
 use Rattle.held.specs.JobFrom.{surfaceCountFrom, slotCountFrom, operandCountFrom, settingsFrom, jobRecordFrom, heldJob, prescriptionFrom, variablesFrom, operandsFrom}
 use Rattle.held.specs.RowFrom.{kindFrom, turnsFrom, rowFrom}
 use Rattle.helddamage.specs.Others.{Others, heldWith, stateWith}
@@ -109,21 +109,7 @@ above-zero (suc n) = lt-ltb 0 (suc n) (zero-lt-suc n) ∙ ap not (sym (ne-eqb (s
     no : suc n ≡ 0 → ⊥
     no e = omega arith
 
--- ---- the method of each kind
-module _ (kind : ℕ) (s : SettingsRecord) where
-  pub is-damped : kind ≡ 1 → method kind s ≡ Damped (dlsConfig s)
-  unfolding method
-  is-damped e = rw e refl
-
-  pub is-multi-start : kind ≡ 2 → method kind s ≡ MultiStart (multiStartConfig s)
-  unfolding method
-  is-multi-start e = rw e refl
-
-  pub is-annealing : (kind ≡ 1 → ⊥) → (kind ≡ 2 → ⊥) → method kind s ≡ Annealing (annealingConfig s)
-  unfolding method
-  is-annealing a b = rw (ne-eqb kind 1 a, ne-eqb kind 2 b) refl
-
--- whether its counts are within turns on the counts alone
+-- ---- the method of a kind: whether its counts are within turns on the counts alone
 pub within-any : (counts : List ℕ) (numbers numbers′ : List Float) (kind : ℕ) → CountsWithin (method kind (settingsFrom counts numbers)) → CountsWithin (method kind (settingsFrom counts numbers′))
 unfolding method
 within-any counts numbers numbers′ kind h = go (eqb kind 1) (eqb kind 2) h

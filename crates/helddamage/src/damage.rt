@@ -58,10 +58,10 @@ fn counters_sound(words: &[u64; 13], counts: &[u64; 57], p: usize) -> bool
     if held::trial(words) > limits::trial_limit(kind, counts) {
         return false;
     }
-    if held::cycle(words) >= global::at_least_one(limits::cycle_limit(kind, counts)) {
+    if held::cycle(words) >= kinds::at_least_one(limits::cycle_limit(kind, counts)) {
         return false;
     }
-    held::step(words) < global::at_least_one(limits::step_limit(kind, counts))
+    held::step(words) < kinds::at_least_one(limits::step_limit(kind, counts))
 }
 
 // Phase, surfaces and counters; p variables are enabled.
@@ -96,7 +96,7 @@ pub fn is_damaged(
     ensures { λ r. ⌜ ((o : Others) → r ≡ damaged (rowFrom (heldWith (now (words .entry)) (now (counts .entry)) (now (numbers .entry)) (now (surfaces .entry)) (now («best_surfaces» .entry)) o))) ⌝ }
 {
     let kind = held::kind(words);
-    if !global::is_kind(kind) {
+    if !kinds::is_kind(kind) {
         return true;
     }
     if !checks::counts_taken(counts) {

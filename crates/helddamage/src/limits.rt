@@ -7,8 +7,8 @@ ghost use Rattle.jobs.specs.declared.types.SettingsRecord.{SettingsRecord};
 ghost use Rattle.jobs.specs.Records.{method};
 ghost use Rattle.runs.specs.Rows.{finishedBy, boundBy};
 ghost use Rattle.runs.specs.Damage.{lastPhase, usesCurrent, usesBest, iterationLimit, trialLimit, cycleLimit, stepLimit};
-ghost use Rattle.global.specs.Parts.{StateInPhase};
-ghost use Rattle.global.specs.Limits.{CountsWithin};
+ghost use Rattle.kinds.specs.Phases.{StateInPhase};
+ghost use Rattle.kinds.specs.Limits.{CountsWithin};
 ghost use Rattle.held.specs.JobFrom.{settingsFrom};
 
 pub fn last_phase(kind: u64) -> u64
@@ -25,9 +25,9 @@ pub fn is_over(kind: u64, phase: u64) -> bool
     ensures { λ r. ⌜ ((c : SettingsRecord) → StateInPhase phase (λ s. r ≡ finishedBy (method kind c) s)) ⌝ }
 {
     match kind {
-        1 => global::damped_over(phase),
-        2 => global::damped_over(phase),
-        _ => global::annealing_over(phase),
+        1 => kinds::damped_over(phase),
+        2 => kinds::damped_over(phase),
+        _ => kinds::annealing_over(phase),
     }
 }
 
@@ -37,7 +37,7 @@ pub fn uses_current(kind: u64, phase: u64) -> bool
 {
     match kind {
         1 => true,
-        2 => !global::damped_over(phase),
+        2 => !kinds::damped_over(phase),
         _ => true,
     }
 }
@@ -48,7 +48,7 @@ pub fn uses_best(kind: u64, phase: u64, trial: u64) -> bool
 {
     match kind {
         1 => false,
-        2 => 0 < trial || global::damped_over(phase),
+        2 => 0 < trial || kinds::damped_over(phase),
         _ => phase == 6,
     }
 }
@@ -100,11 +100,9 @@ pub fn bound(kind: u64, counts: &[u64; 57], p: u64) -> u64
     ensures { λ r. ⌜ ((numbers : List Float) → r ≡ boundBy (method kind (settingsFrom (now (counts .entry)) numbers)) p) ⌝ }
 {
     match kind {
-        1 => global::damped_bound(held::max_iterations(counts), p),
-        2 => {
-            global::multi_start_bound(held::num_trials(counts), held::max_iterations(counts), p)
-        }
-        _ => global::annealing_bound(
+        1 => kinds::damped_bound(held::max_iterations(counts), p),
+        2 => { kinds::multi_start_bound(held::num_trials(counts), held::max_iterations(counts), p) }
+        _ => kinds::annealing_bound(
             held::max_cooling_cycles(counts),
             held::steps_per_temperature(counts),
             p,

@@ -118,7 +118,7 @@ pub fn request_of(asked: RequestRecord) -> JobRequest
 pub fn is_request(asked: RequestRecord) -> bool
     ensures { λ r. ⌜ r ≡ isRequest asked ⌝ }
 {
-    if !global::is_kind(asked.kind) {
+    if !kinds::is_kind(asked.kind) {
         return false;
     }
     if asked.given > 2047 {

@@ -85,7 +85,7 @@ fn put_played(
     request: JobRequest,
 ) -> Waiting {
     let bench = play.bench;
-    let none = global::zero_result();
+    let none = rows::zero_result();
     let fetched = benchcalls::fetched(bench, place, none);
     if fetched.number > 0 {
         return job::put_refused(out, waiting, fetched.number, true);

@@ -1,3 +1,3 @@
 -- Laws that several functions' proofs cite.
-pub mod Numbers
+pub mod Refused
 pub mod Undamaged

@@ -12,7 +12,6 @@ use Rattle.variables.specs.CallerLaws.{active-le}
 use Rattle.jobs.specs.declared.types.Method.{Method}
 use Rattle.jobs.specs.declared.types.Method.the-variants.{Damped, MultiStart, Annealing}
 use Rattle.jobs.specs.Checks.{jobTaken, recordTaken}
-use Rattle.jobs.specs.Passed.{passed}
 use Rattle.jobs.specs.Records.{knownKinds}
 use Rattle.runs.specs.declared.types.Row.{Row}
 use Rattle.runs.specs.State.{stateOf}
@@ -20,9 +19,8 @@ use Rattle.runs.specs.Rows.{jobOfRow, isFinished, boundBy, bound}
 use Rattle.runs.specs.Damage.{isKind, iterationLimit, jobSound, turnsSound, damaged}
 use Rattle.runs.specs.DamageLaws.{parts, turns-part}
 use Rattle.runs.specs.StateSound.{Sound, sound-from}
-use Rattle.global.specs.Limits.{CountsWithin, Within, taken-within}
-use Rattle.global.proofs.Bounds.{iteration-le}
-use Rattle.rows.specs.Steps.{TurnCounts}
+use Rattle.kinds.specs.Limits.{CountsWithin, Within, taken-within}
+use Rattle.kinds.proofs.Iteration.{iteration-le}
 
 -- ---- limits of the counts that are taken
 limit-le : (m : Method) → CountsWithin m → iterationLimit m ≤ 1000
@@ -55,8 +53,8 @@ module _ (r : Row) (ok : damaged r ≡ false) where
   sound : Sound (jobOfRow r .method) (jobOfRow r) (stateOf r)
   sound = sound-from (jobOfRow r .method) (jobOfRow r) (stateOf r) (parts r ok .1)
 
-  pub turn-counts : TurnCounts (jobOfRow r) r
-  turn-counts = let n = passed (jobOfRow r) job-taken .counted in record { variables = n .variables; operands = n .operands; column = sound .columnBelow }
+  pub column-below : r .damped .column < numActive (jobOfRow r .variables)
+  column-below = sound .columnBelow
 
   pub result-within : CountsWithin (jobOfRow r .method) × (r .damped .iteration ≤ 1000)
   result-within = (within .counts, omega (arith, sound .iterationUpTo, limit-le (jobOfRow r .method) (within .counts)))

@@ -1,78 +1,98 @@
-// The surfaces whose merit comes next, by kind and phase, and their evaluation.
+// What a turn of a row would work out.
 ghost use mathlib.Core.Path.{_≡_};
-ghost use Prim.Native.Nat.{_≤_, _<_};
+ghost use mathlib.Core.List.{List};
+ghost use Prim.Native.Nat.{ℕ, _≤_};
+ghost use lib.Ieee.{Float};
 ghost use lib.ListN.{length};
-ghost use Rattle.normal.specs.Layout.{scratchLength};
-ghost use Rattle.variables.specs.Active.{numActive};
-ghost use Rattle.jobs.specs.Checks.{jobTaken};
-ghost use Rattle.runs.specs.State.{stateOf};
-ghost use Rattle.runs.specs.AnnealingRun.{Annealer};
-ghost use Rattle.runs.specs.AnnealingRow as Annealing;
-ghost use Rattle.runs.specs.Rows.{pendingBy};
+ghost use Rattle.merit.specs.Steps.{SlotsKnown};
 ghost use Rattle.runs.specs.JobMerit.{evaluateOf};
-ghost use Rattle.dls.specs.DampedSteps.{ScratchKept};
-ghost use Rattle.global.specs.Parts.{ForAnnealer};
-ghost use Rattle.rows.specs.Steps.{TurnCounts};
-ghost use mathlib.Core.Bool.{true};
-use jobs::Job;
-use jobs::Method;
-use merit::MeritEvaluation;
+ghost use Rattle.held.specs.JobFrom.{surfaceCountFrom, operandCountFrom, operandsFrom, heldJob};
+ghost use Rattle.held.specs.RowFrom.{rowFrom};
+ghost use Rattle.rows.specs.Calls.{pendingOf};
+ghost use Rattle.rows.specs.Parts.{heldOf};
+use crate::numbers::turn_number;
+use crate::types::Pending;
+use crate::zeros::zero_surfaces;
+use held::HeldRow;
 use optics::OpticalSurface;
-use runs::Row;
-use variables::VariableSet;
 
-// Annealing: the base, a step's trial, or the polish's.
-fn pending_annealing(variables: VariableSet, row: Row) -> [OpticalSurface; 16]
-    requires { ⌜ (variables .«variable_count» ≤ 8) × (row .damped .column < numActive variables) ⌝ }
-    ensures { λ r. ⌜ ForAnnealer variables (λ a. r ≡ Annealing.pending a (stateOf row)) ⌝ }
+// The merit of surfaces under a held job, worked out where they are laid flat.
+fn merit_at(lens: [OpticalSurface; 16], counts: &[u64; 57], numbers: &[f64]) -> f64
+    requires { ⌜ surfaceCountFrom (now counts) ≤ 16 ⌝
+        ∗ ⌜ operandCountFrom (now counts) ≤ 12 ⌝
+        ∗ ⌜ 195 ≤ length (now numbers) ⌝
+        ∗ ⌜ SlotsKnown (operandsFrom (now counts) (now numbers)) ⌝ }
+    ensures { λ r. ⌜ ((kind : ℕ) → r ≡ evaluateOf (heldJob (now (counts .entry)) (now (numbers .entry)) kind) lens .«total_merit») ⌝ }
 {
-    let damped = row.damped;
-    if damped.phase == 5 {
-        let surfaces = damped.surfaces;
-        return surfaces;
-    }
-    if damped.phase == 6 {
-        return global::pending_walk(variables, row);
-    }
-    dls::pending_damped(jobs::polish_settings(), variables, damped)
+    let mut flat = [0.0; 64];
+    optics::lay_flat(lens, held::surface_count(counts), &mut flat);
+    let found = heldmerit::values_of(&flat, counts, numbers);
+    heldmerit::merit_of(&found, counts, numbers)
 }
 
-pub fn pending_surfaces(job: Job, row: Row) -> [OpticalSurface; 16]
-    requires { ⌜ TurnCounts job row ⌝ }
-    ensures { λ r. ⌜ r ≡ pendingBy (job .method) job (stateOf row) ⌝ }
+// The surfaces whose merit comes next and that merit, with scratch enough.
+fn pending_parts(
+    words: &[u64; 13],
+    scalars: &[f64; 7],
+    counts: &[u64; 57],
+    numbers: &[f64; 195],
+    surfaces: &[f64; 64],
+    params: &[f64; 8],
+    candidate: &[f64; 8],
+    best_surfaces: &[f64; 64],
+) -> Pending
+    ensures { λ r.
+        ⌜ ((jacobian values residuals plus bv br : List Float) →
+        let row = rowFrom (heldOf (now (words .entry)) (now (scalars .entry)) (now (counts .entry)) (now (numbers .entry)) (now (surfaces .entry))
+        jacobian values residuals plus (now (params .entry)) (now (candidate .entry)) (now («best_surfaces» .entry)) bv br) in
+        r ≡ pendingOf row) ⌝ }
 {
-    let method = job.method;
-    let variables = job.variables;
-    let damped = row.damped;
-    match method {
-        Method::Damped(config) => dls::pending_damped(config, variables, damped),
-        Method::MultiStart(config) => {
-            let local = config.local_dls_config;
-            dls::pending_damped(local, variables, damped)
-        }
-        Method::Annealing(_) => pending_annealing(variables, row),
+    let number = turn_number(
+        normal::SCRATCH,
+        words,
+        counts,
+        numbers,
+        surfaces,
+        best_surfaces,
+    );
+    if number > 0 {
+        let zero = zero_surfaces();
+        return Pending {
+            surfaces: zero,
+            merit: 0.0,
+            number: number,
+        };
+    }
+    let h = held::head_of(words, scalars);
+    let kind = held::kind(words);
+    let pending = turns::pending_surfaces(h, kind, counts, numbers, surfaces, params, candidate);
+    Pending {
+        surfaces: pending,
+        merit: merit_at(pending, counts, numbers),
+        number: 0,
     }
 }
 
-// Their evaluation, worked out from the start of scratch, where they are laid flat.
-pub fn evaluation_of(
-    job: Job,
-    surfaces: [OpticalSurface; 16],
-    scratch: &mut [f64],
-) -> MeritEvaluation
-    requires { ⌜ (jobTaken job ≡ true) × (scratchLength ≤ length (now scratch)) ⌝ }
-    ensures { λ r. ⌜ r ≡ evaluateOf job surfaces ⌝ ∗ ⌜ ScratchKept (now (scratch .entry)) (now (scratch .exit)) ⌝ }
+// The same, of a row by value.
+pub fn pending_of(held: HeldRow) -> Pending
+    ensures { λ r. ⌜ r ≡ pendingOf (rowFrom held) ⌝ }
 {
-    let prescription = job.prescription;
-    let function = job.merit_function;
-    let indices = prescription.indices;
-    let count = prescription.surface_count;
-    optics::lay_flat(surfaces, count, scratch);
-    merit::evaluate_flat(
-        scratch,
-        &indices,
-        count,
-        prescription.entrance_pupil_diameter_mm,
-        function,
+    let words = held.words;
+    let scalars = held.scalars;
+    let counts = held.counts;
+    let numbers = held.numbers;
+    let surfaces = held.surfaces;
+    let params = held.params;
+    let candidate = held.candidate;
+    let best_surfaces = held.best_surfaces;
+    pending_parts(
+        &words,
+        &scalars,
+        &counts,
+        &numbers,
+        &surfaces,
+        &params,
+        &candidate,
+        &best_surfaces,
     )
 }

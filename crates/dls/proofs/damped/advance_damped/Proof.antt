@@ -1,10 +1,16 @@
 -- `dls::damped::advance_damped` meets its contract: phase by phase; no step changes scratch past a turn's part. Assumes nothing.
-use native.Mathlib.Omega.{arith}
-use borrow.Author.Needs.{needs}
-use Rattle.runs.specs.DampedRow.{phaseOf, advanceAt}
+use mathlib.Core.Path.{ap, _∙_}
+use mathlib.Core.List.{List}
+use lib.Ieee.{Float}
+use Rattle.runs.specs.JobMerit.{evaluateOf}
 use Rattle.dls.specs.DampedSteps.{optimizer}
+use Rattle.held.specs.JobFrom.{operandCountFrom, variablesFrom, heldJob}
+use Rattle.held.specs.RowFrom.{dampedFrom}
+use native.Mathlib.Omega.{arith}
+use Rattle.runs.specs.DampedRow.{phaseOf, advanceAt, currentOf, atMinus}
 use Rattle.dls.proofs.Advances.{advance-at, advance-over}
 use Rattle.dls.proofs.Kept.{kept-same}
+use borrow.Author.Needs.{needs}
 use Rattle.dls.proofs.damped.advance_damped.Statement.{statement}
 use Rattle.dls.proofs.damped.advance_damped.Tie as tie
 
@@ -14,8 +20,11 @@ advance-first-requires c κs = search needs
 returns : tie.Need-returns
 unfolding phaseOf
 returns c =
-    let x = c .before .before .before .args in
-    (advance-at (optimizer (x .config) (x .variables) (x .operand-count)) (x .state) (c .before .if1 .taken) (x .evaluation) (c .advance-first .ensures (x .operand-count)), kept-same (x .scratch .now))
+    let x = c .before .before .before .before .before .before .before .before .before .before .before .args in
+    (λ k lens w. advance-at (optimizer (x .config) (variablesFrom (x .counts .now) (x .numbers .now)) (operandCountFrom (x .counts .now))) (dampedFrom (x .h) (x .surfaces .now) (x .jacobian .now) (x .values .now) (x .residuals .now) (x .plus-residuals .now) (x .params .now) (x .candidate .now)) (c .before .before .before .before .before .before .before .before .if1 .taken) (evaluateOf (heldJob (x .counts .now) (x .numbers .now) k) lens) (c .advance-first .ensures k lens w (operandCountFrom (x .counts .now))), kept-same (x .scratch .now))
+
+residuals-of-requires : tie.Need-residuals-of-requires
+residuals-of-requires c κs = search needs
 
 at-minus-requires : tie.Need-at-minus-requires
 at-minus-requires c κs = search needs
@@ -23,8 +32,8 @@ at-minus-requires c κs = search needs
 returns-2 : tie.Need-returns-2
 unfolding phaseOf advanceAt
 returns-2 c =
-    let x = c .before .before .before .before .before .args in
-    (advance-at (optimizer (x .config) (x .variables) (x .operand-count)) (x .state) (c .before .before .if2 .taken) (x .evaluation) (c .at-minus .ensures), kept-same (x .scratch .now))
+    let x = c .before .before .before .before .before .before .before .before .args in
+    (λ k lens w. advance-at (optimizer (x .config) (variablesFrom (x .counts .now) (x .numbers .now)) (operandCountFrom (x .counts .now))) (dampedFrom (x .h) (x .surfaces .now) (x .jacobian .now) (x .values .now) (x .residuals .now) (x .plus-residuals .now) (x .params .now) (x .candidate .now)) (c .before .before .before .before .if2 .taken) (evaluateOf (heldJob (x .counts .now) (x .numbers .now) k) lens) (c .at-minus .ensures (x .surfaces .now) (x .jacobian .now) (x .values .now) (x .residuals .now) (x .params .now) ∙ ap (λ (l : List Float). atMinus (currentOf (dampedFrom (x .h) (x .surfaces .now) (x .jacobian .now) (x .values .now) (x .residuals .now) (x .plus-residuals .now) (x .params .now) (x .candidate .now))) (x .jacobian .now) (x .h .column) l) (c .before .before .before .residuals-of .ensures k lens w)), kept-same (x .scratch .now))
 
 advance-minus-requires : tie.Need-advance-minus-requires
 advance-minus-requires c κs = search needs
@@ -35,8 +44,9 @@ same-length c = search needs
 returns-3 : tie.Need-returns-3
 unfolding phaseOf
 returns-3 c =
-    let x = c .before .before .before .before .before .before .before .before .args in
-    (advance-at (optimizer (x .config) (x .variables) (x .operand-count)) (x .state) (c .before .before .before .before .if3 .taken) (x .evaluation) (c .before .before .advance-minus .ensures .0), c .before .before .advance-minus .ensures .1)
+    let x = c .before .before .before .before .before .before .before .before .before .before .before .before .before .before .args in
+    let a = c .before .before .advance-minus .ensures in
+    (λ k lens w. advance-at (optimizer (x .config) (variablesFrom (x .counts .now) (x .numbers .now)) (operandCountFrom (x .counts .now))) (dampedFrom (x .h) (x .surfaces .now) (x .jacobian .now) (x .values .now) (x .residuals .now) (x .plus-residuals .now) (x .params .now) (x .candidate .now)) (c .before .before .before .before .before .before .before .before .before .if3 .taken) (evaluateOf (heldJob (x .counts .now) (x .numbers .now) k) lens) (a .0 k lens w (x .surfaces .now) (x .values .now)), a .1)
 
 advance-candidate-requires : tie.Need-advance-candidate-requires
 advance-candidate-requires c κs = search needs
@@ -47,13 +57,14 @@ same-length-2 c = search needs
 returns-4 : tie.Need-returns-4
 unfolding phaseOf
 returns-4 c =
-    let x = c .before .before .before .before .before .before .before .before .before .args in
-    (advance-at (optimizer (x .config) (x .variables) (x .operand-count)) (x .state) (c .before .before .before .before .if4 .taken) (x .evaluation) (c .before .before .advance-candidate .ensures .0), c .before .before .advance-candidate .ensures .1)
+    let x = c .before .before .before .before .before .before .before .before .before .before .before .before .before .before .before .before .before .args in
+    let a = c .before .before .advance-candidate .ensures in
+    (λ k lens w. advance-at (optimizer (x .config) (variablesFrom (x .counts .now) (x .numbers .now)) (operandCountFrom (x .counts .now))) (dampedFrom (x .h) (x .surfaces .now) (x .jacobian .now) (x .values .now) (x .residuals .now) (x .plus-residuals .now) (x .params .now) (x .candidate .now)) (c .before .before .before .before .before .before .before .before .before .before .before .if4 .taken) (evaluateOf (heldJob (x .counts .now) (x .numbers .now) k) lens) (a .0 k lens w), a .1)
 
 returns-5 : tie.Need-returns-5
 returns-5 c =
-    let x = c .before .before .before .before .before .args in
-    (advance-over (optimizer (x .config) (x .variables) (x .operand-count)) (x .state) (x .evaluation) (omega arith), kept-same (x .scratch .now))
+    let x = c .before .before .before .before .before .before .args in
+    (λ k lens w. advance-over (optimizer (x .config) (variablesFrom (x .counts .now) (x .numbers .now)) (operandCountFrom (x .counts .now))) (dampedFrom (x .h) (x .surfaces .now) (x .jacobian .now) (x .values .now) (x .residuals .now) (x .plus-residuals .now) (x .params .now) (x .candidate .now)) (evaluateOf (heldJob (x .counts .now) (x .numbers .now) k) lens) (omega arith), kept-same (x .scratch .now))
 
 pub advance-damped-spec : {M : Type 1} → statement M
 advance-damped-spec =
@@ -61,6 +72,7 @@ advance-damped-spec =
     (tie.spec
     advance-first-requires
     returns
+    residuals-of-requires
     at-minus-requires
     returns-2
     advance-minus-requires

@@ -18,7 +18,7 @@ use Rattle.jobs.specs.Records.{method, knownKinds}
 use Rattle.runs.specs.Rows.{finishedBy, boundBy}
 use Rattle.runs.specs.Rows as Rows
 use Rattle.runs.specs.Damage.{isKind}
-use Rattle.global.specs.Limits.{CountsWithin, taken-within}
+use Rattle.kinds.specs.Limits.{CountsWithin, taken-within}
 use Rattle.held.specs.JobFrom.{variableCountFrom, settingsFrom, jobRecordFrom, heldJob, variablesFrom}
 use Rattle.held.specs.RowFrom.{kindFrom, turnsFrom}
 use Rattle.helddamage.specs.Others.{stateWith}

@@ -1,13 +1,13 @@
 -- `helddamage::limits::bound` meets its contract: an arm for each kind. Assumes nothing.
 use mathlib.Core.Path.{sym, ap, _∙_}
-use Rattle.helddamage.specs.Verdicts.{is-damped, is-multi-start, is-annealing}
+use Rattle.kinds.specs.Methods.{is-damped, is-multi-start, is-annealing}
 use Rattle.jobs.specs.declared.types.Method.{Method}
 use mathlib.Core.Path.{_≡_, subst}
 use mathlib.Core.List.{[]}
 use Prim.Native.Nat.{ℕ, _+_, _*_, _≤_}
 use native.Mathlib.Omega.{arith}
 use Rattle.runs.specs.Rows.{dampedBound, boundBy}
-use Rattle.global.specs.Limits.{CountsWithin}
+use Rattle.kinds.specs.Limits.{CountsWithin}
 use Rattle.held.specs.JobFrom.{settingsFrom}
 use borrow.Author.Needs.{needs}
 use Rattle.helddamage.proofs.limits.bound.Statement.{statement}

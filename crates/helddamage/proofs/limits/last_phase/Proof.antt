@@ -1,6 +1,6 @@
 -- `helddamage::limits::last_phase` meets its contract: an arm for each kind. Assumes nothing.
 use mathlib.Core.Path.{sym, ap, _∙_}
-use Rattle.helddamage.specs.Verdicts.{is-damped, is-multi-start, is-annealing}
+use Rattle.kinds.specs.Methods.{is-damped, is-multi-start, is-annealing}
 use Rattle.runs.specs.Damage.{lastPhase}
 use Rattle.helddamage.proofs.limits.last_phase.Statement.{statement}
 use Rattle.helddamage.proofs.limits.last_phase.Tie as tie

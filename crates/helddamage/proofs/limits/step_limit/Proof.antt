@@ -1,6 +1,6 @@
 -- `helddamage::limits::step_limit` meets its contract: an arm for each kind. Assumes nothing.
 use mathlib.Core.Path.{sym, ap, _∙_}
-use Rattle.helddamage.specs.Verdicts.{is-damped, is-multi-start, is-annealing}
+use Rattle.kinds.specs.Methods.{is-damped, is-multi-start, is-annealing}
 use Rattle.runs.specs.Damage.{stepLimit}
 use Rattle.held.specs.JobFrom.{settingsFrom}
 use borrow.Author.Needs.{needs}

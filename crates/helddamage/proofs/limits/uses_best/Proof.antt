@@ -1,6 +1,6 @@
 -- `helddamage::limits::uses_best` meets its contract: an arm for each kind. Assumes nothing.
 use mathlib.Core.Path.{sym, ap, _∙_}
-use Rattle.helddamage.specs.Verdicts.{is-damped, is-multi-start, is-annealing}
+use Rattle.kinds.specs.Methods.{is-damped, is-multi-start, is-annealing}
 use Rattle.jobs.specs.declared.types.Method.{Method}
 use mathlib.Core.Path.{_≡_}
 use mathlib.Core.Bool.{Bool, true, false, _||_}

@@ -12,7 +12,7 @@ use Rattle.jobs.specs.Checks.{countsWrong, jobRefusals}
 use Rattle.jobs.specs.Filled.{filled}
 use Rattle.jobs.specs.RefusalLaws.{not-refused, refused-1}
 use Rattle.bench.specs.Refusals.{noPlace}
-use Rattle.rows.proofs.Numbers.{refused-first, refused-last}
+use Rattle.rows.proofs.Refused.{refused-first, refused-last}
 use borrow.Author.Needs.{needs}
 use Rattle.rows.proofs.calls.admit_number.Statement.{statement}
 use Rattle.rows.proofs.calls.admit_number.Tie as tie

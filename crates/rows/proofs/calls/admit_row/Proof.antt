@@ -13,7 +13,7 @@ use Rattle.held.specs.RowFrom.{rowFrom}
 use Rattle.held.specs.Written.{heldFrom}
 use Rattle.bench.specs.Refusals.{admitRefusals}
 use Rattle.rows.specs.Calls.{admitRowNumber, admitRowOf}
-use Rattle.rows.proofs.Numbers.{kept-by, made-by, zero-by}
+use Rattle.rows.proofs.Refused.{kept-by, made-by, zero-by}
 use borrow.Author.Needs.{needs}
 use Rattle.rows.proofs.calls.admit_row.Statement.{statement}
 use Rattle.rows.proofs.calls.admit_row.Tie as tie

@@ -1,2 +1,0 @@
-pub mod Turned
-pub mod WalkFrom

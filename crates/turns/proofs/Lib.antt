@@ -1,0 +1,2 @@
+-- A law that belongs to no one function.
+pub mod Laid
