@@ -1,10 +1,9 @@
 // The job of a held row, entry by entry.
 ghost use mathlib.Core.Path.{_≡_};
 ghost use mathlib.Core.List.{List};
-ghost use Prim.Native.Nat.{_+_, _*_, _≤_, _<_};
+ghost use Prim.Native.Nat.{_≤_, _<_};
 ghost use lib.Ieee.{Float};
 ghost use lib.ListN.{length};
-ghost use Rattle.optics.specs.Types.{flatSurface};
 ghost use Rattle.variables.specs.Active.{variableAt};
 ghost use Rattle.merit.specs.OperandTable.{operandAt};
 ghost use Rattle.jobs.specs.Entries.{variableKnown, operandKnown};
@@ -14,7 +13,6 @@ use crate::places;
 use jobs::DlsConfig;
 use jobs::SimulatedAnnealingConfig;
 use merit::MeritOperand;
-use optics::OpticalSurface;
 use variables::VariableDef;
 
 pub fn surface_count(counts: &[u64; 57]) -> usize
@@ -54,19 +52,6 @@ pub fn indices(numbers: &[f64]) -> &[f64]
     ensures { λ r. ⌜ now r ≡ indicesFrom (now (numbers .entry)) ⌝ }
 {
     &numbers[places::INDICES..places::PUPIL]
-}
-
-// Surface i of surfaces laid flat.
-pub fn surface_at(flat: &[f64], i: usize) -> OpticalSurface
-    requires { ⌜ 4 * i + 4 ≤ length (now flat) ⌝ }
-    ensures { λ r. ⌜ r ≡ flatSurface (now (flat .entry)) i ⌝ }
-{
-    OpticalSurface {
-        radius_mm: flat[4 * i],
-        conic_constant: flat[4 * i + 1],
-        thickness_mm: flat[4 * i + 2],
-        semi_diameter_mm: flat[4 * i + 3],
-    }
 }
 
 pub fn variable_at(counts: &[u64; 57], numbers: &[f64], i: usize) -> VariableDef

@@ -5,7 +5,6 @@ ghost use Prim.Native.Nat.{_*_, _≤_};
 ghost use lib.ListN.{length, drop};
 ghost use Rattle.optics.specs.Flat.{laidFlat};
 ghost use Rattle.held.specs.JobFrom.{standing};
-use crate::entries::surface_at;
 use optics::OpticalSurface;
 
 // The surfaces that stand in flat numbers.
@@ -17,7 +16,7 @@ pub fn stand(flat: &[f64]) -> [OpticalSurface; 16]
     let mut surfaces = [none; 16];
     let mut i: usize = 0;
     while i < 16 {
-        let s = surface_at(flat, i);
+        let s = optics::surface_at(flat, i);
         surfaces[i] = s;
         i += 1;
     }

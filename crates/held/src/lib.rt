@@ -25,7 +25,6 @@ pub use entries::pupil;
 pub use entries::seed;
 pub use entries::slot_count;
 pub use entries::steps_per_temperature;
-pub use entries::surface_at;
 pub use entries::surface_count;
 pub use entries::variable_at;
 pub use entries::variable_count;

@@ -7,7 +7,6 @@ ghost use Rattle.optics.specs.Flat.{laidFlat};
 ghost use Rattle.variables.specs.Kinds.{valueOf};
 ghost use Rattle.variables.specs.Values.{extracted, clampedValues, applied};
 ghost use Rattle.held.specs.JobFrom.{standing, surfaceCountFrom, variableCountFrom, variablesFrom};
-use crate::entries::surface_at;
 use crate::entries::surface_count;
 use crate::entries::variable_at;
 use crate::entries::variable_count;
@@ -22,7 +21,7 @@ fn value_of(flat: &[f64], kind: VariableType) -> f64
 {
     let i = variables::surface_index(kind);
     if i < 16 {
-        let s = surface_at(flat, i);
+        let s = optics::surface_at(flat, i);
         return variables::quantity(s, kind);
     }
     variables::quantity(variables::no_surface(), kind)

@@ -32,7 +32,7 @@ pub fn surfaces_taken(flat: &[f64], count: usize) -> bool
 {
     let mut i: usize = 0;
     while i < count {
-        let s = held::surface_at(flat, i);
+        let s = optics::surface_at(flat, i);
         if !optics::surface_taken(s) {
             return false;
         }

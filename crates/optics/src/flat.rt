@@ -1,10 +1,24 @@
 // Surfaces laid flat: four numbers a surface, from the start of a lent slice.
 ghost use mathlib.Core.Path.{_≡_};
 ghost use mathlib.Core.List.{_++_};
-ghost use Prim.Native.Nat.{_*_, _≤_};
+ghost use Prim.Native.Nat.{_+_, _*_, _≤_};
 ghost use lib.ListN.{length, drop};
 ghost use Rattle.optics.specs.Flat.{laidFlat};
+ghost use Rattle.optics.specs.Types.{flatSurface};
 use crate::types::OpticalSurface;
+
+// Surface i.
+pub fn surface_at(flat: &[f64], i: usize) -> OpticalSurface
+    requires { ⌜ 4 * i + 4 ≤ length (now flat) ⌝ }
+    ensures { λ r. ⌜ r ≡ flatSurface (now (flat .entry)) i ⌝ }
+{
+    OpticalSurface {
+        radius_mm: flat[4 * i],
+        conic_constant: flat[4 * i + 1],
+        thickness_mm: flat[4 * i + 2],
+        semi_diameter_mm: flat[4 * i + 3],
+    }
+}
 
 // What stands past them stays.
 pub fn lay_flat(surfaces: [OpticalSurface; 16], count: usize, flat: &mut [f64])

@@ -15,6 +15,7 @@ pub use checks::lens_taken;
 pub use checks::surface_taken;
 pub use checks::surfaces_taken;
 pub use flat::lay_flat;
+pub use flat::surface_at;
 pub use kept::kept_prescription;
 pub use kept::lens_counts_taken;
 pub use properties::paraxial;
