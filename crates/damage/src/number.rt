@@ -111,7 +111,7 @@ fn least_damage(row: Row, e: usize) -> u64 {
         17 => 4,
         18 => row.job.surface_count,
         19 => 2,
-        20 => 7,
+        20 => 8,
         _ => row.job.slot_count,
     }
 }

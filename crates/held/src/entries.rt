@@ -158,5 +158,5 @@ pub fn operand_known(counts: &[u64; 57], n: usize) -> bool
     requires { ⌜ n < 12 ⌝ }
     ensures { λ r. ⌜ ((numbers : List Float) → r ≡ operandKnown (operandRecordFrom (now (counts .entry)) numbers n)) ⌝ }
 {
-    counts[places::OPERAND_COUNTS + 2 * n] < 7
+    counts[places::OPERAND_COUNTS + 2 * n] < jobs::OPERAND_KINDS
 }

@@ -13,10 +13,10 @@ use Rattle.joblines.specs.declared.operands.OperandRead.{OperandRead}
 use Rattle.joblines.specs.declared.operands.OperandsRead.{OperandsRead}
 use Rattle.joblines.specs.Entries.{past, filled, storedAt}
 
--- an operand: kind at limit target weight; there are kinds 0 to 6
+-- an operand: kind at limit target weight; there are kinds 0 to 7
 unfoldable pub operandFrom : List ℕ → Cursor → OperandRead
 operandFrom line c =
-    let kind = withinFrom 0 6 Kind line c in
+    let kind = withinFrom 0 7 Kind line c in
     let at = decimalFrom line (kind .next) in
     let limit = floatFrom line (at .next) in
     let target = floatFrom line (limit .next) in

@@ -17,7 +17,7 @@ struct OperandRead {
 fn read_operand(line: &[u8], c: Cursor) -> OperandRead
     ensures { λ r. ⌜ r ≡ operandFrom (now (line .entry)) c ⌝ }
 {
-    let number = cursor::within(line, c, 0, 6, Why::Kind);
+    let number = cursor::within(line, c, 0, 7, Why::Kind);
     let at = cursor::decimal(line, number.next);
     let limit = cursor::float(line, at.next);
     let target = cursor::float(line, limit.next);

@@ -10,7 +10,7 @@ use Rattle.variables.specs.declared.types.VariableType.the-variants.{Curvature,
 use Rattle.variables.specs.Kinds.{surfaceIndex}
 use Rattle.merit.specs.declared.types.MeritOperand.{MeritOperand}
 use Rattle.merit.specs.declared.types.OperandType.{OperandType}
-use Rattle.merit.specs.declared.types.OperandType.the-variants.{EffectiveFocalLength, WorkingFNumber, TotalTrack, BackFocalLength, ParaxialMagnification, MinCenterThickness, MaxCenterThickness}
+use Rattle.merit.specs.declared.types.OperandType.the-variants.{EffectiveFocalLength, WorkingFNumber, TotalTrack, BackFocalLength, ParaxialMagnification, MinCenterThickness, MaxCenterThickness, MinEdgeThickness}
 use Rattle.jobs.specs.declared.types.OperandRecord.{OperandRecord}
 use Rattle.jobs.specs.declared.types.VariableRecord.{VariableRecord}
 
@@ -46,7 +46,7 @@ variableOf r = record {
   enabled = eqb (r .enabled) 1;
 }
 
--- ---- operands: kinds 0 to 6, each with a slot or a surface, and a limit; 0 where it has none
+-- ---- operands: kinds 0 to 7, each with a slot or a surface, and a limit; 0 where it has none
 abbrev pub operandKind : OperandType → ℕ
 operandKind (EffectiveFocalLength w) = 0
 operandKind (WorkingFNumber w) = 1
@@ -55,6 +55,7 @@ operandKind (BackFocalLength w) = 3
 operandKind (ParaxialMagnification w) = 4
 operandKind (MinCenterThickness i limit) = 5
 operandKind (MaxCenterThickness i limit) = 6
+operandKind (MinEdgeThickness i limit) = 7
 
 abbrev pub slotOrSurface : OperandType → ℕ
 slotOrSurface (EffectiveFocalLength w) = w
@@ -64,6 +65,7 @@ slotOrSurface (BackFocalLength w) = w
 slotOrSurface (ParaxialMagnification w) = w
 slotOrSurface (MinCenterThickness i limit) = i
 slotOrSurface (MaxCenterThickness i limit) = i
+slotOrSurface (MinEdgeThickness i limit) = i
 
 abbrev pub limitOf : OperandType → Float
 limitOf (EffectiveFocalLength w) = zero64
@@ -73,13 +75,18 @@ limitOf (BackFocalLength w) = zero64
 limitOf (ParaxialMagnification w) = zero64
 limitOf (MinCenterThickness i limit) = limit
 limitOf (MaxCenterThickness i limit) = limit
+limitOf (MinEdgeThickness i limit) = limit
 
 -- the kinds of a slot, or track
 unfoldable pub slotType : (kind w : ℕ) → OperandType
 slotType kind w = cond (eqb kind 0) (EffectiveFocalLength w) (cond (eqb kind 1) (WorkingFNumber w) (cond (eqb kind 2) TotalTrack (cond (eqb kind 3) (BackFocalLength w) (ParaxialMagnification w))))
 
+-- those of a surface and a limit
+unfoldable pub surfaceType : (kind i : ℕ) (limit : Float) → OperandType
+surfaceType kind i limit = cond (eqb kind 5) (MinCenterThickness i limit) (cond (eqb kind 6) (MaxCenterThickness i limit) (MinEdgeThickness i limit))
+
 unfoldable pub operandType : (kind at : ℕ) (limit : Float) → OperandType
-operandType kind at limit = cond (ltb kind 5) (slotType kind at) (cond (eqb kind 5) (MinCenterThickness at limit) (MaxCenterThickness at limit))
+operandType kind at limit = cond (ltb kind 5) (slotType kind at) (surfaceType kind at limit)
 
 abbrev pub operandRecord : MeritOperand → OperandRecord
 operandRecord o = record {
@@ -112,4 +119,4 @@ abbrev pub variableKnown : VariableRecord → Bool
 variableKnown v = ltb (v .kind) 4 && ltb (v .enabled) 2
 
 abbrev pub operandKnown : OperandRecord → Bool
-operandKnown o = ltb (o .kind) 7
+operandKnown o = ltb (o .kind) 8

@@ -18,7 +18,7 @@ use Rattle.variables.specs.Active.{noVariable, variableAt}
 use Rattle.variables.specs.Kinds.{surfaceIndex}
 use Rattle.merit.specs.declared.types.MeritOperand.{MeritOperand}
 use Rattle.merit.specs.declared.types.OperandType.{OperandType}
-use Rattle.merit.specs.declared.types.OperandType.the-variants.{EffectiveFocalLength, WorkingFNumber, TotalTrack, BackFocalLength, ParaxialMagnification, MinCenterThickness, MaxCenterThickness}
+use Rattle.merit.specs.declared.types.OperandType.the-variants.{EffectiveFocalLength, WorkingFNumber, TotalTrack, BackFocalLength, ParaxialMagnification, MinCenterThickness, MaxCenterThickness, MinEdgeThickness}
 use Rattle.merit.specs.OperandTable.{noOperand, operandAt}
 use Rattle.jobs.specs.declared.types.Job.{Job}
 use Rattle.jobs.specs.declared.types.JobRequest.{JobRequest}
@@ -26,7 +26,7 @@ use Rattle.jobs.specs.declared.types.Method.{Method}
 use Rattle.jobs.specs.declared.types.Method.the-variants.{Damped, MultiStart, Annealing}
 use Rattle.jobs.specs.Filled.{filled}
 use Rattle.jobs.specs.Kept.{zeroVariable, zeroOperand, keptJob, jobFrom}
-use Rattle.jobs.specs.Entries.{variableKind, variableType, oneIf, variableRecord, variableOf, operandKind, slotOrSurface, limitOf, slotType, operandType, operandRecord, operandOf, noVariableRecord, noOperandRecord, variableKnown, operandKnown, zeroVariableRecord, zeroOperandRecord}
+use Rattle.jobs.specs.Entries.{variableKind, variableType, oneIf, variableRecord, variableOf, operandKind, slotOrSurface, limitOf, slotType, surfaceType, operandType, operandRecord, operandOf, noVariableRecord, noOperandRecord, variableKnown, operandKnown, zeroVariableRecord, zeroOperandRecord}
 use Rattle.jobs.specs.Records.{methodKind, settingsRecord, method, kindOf, recordOf, variableRecordAt, operandRecordAt, jobOf, knownKinds}
 
 -- ---- one variable, one operand, the settings
@@ -51,7 +51,7 @@ variable-back d = λ i. record {
 }
 
 operand-type-back : (t : OperandType) → operandType (operandKind t) (slotOrSurface t) (limitOf t) ≡ t
-unfolding slotType operandType
+unfolding slotType surfaceType operandType
 operand-type-back (EffectiveFocalLength w) = refl
 operand-type-back (WorkingFNumber w) = refl
 operand-type-back TotalTrack = refl
@@ -59,6 +59,7 @@ operand-type-back (BackFocalLength w) = refl
 operand-type-back (ParaxialMagnification w) = refl
 operand-type-back (MinCenterThickness i limit) = refl
 operand-type-back (MaxCenterThickness i limit) = refl
+operand-type-back (MinEdgeThickness i limit) = refl
 
 operand-back : (o : MeritOperand) → operandOf (operandRecord o) ≡ o
 operand-back o = λ i. record { «operand_type» = operand-type-back (o .«operand_type») i; target = o .target; weight = o .weight }
@@ -118,7 +119,7 @@ variable-known d = and-i (ltb (variableKind (d .«var_type»)) 4) (ltb (oneIf (d
     mark true = tt
     mark false = tt
 
-operand-known : (t : OperandType) → T (ltb (operandKind t) 7)
+operand-known : (t : OperandType) → T (ltb (operandKind t) 8)
 operand-known (EffectiveFocalLength w) = tt
 operand-known (WorkingFNumber w) = tt
 operand-known TotalTrack = tt
@@ -126,6 +127,7 @@ operand-known (BackFocalLength w) = tt
 operand-known (ParaxialMagnification w) = tt
 operand-known (MinCenterThickness i limit) = tt
 operand-known (MaxCenterThickness i limit) = tt
+operand-known (MinEdgeThickness i limit) = tt
 
 module _ (j : Job) where
   variable-at : (i : ℕ) → i < 8 → variableRecordAt (recordOf j) i ≡ variableRecord (variableAt (j .variables) i)

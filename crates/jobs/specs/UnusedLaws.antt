@@ -16,7 +16,7 @@ use Rattle.variables.specs.Active.{noVariable}
 use Rattle.merit.specs.OperandTable.{noOperand, operandAt}
 use Rattle.merit.specs.declared.types.MeritOperand.{MeritOperand}
 use Rattle.merit.specs.declared.types.OperandType.{OperandType}
-use Rattle.merit.specs.declared.types.OperandType.the-variants.{EffectiveFocalLength, WorkingFNumber, TotalTrack, BackFocalLength, ParaxialMagnification, MinCenterThickness, MaxCenterThickness}
+use Rattle.merit.specs.declared.types.OperandType.the-variants.{EffectiveFocalLength, WorkingFNumber, TotalTrack, BackFocalLength, ParaxialMagnification, MinCenterThickness, MaxCenterThickness, MinEdgeThickness}
 use Rattle.jobs.specs.declared.types.Job.{Job}
 use Rattle.jobs.specs.declared.types.Method.{Method}
 use Rattle.jobs.specs.declared.types.Method.the-variants.{Damped, MultiStart, Annealing}
@@ -33,6 +33,7 @@ no-limit (BackFocalLength w) h = refl
 no-limit (ParaxialMagnification w) h = refl
 no-limit (MinCenterThickness i limit) h = absurd (true≢false (sym (lt-ltb 5 5 h)))
 no-limit (MaxCenterThickness i limit) h = absurd (true≢false (sym (lt-ltb 6 5 h)))
+no-limit (MinEdgeThickness i limit) h = absurd (true≢false (sym (lt-ltb 7 5 h)))
 
 unlike : {A : Type 0} (n m : ℕ) → eqb n m ≡ false → n ≡ m → A
 unlike n m h e = absurd (eqb-false n m h e)
@@ -45,6 +46,7 @@ no-slot (BackFocalLength w) e = unlike 3 2 refl e
 no-slot (ParaxialMagnification w) e = unlike 4 2 refl e
 no-slot (MinCenterThickness i limit) e = unlike 5 2 refl e
 no-slot (MaxCenterThickness i limit) e = unlike 6 2 refl e
+no-slot (MinEdgeThickness i limit) e = unlike 7 2 refl e
 
 operand-clean : (o : MeritOperand) → CleanOperand (operandRecord o)
 operand-clean o = record { noLimit = no-limit (o .«operand_type»); noSlot = no-slot (o .«operand_type») }

@@ -1,6 +1,6 @@
 // One variable and one operand in numbers alone, and read back.
 ghost use mathlib.Core.Path.{_≡_};
-ghost use Rattle.jobs.specs.Entries.{variableKind, variableType, oneIf, variableRecord, variableOf, operandKind, slotOrSurface, limitOf, slotType, operandType, operandRecord, operandOf, zeroVariableRecord, zeroOperandRecord, variableKnown, operandKnown};
+ghost use Rattle.jobs.specs.Entries.{variableKind, variableType, oneIf, variableRecord, variableOf, operandKind, slotOrSurface, limitOf, slotType, surfaceType, operandType, operandRecord, operandOf, zeroVariableRecord, zeroOperandRecord, variableKnown, operandKnown};
 use crate::types::OperandRecord;
 use crate::types::VariableRecord;
 use merit::MeritOperand;
@@ -88,6 +88,9 @@ pub fn variable_of(v: VariableRecord) -> VariableDef
     }
 }
 
+// An operand's kind is a number below this.
+pub const OPERAND_KINDS: u64 = 8;
+
 fn operand_kind(t: OperandType) -> u64
     ensures { λ r. ⌜ r ≡ operandKind t ⌝ }
 {
@@ -105,6 +108,10 @@ fn operand_kind(t: OperandType) -> u64
             surface_index: _,
             max_thickness_mm: _,
         } => 6,
+        OperandType::MinEdgeThickness {
+            surface_index: _,
+            min_edge_mm: _,
+        } => 7,
     }
 }
 
@@ -124,6 +131,10 @@ fn slot_or_surface(t: OperandType) -> usize
         OperandType::MaxCenterThickness {
             surface_index,
             max_thickness_mm: _,
+        } => surface_index,
+        OperandType::MinEdgeThickness {
+            surface_index,
+            min_edge_mm: _,
         } => surface_index,
     }
 }
@@ -145,6 +156,10 @@ fn limit_of(t: OperandType) -> f64
             surface_index: _,
             max_thickness_mm,
         } => max_thickness_mm,
+        OperandType::MinEdgeThickness {
+            surface_index: _,
+            min_edge_mm,
+        } => min_edge_mm,
     }
 }
 
@@ -160,22 +175,32 @@ fn slot_type(kind: u64, w: usize) -> OperandType
     }
 }
 
+fn surface_type(kind: u64, i: usize, limit: f64) -> OperandType
+    ensures { λ r. ⌜ r ≡ surfaceType kind i limit ⌝ }
+{
+    match kind {
+        5 => OperandType::MinCenterThickness {
+            surface_index: i,
+            min_thickness_mm: limit,
+        },
+        6 => OperandType::MaxCenterThickness {
+            surface_index: i,
+            max_thickness_mm: limit,
+        },
+        _ => OperandType::MinEdgeThickness {
+            surface_index: i,
+            min_edge_mm: limit,
+        },
+    }
+}
+
 pub fn operand_type(kind: u64, at: usize, limit: f64) -> OperandType
     ensures { λ r. ⌜ r ≡ operandType kind at limit ⌝ }
 {
     if kind < 5 {
         return slot_type(kind, at);
     }
-    if kind == 5 {
-        return OperandType::MinCenterThickness {
-            surface_index: at,
-            min_thickness_mm: limit,
-        };
-    }
-    OperandType::MaxCenterThickness {
-        surface_index: at,
-        max_thickness_mm: limit,
-    }
+    surface_type(kind, at, limit)
 }
 
 pub fn operand_record(o: MeritOperand) -> OperandRecord
@@ -212,5 +237,5 @@ pub fn variable_known(v: VariableRecord) -> bool
 pub fn operand_known(o: OperandRecord) -> bool
     ensures { λ r. ⌜ r ≡ operandKnown o ⌝ }
 {
-    o.kind < 7
+    o.kind < OPERAND_KINDS
 }

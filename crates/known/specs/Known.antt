@@ -20,6 +20,7 @@ use Rattle.variables.specs.Active.{enabledOf}
 use Rattle.variables.specs.Kinds.{radiusOf}
 use Rattle.variables.specs.Taken.{variableTaken, variablesTaken}
 use Rattle.variables.specs.Values.{appliedTo, applied}
+use Rattle.merit.specs.Edges.{sagOf}
 use Rattle.merit.specs.Operands.{tenThousand, hundred, penalty, finiteOr, isFocalLength, isMagnified, track, shortfall, valueOf}
 use Rattle.merit.specs.Evaluation.{difference, residual, term, total, countedTotal}
 use Rattle.merit.specs.Check.{kindTaken, weightTaken, operandTaken}
@@ -37,7 +38,7 @@ use Rattle.runs.specs.DampedRun.{iterations}
 use Rattle.runs.specs.JobRun.{runBy}
 use Rattle.bench.specs.Benches.{zeroRow, emptyBench}
 use Rattle.bench.specs.Calls.{admitNumber}
-use Rattle.known.specs.Samples.{Settings, limitZero, n3, n56, sevenEighths, tenthOfLeast, least, pastFive, pastOne, firstAlone, kinds, atLeastThree, curvature}
+use Rattle.known.specs.Samples.{Settings, limitZero, n3, n10, n12, n13, n56, sevenEighths, tenthOfLeast, least, pastFive, pastOne, firstAlone, kinds, atLeastThree, halfBall, edgeAtLeast, curvature}
 
 -- `evaluate` takes the lens and the operands, and its answer has a property
 abbrev pub Evaluates : OpticalPrescription → MeritFunction → (MeritEvaluation → Type 0) → Type 0
@@ -77,6 +78,13 @@ pub record Known : Type 0 where
   -- "Thickness 2 against least 3: -1; 3 against 3: 0."
   pub short : (u : Unused) → Evaluates (lens u n64 n2) (atLeastThree u) (λ e. e .values ≡ neg n1 ∷ pastOne)
   pub enough : (u : Unused) → Evaluates (lens u n64 n3) (atLeastThree u) (λ e. e .values ≡ zero64 ∷ pastOne)
+  -- Request 3: the sag of a half ball is 8, its edge 8: short of 10 by 2, not of 8. Conic -1: sag 4, edge 12. Conic 3: t is -3. The last surface has no successor.
+  pub edge-short : (u : Unused) → Evaluates (halfBall u zero64) (edgeAtLeast u 0 n10) (λ e. e .values ≡ neg n2 ∷ pastOne)
+  pub edge-enough : (u : Unused) → Evaluates (halfBall u zero64) (edgeAtLeast u 0 n8) (λ e. e .values ≡ zero64 ∷ pastOne)
+  pub parabola-short : (u : Unused) → Evaluates (halfBall u (neg n1)) (edgeAtLeast u 0 n13) (λ e. e .values ≡ neg n1 ∷ pastOne)
+  pub parabola-enough : (u : Unused) → Evaluates (halfBall u (neg n1)) (edgeAtLeast u 0 n12) (λ e. e .values ≡ zero64 ∷ pastOne)
+  pub sag-fails : (u : Unused) → Evaluates (halfBall u n3) (edgeAtLeast u 0 n10) (λ e. e .values ≡ penalty ∷ pastOne)
+  pub no-successor : (u : Unused) → Evaluates (halfBall u zero64) (edgeAtLeast u 1 n10) (λ e. e .values ≡ penalty ∷ pastOne)
   -- "Iteration limit 0: one turn, not converged." Whatever the job and the other settings are.
   pub a-turn : (s : Settings) (job : Job) → isDone (runBy (Damped (limitZero s)) job) ≡ false
   pub one-turn : (f : Surfaces → MeritEvaluation) (s : Settings) (job : Job) → isDone (afterMerits f 1 (runBy (Damped (limitZero s)) job)) ≡ true
@@ -85,7 +93,7 @@ pub record Known : Type 0 where
   pub admitted : (u : Unused) → Admitted (request u damped) × Admitted (request u multiStart) × Admitted (request u annealing)
 
 pub known : Known
-unfolding stepOf seeded stepTimes radiusOf lt magnitude finiteOf ofBits neg div tab allBelow Curvature.curvature arriving paraxialOf within aboveZeroUpTo surfaceTaken lensTaken finiteOr isFocalLength isMagnified track shortfall valueOf difference residual term total countedTotal kindTaken weightTaken operandTaken evaluateNumber sqrtOf le sub mul isNan enabledOf appliedTo applied runBy DampedRun.damped iterations bind afterMerits afterMerit isDone value variableTaken variablesTaken fromZeroTo dlsTaken multiStartTaken annealingTaken zeroRow admitNumber
+unfolding stepOf seeded stepTimes radiusOf lt magnitude finiteOf ofBits neg div tab allBelow Curvature.curvature arriving paraxialOf within aboveZeroUpTo surfaceTaken lensTaken finiteOr isFocalLength isMagnified track shortfall sagOf valueOf difference residual term total countedTotal kindTaken weightTaken operandTaken evaluateNumber sqrtOf le sub mul isNan enabledOf appliedTo applied runBy DampedRun.damped iterations bind afterMerits afterMerit isDone value variableTaken variablesTaken fromZeroTo dlsTaken multiStartTaken annealingTaken zeroRow admitNumber
 known = record {
   values = λ u. (refl, refl);
   weighed = λ u. (refl, (refl, refl));
@@ -98,6 +106,12 @@ known = record {
   above-bound = λ u s rest more. refl;
   short = λ u. (refl, refl);
   enough = λ u. (refl, refl);
+  edge-short = λ u. (refl, refl);
+  edge-enough = λ u. (refl, refl);
+  parabola-short = λ u. (refl, refl);
+  parabola-enough = λ u. (refl, refl);
+  sag-fails = λ u. (refl, refl);
+  no-successor = λ u. (refl, refl);
   a-turn = λ s job. refl;
   one-turn = λ f s job. refl;
   not-converged = λ f s job. refl;

@@ -1,18 +1,29 @@
 -- What the known values of document 01 are worked out of, beside the lens and the requests of `jobs` (Sample.antt). Definitions only.
-use mathlib.Core.Bool.{true}
+use Prim.Native.Nat.{ℕ}
+use mathlib.Core.Bool.{true, false}
 use mathlib.Core.List.{List, [], _∷_}
-use lib.Ieee.{Float, binary64, neg, ofBits}
+use lib.Ieee.{Float, inf, binary64, neg, ofBits}
 use Rattle.floats.specs.Constants.{zero64}
 use Rattle.optics.specs.declared.types.OpticalPrescription.{OpticalPrescription}
+use Rattle.optics.specs.declared.types.OpticalSurface.{OpticalSurface}
 use Rattle.variables.specs.declared.types.VariableSet.{VariableSet}
 use Rattle.variables.specs.declared.types.VariableType.the-variants.{Curvature}
 use Rattle.merit.specs.declared.types.MeritFunction.{MeritFunction}
-use Rattle.merit.specs.declared.types.OperandType.the-variants.{EffectiveFocalLength, WorkingFNumber, TotalTrack, BackFocalLength, ParaxialMagnification, MinCenterThickness}
+use Rattle.merit.specs.declared.types.OperandType.the-variants.{EffectiveFocalLength, WorkingFNumber, TotalTrack, BackFocalLength, ParaxialMagnification, MinCenterThickness, MinEdgeThickness}
 use Rattle.jobs.specs.declared.types.DlsConfig.{DlsConfig}
 use Rattle.jobs.specs.Sample.{Unused, surface, operand, n1, n2, n8, n16, n64}
 
 abbrev pub n3 : Float
 n3 = ofBits binary64 0x4008_0000_0000_0000
+
+abbrev pub n10 : Float
+n10 = ofBits binary64 0x4024_0000_0000_0000
+
+abbrev pub n12 : Float
+n12 = ofBits binary64 0x4028_0000_0000_0000
+
+abbrev pub n13 : Float
+n13 = ofBits binary64 0x402a_0000_0000_0000
 
 abbrev pub n56 : Float
 n56 = ofBits binary64 0x404c_0000_0000_0000
@@ -33,6 +44,10 @@ pastFive = zero64 ∷ zero64 ∷ zero64 ∷ zero64 ∷ zero64 ∷ zero64 ∷ zer
 
 abbrev pub pastOne : List Float
 pastOne = zero64 ∷ zero64 ∷ zero64 ∷ zero64 ∷ pastFive
+
+-- a surface with semi-diameter 8
+abbrev pub wide : (radius conic thickness : Float) → OpticalSurface
+wide radius conic thickness = record { «radius_mm» = radius; «conic_constant» = conic; «thickness_mm» = thickness; «semi_diameter_mm» = n8 }
 
 module _ (u : Unused) where
   -- "Only the first surface"
@@ -60,6 +75,20 @@ module _ (u : Unused) where
   -- the first thickness at least 3
   abbrev pub atLeastThree : MeritFunction
   atLeastThree = record { operands = operand (MinCenterThickness 0 n3) zero64 zero64 ∷ u .operands; «operand_count» = 1 }
+
+  -- request 3: radius 8, semi-diameter 8, thickness 16 and a conic; then flat, as wide
+  abbrev pub halfBall : (conic : Float) → OpticalPrescription
+  halfBall conic = record {
+    surfaces = wide n8 conic n16 ∷ wide (inf false) zero64 zero64 ∷ u .surfaces;
+    indices = n2 ∷ u .index1 ∷ u .index2 ∷ u .index3 ∷ n1 ∷ u .indices;
+    «surface_count» = 2;
+    «slot_count» = 1;
+    «entrance_pupil_diameter_mm» = n8;
+  }
+
+  -- the edge behind surface i at least so much
+  abbrev pub edgeAtLeast : (i : ℕ) (limit : Float) → MeritFunction
+  edgeAtLeast i limit = record { operands = operand (MinEdgeThickness i limit) zero64 zero64 ∷ u .operands; «operand_count» = 1 }
 
   -- the first curvature, from -1e-13 to 1e-12
   abbrev pub curvature : VariableSet

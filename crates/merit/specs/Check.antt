@@ -11,9 +11,9 @@ use Rattle.merit.specs.OperandTable.{operandAt}
 use Rattle.merit.specs.declared.types.MeritFunction.{MeritFunction}
 use Rattle.merit.specs.declared.types.MeritOperand.{MeritOperand}
 use Rattle.merit.specs.declared.types.OperandType.{OperandType}
-use Rattle.merit.specs.declared.types.OperandType.the-variants.{EffectiveFocalLength, WorkingFNumber, TotalTrack, BackFocalLength, ParaxialMagnification, MinCenterThickness, MaxCenterThickness}
+use Rattle.merit.specs.declared.types.OperandType.the-variants.{EffectiveFocalLength, WorkingFNumber, TotalTrack, BackFocalLength, ParaxialMagnification, MinCenterThickness, MaxCenterThickness, MinEdgeThickness}
 
--- its slot is one of those that there are, or its limit is within; a surface that is absent is taken
+-- its slot is one of those that there are, or its limit is within; a surface or successor that is absent is taken
 unfoldable pub kindTaken : (slots : ℕ) → OperandType → Bool
 kindTaken slots (EffectiveFocalLength w) = ltb w slots
 kindTaken slots (WorkingFNumber w) = ltb w slots
@@ -22,6 +22,7 @@ kindTaken slots (BackFocalLength w) = ltb w slots
 kindTaken slots (ParaxialMagnification w) = ltb w slots
 kindTaken slots (MinCenterThickness i limit) = within limit
 kindTaken slots (MaxCenterThickness i limit) = within limit
+kindTaken slots (MinEdgeThickness i limit) = within limit
 
 -- -0.0 is not negative
 unfoldable pub weightTaken : Float → Bool

@@ -13,7 +13,7 @@ use Rattle.merit.specs.Operands.{slotNamed}
 use Rattle.merit.specs.Steps.{slotKnown, SlotsKnown}
 use Rattle.merit.specs.declared.types.MeritFunction.{MeritFunction}
 use Rattle.merit.specs.declared.types.OperandType.{OperandType}
-use Rattle.merit.specs.declared.types.OperandType.the-variants.{EffectiveFocalLength, WorkingFNumber, TotalTrack, BackFocalLength, ParaxialMagnification, MinCenterThickness, MaxCenterThickness}
+use Rattle.merit.specs.declared.types.OperandType.the-variants.{EffectiveFocalLength, WorkingFNumber, TotalTrack, BackFocalLength, ParaxialMagnification, MinCenterThickness, MaxCenterThickness, MinEdgeThickness}
 
 module _ (slots : ℕ) (f : MeritFunction) (taken : T (operandsTaken slots f)) (n : ℕ) (h : n < f .«operand_count») where
   -- an operand in use that is taken has a kind that is
@@ -34,6 +34,7 @@ slot-below slots (BackFocalLength w) t h = ltb→lt w slots t
 slot-below slots (ParaxialMagnification w) t h = ltb→lt w slots t
 slot-below slots (MinCenterThickness i limit) t h = absurd (omega arith)
 slot-below slots (MaxCenterThickness i limit) t h = absurd (omega arith)
+slot-below slots (MinEdgeThickness i limit) t h = absurd (omega arith)
 
 -- operands that are taken name slots that there are
 module _ (slots : ℕ) (few : slots ≤ 4) where
@@ -49,6 +50,7 @@ module _ (slots : ℕ) (few : slots ≤ 4) where
   kind-known (ParaxialMagnification w) t = known w t
   kind-known (MinCenterThickness i limit) t = tt
   kind-known (MaxCenterThickness i limit) t = tt
+  kind-known (MinEdgeThickness i limit) t = tt
 
   pub slots-known : (f : MeritFunction) → T (operandsTaken slots f) → SlotsKnown f
   slots-known f t n h = kind-known (operandAt f n .«operand_type») (kind-taken slots f t n h)

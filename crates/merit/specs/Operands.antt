@@ -10,8 +10,11 @@ use Rattle.optics.specs.declared.types.OpticalSurface.{OpticalSurface}
 use Rattle.optics.specs.declared.types.Paraxial.{Paraxial}
 use Rattle.optics.specs.declared.types.Paraxial.the-variants.{Failed, Traced}
 use Rattle.optics.specs.declared.types.ParaxialProperties.{ParaxialProperties}
+use Rattle.merit.specs.Edges.{edgeOf}
 use Rattle.merit.specs.declared.types.OperandType.{OperandType}
-use Rattle.merit.specs.declared.types.OperandType.the-variants.{EffectiveFocalLength, WorkingFNumber, TotalTrack, BackFocalLength, ParaxialMagnification, MinCenterThickness, MaxCenterThickness}
+use Rattle.merit.specs.declared.types.OperandType.the-variants.{EffectiveFocalLength, WorkingFNumber, TotalTrack, BackFocalLength, ParaxialMagnification, MinCenterThickness, MaxCenterThickness, MinEdgeThickness}
+use Rattle.merit.specs.declared.types.Sag.{Sag}
+use Rattle.merit.specs.declared.types.Sag.the-variants.{Is, Missing}
 
 -- "Failures .. give 10,000, 100, 10,000 and 0 for the four paraxial kinds"
 abbrev pub tenThousand : Float
@@ -80,6 +83,11 @@ counted x = finiteOr penalty x
 abbrev pub ofSurface : (i count : ℕ) → Float → Float
 ofSurface i count x = cond (ltb i count) (counted x) penalty
 
+-- "the shortfall counts as for centre thickness. A failure or a missing successor counts 100,000." (request 3)
+abbrev pub edgeCounted : (limit : Float) → Sag → Float
+edgeCounted limit (Is edge) = counted (shortfall edge limit)
+edgeCounted limit Missing = penalty
+
 -- The value of an operand of a lens: `slot w` is what the trace of slot w gives, and `surface` gives its surfaces, of which there are count.
 unfoldable pub valueOf : (earlier : List Float) (slot : ℕ → Paraxial) (surface : ℕ → OpticalSurface) (count : ℕ) → OperandType → Float
 valueOf earlier slot surface count (EffectiveFocalLength w) = counted (focalLength (slot w))
@@ -89,6 +97,7 @@ valueOf earlier slot surface count (BackFocalLength w) = counted (backFocus (slo
 valueOf earlier slot surface count (ParaxialMagnification w) = counted (magnification (slot w))
 valueOf earlier slot surface count (MinCenterThickness i limit) = ofSurface i count (shortfall (surface i .«thickness_mm») limit)
 valueOf earlier slot surface count (MaxCenterThickness i limit) = ofSurface i count (excess (surface i .«thickness_mm») limit)
+valueOf earlier slot surface count (MinEdgeThickness i limit) = edgeCounted limit (edgeOf surface count i)
 
 -- the slot that an operand names; 4, which is none, for the others
 abbrev pub slotNamed : OperandType → ℕ
@@ -99,3 +108,4 @@ slotNamed (BackFocalLength w) = w
 slotNamed (ParaxialMagnification w) = w
 slotNamed (MinCenterThickness i limit) = 4
 slotNamed (MaxCenterThickness i limit) = 4
+slotNamed (MinEdgeThickness i limit) = 4

@@ -8,7 +8,7 @@ use Rattle.merit.specs.Operands.{slotNamed}
 use Rattle.merit.specs.OperandTable.{operandAt}
 use Rattle.merit.specs.declared.types.MeritFunction.{MeritFunction}
 use Rattle.merit.specs.declared.types.OperandType.{OperandType}
-use Rattle.merit.specs.declared.types.OperandType.the-variants.{EffectiveFocalLength, WorkingFNumber, TotalTrack, BackFocalLength, ParaxialMagnification, MinCenterThickness, MaxCenterThickness}
+use Rattle.merit.specs.declared.types.OperandType.the-variants.{EffectiveFocalLength, WorkingFNumber, TotalTrack, BackFocalLength, ParaxialMagnification, MinCenterThickness, MaxCenterThickness, MinEdgeThickness}
 use Rattle.merit.specs.declared.types.WeightRoot.{WeightRoot}
 
 -- the slot that operand n names
@@ -24,6 +24,7 @@ slotKnown (BackFocalLength w) = ltb w 4
 slotKnown (ParaxialMagnification w) = ltb w 4
 slotKnown (MinCenterThickness i limit) = true
 slotKnown (MaxCenterThickness i limit) = true
+slotKnown (MinEdgeThickness i limit) = true
 
 abbrev pub SlotsKnown : MeritFunction → Type 0
 SlotsKnown f = (n : ℕ) → n < f .«operand_count» → T (slotKnown (operandAt f n .«operand_type»))

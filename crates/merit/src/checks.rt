@@ -7,7 +7,7 @@ use crate::types::MeritOperand;
 use crate::types::OperandType;
 use optics::is_within;
 
-// A thickness operand whose surface is absent is taken.
+// A thickness or edge operand whose surface, or its successor, is absent is taken.
 fn kind_taken(slots: usize, kind: OperandType) -> bool
     ensures { λ r. ⌜ r ≡ kindTaken slots kind ⌝ }
 {
@@ -25,6 +25,10 @@ fn kind_taken(slots: usize, kind: OperandType) -> bool
             surface_index: _,
             max_thickness_mm,
         } => is_within(max_thickness_mm),
+        OperandType::MinEdgeThickness {
+            surface_index: _,
+            min_edge_mm,
+        } => is_within(min_edge_mm),
     }
 }
 

@@ -1,6 +1,7 @@
 // Operands, the merit of a lens, and the two calls that stand alone: evaluate and trace (out of operands.rs, merit.rs).
 mod calls;
 mod checks;
+mod edges;
 mod evaluation;
 mod operands;
 mod types;

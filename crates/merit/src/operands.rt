@@ -5,8 +5,10 @@ ghost use Prim.Native.Nat.{ℕ, _*_, _<_, _≤_};
 ghost use lib.ListN.{length, getD};
 ghost use Rattle.optics.specs.Types.{flatSurface};
 ghost use Rattle.optics.specs.declared.types.Paraxial.the-variants.{Failed, Traced};
-ghost use Rattle.merit.specs.Operands.{finiteOr, isFocalLength, isMagnified, focalLength, fNumber, backFocus, magnification, track, shortfall, excess, counted, ofSurface, valueOf};
+ghost use Rattle.merit.specs.Operands.{finiteOr, isFocalLength, isMagnified, focalLength, fNumber, backFocus, magnification, track, shortfall, excess, counted, ofSurface, edgeCounted, valueOf};
+use crate::edges::edge_of;
 use crate::types::OperandType;
+use crate::types::Sag;
 use floats::abs;
 use floats::is_finite;
 use optics::Paraxial;
@@ -157,6 +159,16 @@ fn of_surface(i: usize, count: usize, x: f64) -> f64
     100000.0
 }
 
+// What an edge falls short of the least; where it is missing, 100,000, before any limit is looked at.
+fn edge_counted(limit: f64, edge: Sag) -> f64
+    ensures { λ r. ⌜ r ≡ edgeCounted limit edge ⌝ }
+{
+    match edge {
+        Sag::Is(e) => counted_value(shortfall_of(e, limit)),
+        Sag::Missing => 100000.0,
+    }
+}
+
 // An operand's value, given the traces of the slots, on surfaces laid flat.
 pub fn value_of(
     kind: OperandType,
@@ -192,5 +204,9 @@ pub fn value_of(
             let thickness = thickness_at(flat, count, surface_index);
             of_surface(surface_index, count, excess_of(thickness, max_thickness_mm))
         }
+        OperandType::MinEdgeThickness {
+            surface_index,
+            min_edge_mm,
+        } => edge_counted(min_edge_mm, edge_of(flat, count, surface_index)),
     }
 }

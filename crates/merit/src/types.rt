@@ -15,6 +15,16 @@ pub enum OperandType {
         surface_index: usize,
         max_thickness_mm: f64,
     },
+    MinEdgeThickness {
+        surface_index: usize,
+        min_edge_mm: f64,
+    },
+}
+
+// A surface's sag, or an edge made of two: a number, or missing where the conic does not reach so far out, or there is no second surface.
+pub enum Sag {
+    Is(f64),
+    Missing,
 }
 
 pub struct MeritOperand {

@@ -31,6 +31,12 @@ enum-known-kind-6 c = search needs
 is-within-requires-2 : tie.Need-is-within-requires-2
 is-within-requires-2 c κs = search needs
 
+enum-known-kind-7 : tie.Need-enum-known-kind-7
+enum-known-kind-7 c = search needs
+
+is-within-requires-3 : tie.Need-is-within-requires-3
+is-within-requires-3 c κs = search needs
+
 returns : tie.Need-returns
 unfolding kindTaken
 returns c = rw (c .before .kind .given .1) (search needs)
@@ -59,6 +65,10 @@ returns-7 : tie.Need-returns-7
 unfolding kindTaken
 returns-7 c = rw (c .before .before .kind6 .given .1) (c .is-within2 .ensures)
 
+returns-8 : tie.Need-returns-8
+unfolding kindTaken
+returns-8 c = rw (c .before .before .kind7 .given .1) (c .is-within3 .ensures)
+
 pub kind-taken-spec : {M : Type 1} → statement M
 kind-taken-spec =
     tie.close
@@ -72,10 +82,13 @@ kind-taken-spec =
     is-within-requires
     enum-known-kind-6
     is-within-requires-2
+    enum-known-kind-7
+    is-within-requires-3
     returns
     returns-2
     returns-3
     returns-4
     returns-5
     returns-6
-    returns-7)
+    returns-7
+    returns-8)

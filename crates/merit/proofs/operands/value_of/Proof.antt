@@ -1,6 +1,6 @@
 -- `merit::operands::value_of` meets its contract. Assumes nothing.
 use mathlib.Core.Path.{ap, _∙_}
-use Rattle.merit.specs.Operands.{counted, focalLength, fNumber, backFocus, magnification, valueOf}
+use Rattle.merit.specs.Operands.{counted, focalLength, fNumber, backFocus, magnification, edgeCounted, valueOf}
 use Rattle.merit.specs.ValueLaws.{of-same}
 use borrow.Author.Needs.{needs}
 use Rattle.merit.proofs.operands.value_of.Statement.{statement}
@@ -87,6 +87,15 @@ excess-of-requires c κs = search needs
 of-surface-requires-2 : tie.Need-of-surface-requires-2
 of-surface-requires-2 c κs = search needs
 
+enum-known-kind-7 : tie.Need-enum-known-kind-7
+enum-known-kind-7 c = search needs
+
+edge-of-requires : tie.Need-edge-of-requires
+edge-of-requires c κs = search needs
+
+edge-counted-requires : tie.Need-edge-counted-requires
+edge-counted-requires c κs = search needs
+
 returns : tie.Need-returns
 unfolding valueOf
 returns c =
@@ -127,6 +136,12 @@ returns-7 c =
     rw (c .before .before .before .before .kind6 .given .1)
     (c .of-surface2 .ensures ∙ of-same (λ h. rw (c .before .before .thickness-at2 .ensures h) at (c .before .excess-of .ensures)))
 
+returns-8 : tie.Need-returns-8
+unfolding valueOf
+returns-8 c =
+    rw (c .before .before .before .kind7 .given .1)
+    (c .edge-counted .ensures ∙ ap (edgeCounted _) (c .before .edge-of .ensures))
+
 pub value-of-spec : {M : Type 1} → statement M
 value-of-spec =
     tie.close
@@ -158,10 +173,14 @@ value-of-spec =
     thickness-at-requires-2
     excess-of-requires
     of-surface-requires-2
+    enum-known-kind-7
+    edge-of-requires
+    edge-counted-requires
     returns
     returns-2
     returns-3
     returns-4
     returns-5
     returns-6
-    returns-7)
+    returns-7
+    returns-8)
