@@ -131,7 +131,7 @@ static void admit(size_t place, const LensRequest *asked, uint32_t wanted, const
 
 /* numbers that are no kind, no mark, no count and no bit: 1, whatever else is wrong */
 static void admit_none(size_t place) {
-    static const uint64_t none[] = {7, 11, 64, 1ull << 32, UINT64_MAX}, past[] = {17, 18, 1ull << 32, 1ull << 63, UINT64_MAX};
+    static const uint64_t none[] = {8, 11, 64, 1ull << 32, UINT64_MAX}, past[] = {17, 18, 1ull << 32, 1ull << 63, UINT64_MAX};
     LensRequest asked = line.request;
     LensJob *j = &asked.job;
     struct { uint64_t *at; const uint64_t *values; const char *what; } tries[] = {
@@ -258,7 +258,7 @@ static void evaluate(uint32_t wanted, const char *answer) {
     }
     if (j->operand_count > 0) {
         LensJob none = job;
-        none.operands[j->operand_count - 1].kind = 7 + lines;
+        none.operands[j->operand_count - 1].kind = LENS_LEAST_EDGE_THICKNESS + 1 + lines;
         ALL("evaluate, a kind of operand that is none", lens_evaluate(&none, &now.evaluation), LENS_BAD_COUNT);
         evaluations++;
     }

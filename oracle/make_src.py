@@ -38,13 +38,16 @@ put(O, 'variables.rs', [("raw_val.clamp(var.min_value, var.max_value)", "crate::
 # operands.rs: the arms of the kinds that document 01 leaves out, and their imports
 left_out = between(O, 'operands.rs', 229, 361)
 assert left_out.lstrip().startswith('OperandType::RmsSpotRadius') and left_out.rstrip().endswith('}')
-edge = between(O, 'operands.rs', 394, 414)
-assert edge.lstrip().startswith('OperandType::MinEdgeThickness'), edge
+# request 3 keeps the arm of the least edge, the last one; its sag is the stand-in of optics-core/src/conic.rs
+arms_end = between(O, 'operands.rs', 414, 415)
+assert arms_end == '            }\n        }\n', arms_end
+edge = between(O, 'operands.rs', 410, 415)
+assert edge.lstrip().startswith('Ok(edge_thickness - min_edge_mm)'), edge
 put(O, 'operands.rs', [
-    (between(O, 'operands.rs', 5, 10), ""),
+    (between(O, 'operands.rs', 5, 9), ""),
     ("use optics_core::types::{Field, Pupil, Wavelength};\n", ""),
     (left_out, ""),
-    (edge, '            _ => unreachable!("left out by document 01"),\n'),
+    (edge, edge.replace(arms_end, '            }\n            _ => unreachable!("left out by document 01"),\n        }\n')),
 ])
 # geometry.rs: only the RefractiveIndex part
 g = (S / 'crates' / 'optics-core' / 'src' / 'geometry.rs').read_text()

@@ -29,7 +29,7 @@ fn base(kind: u8) -> Job {
     for ty in 0..4 {
         j.vars.push(Var { ty, surf: ty as usize % 3, on: ty != 1, lo: 1.0, hi: 2.0, step: 1e-3 });
     }
-    for kind in 0..7 {
+    for kind in 0..8 {
         j.ops.push(Op { kind, at: kind as usize % 2, limit: if kind < 5 { 0.0 } else { 3.0 }, target: 60.0, weight: 4.0 });
     }
     j.limits = vec![Ends { low: 15.0, high: 17.0 }, Ends { low: 2.0, high: 2.0 }, Ends { low: -0.5, high: 0.5 }];
@@ -104,7 +104,7 @@ fn lengths(kind: u8) -> Vec<Job> {
     if kind < 5 {
         for n in [0, 1, 11, 12, 13, 14, 40] {
             let mut j = base(kind);
-            let last = j.ops[6];
+            let last = j.ops[7];
             j.ops.resize(n, last);
             v.push(j);
         }
