@@ -73,7 +73,10 @@ enum LensOperandKinds {
     LENS_BACK_FOCUS = 3,   /* at: slot */
     LENS_MAGNIFICATION = 4, /* at: slot */
     LENS_LEAST_CENTRE_THICKNESS = 5,   /* at: surface; the value is thickness - limit where that is negative, else 0; 100000 where the surface is absent */
-    LENS_GREATEST_CENTRE_THICKNESS = 6 /* at: surface; the value is thickness - limit where that is positive, else 0; 100000 where the surface is absent */
+    LENS_GREATEST_CENTRE_THICKNESS = 6, /* at: surface; the value is thickness - limit where that is positive, else 0; 100000 where the surface is absent */
+    LENS_LEAST_EDGE_THICKNESS = 7       /* at: surface; the edge is thickness + sag of the next surface - sag of this one, both at the smaller of their
+                                           semi-diameters; the value is edge - limit where that is negative, else 0; 100000 where a sag fails (the conic does
+                                           not reach so far) or the surface or the next one is absent */
 };
 
 /* bits of LensRequest.given: the settings that are given; a setting without its bit has its default (damped job; multi-start's runs) */

@@ -145,14 +145,11 @@ fn variable(found: &mut Found, i: usize, v: &Variable, surfaces: usize) {
 
 fn operand(found: &mut Found, i: usize, o: &Operand, slots: usize) {
     let (part, refusal) = (Part::Operand(i), Refusal::Operand);
-    match o.aim {
-        Aim::FocalLength { slot } | Aim::FNumber { slot } | Aim::BackFocus { slot } | Aim::Magnification { slot } => {
-            found.test(slot < slots, refusal, part, || format!("slot {} is not there: the job has {slots}", slot as u128 + 1));
-        }
-        Aim::LeastCentreThickness { limit_mm, .. } | Aim::GreatestCentreThickness { limit_mm, .. } => {
-            found.number(within(limit_mm), refusal, part, "limit", limit_mm, WITHIN);
-        }
-        Aim::Track => {}
+    if let Aim::FocalLength { slot } | Aim::FNumber { slot } | Aim::BackFocus { slot } | Aim::Magnification { slot } = o.aim {
+        found.test(slot < slots, refusal, part, || format!("slot {} is not there: the job has {slots}", slot as u128 + 1));
+    }
+    if let Some((_, limit_mm)) = o.aim.surface_and_limit() {
+        found.number(within(limit_mm), refusal, part, "limit", limit_mm, WITHIN);
     }
     found.number(within(o.target), refusal, part, "target", o.target, WITHIN);
     found.number(o.weight >= 0.0 && o.weight.is_finite(), refusal, part, "weight", o.weight, "is negative or not finite");

@@ -158,6 +158,26 @@ pub enum Aim {
         /// The limit.
         limit_mm: f64,
     },
+    /// What the edge between a surface and the next falls short of a limit, as a negative number, or 0. The edge is measured at the smaller of their
+    /// semi-diameters; where a surface does not reach so far, or there is no next one, the value is 100,000.
+    LeastEdgeThickness {
+        /// The surface's number, from 0.
+        surface: usize,
+        /// The limit.
+        limit_mm: f64,
+    },
+}
+
+impl Aim {
+    /// The surface and the limit of an aim that has them.
+    pub fn surface_and_limit(&self) -> Option<(usize, f64)> {
+        match *self {
+            Aim::LeastCentreThickness { surface, limit_mm }
+            | Aim::GreatestCentreThickness { surface, limit_mm }
+            | Aim::LeastEdgeThickness { surface, limit_mm } => Some((surface, limit_mm)),
+            Aim::FocalLength { .. } | Aim::FNumber { .. } | Aim::Track | Aim::BackFocus { .. } | Aim::Magnification { .. } => None,
+        }
+    }
 }
 
 /// One term of the merit: weight × (value - target)².

@@ -226,6 +226,7 @@ impl<'a> Reader<'a> {
             4 => Aim::Magnification { slot: at },
             5 => Aim::LeastCentreThickness { surface: at, limit_mm },
             6 => Aim::GreatestCentreThickness { surface: at, limit_mm },
+            7 => Aim::LeastEdgeThickness { surface: at, limit_mm },
             other => return Err(format!("{other} is no kind of operand")),
         };
         Ok(Operand { aim, target: self.float("a target")?, weight: self.float("a weight")? })

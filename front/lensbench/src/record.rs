@@ -89,6 +89,7 @@ pub fn aim_numbers(aim: &Aim) -> (u64, u64, f64) {
         Aim::Magnification { slot } => (4, slot as u64, 0.0),
         Aim::LeastCentreThickness { surface, limit_mm } => (5, surface as u64, limit_mm),
         Aim::GreatestCentreThickness { surface, limit_mm } => (6, surface as u64, limit_mm),
+        Aim::LeastEdgeThickness { surface, limit_mm } => (7, surface as u64, limit_mm),
     }
 }
 

@@ -103,6 +103,7 @@ surface flat 0 12 0 air
 vary curvature 1 from 0.001 to 0.1 step 1e-6
 want focal-length d target 100 weight 2
 want centre-at-least 1 2
+want edge-at-least 1 1 weight 0.5
 run multi-start trials 3 seed 7 iterations 4
 ";
 
@@ -143,13 +144,15 @@ fn a_typo_in_each_field() {
         (7, "want focal-length d target 100 wieght 2", "`wieght` is none of target, weight"),
         (8, "want centre-at-least 1", "the limit is missing"),
         (8, "want centre-at-least first 2", "`first` is no surface's number"),
-        (9, "run multistart", "did you mean `multi-start`?"),
-        (9, "run", "run is missing: there are damped, multi-start, annealing"),
-        (9, "run damped trials 3", "`trials` is no setting of `run damped`"),
-        (9, "run multi-start trials 3.5", "trials: `3.5` is no whole number"),
-        (9, "run multi-start seed -1", "seed: `-1` is no whole number"),
-        (9, "run multi-start iteration 4", "did you mean `iterations`?"),
-        (9, "run damped\nrun damped", "the job has `run` already, on line 9"),
+        (9, "want edge-at-least 1", "the limit is missing"),
+        (9, "want edge-at-leats 1 1", "did you mean `edge-at-least`?"),
+        (10, "run multistart", "did you mean `multi-start`?"),
+        (10, "run", "run is missing: there are damped, multi-start, annealing"),
+        (10, "run damped trials 3", "`trials` is no setting of `run damped`"),
+        (10, "run multi-start trials 3.5", "trials: `3.5` is no whole number"),
+        (10, "run multi-start seed -1", "seed: `-1` is no whole number"),
+        (10, "run multi-start iteration 4", "did you mean `iterations`?"),
+        (10, "run damped\nrun damped", "the job has `run` already, on line 10"),
     ];
     for (line, typo, what) in typos {
         let text: String = GOOD.lines().enumerate().map(|(i, good)| format!("{}\n", if i + 1 == line { typo } else { good })).collect();
@@ -173,7 +176,7 @@ fn refusals_with_their_lines() {
         (4, "surface nan 4 12 0 1.52 1.51 11", "-:4: refused with 3: index of surface 1 in slot 3 11 is not above 0 and up to 10"),
         (6, "vary curvature 9 from 2 to 1", "-:6: refused with 4: from 2 is above to 1"),
         (7, "want focal-length 4 target 1e10", "-:7: refused with 5: slot 4 is not there: the job has 3"),
-        (9, "run multi-start trials 1001", "-:9: refused with 6: trials 1001 is above 1000"),
+        (10, "run multi-start trials 1001", "-:10: refused with 6: trials 1001 is above 1000"),
         (6, "vary curvature 1 off", "-:1: refused with 7: no variable is enabled"),
     ];
     for (line, odd, what) in cases {
@@ -201,6 +204,8 @@ fn warnings() {
     }
     let (status, _, err) = lensbench(&["check", "-"], &GOOD.replace("centre-at-least 1 2", "centre-at-least 3 2"));
     assert!(status == 0 && err.contains("-:8: warning: surface 3 is not there"), "{err}");
+    let (status, _, err) = lensbench(&["check", "-"], &GOOD.replace("edge-at-least 1", "edge-at-least 2"));
+    assert!(status == 0 && err.contains("-:9: warning: surface 2 is the last: it has no edge"), "{err}");
 }
 
 #[test]

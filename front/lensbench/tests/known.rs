@@ -60,6 +60,24 @@ fn centre_thickness() {
     assert_eq!(lens.evaluate(&least).unwrap().values, [0.0]);
 }
 
+/// Request 3: two surfaces with semi-diameter 8, the first with radius 8, thickness 16, and the second flat.
+#[test]
+fn edge_thickness() {
+    let mut lens = known_lens();
+    lens.surfaces[0] = Surface { radius_mm: 8.0, conic_constant: 0.0, thickness_mm: 16.0, semi_diameter_mm: 8.0 };
+    lens.surfaces[1].semi_diameter_mm = 8.0;
+    let value = |lens: &Lens, surface: usize, limit_mm: f64| {
+        lens.evaluate(&[Operand::new(Aim::LeastEdgeThickness { surface, limit_mm }, 0.0)]).unwrap().values[0]
+    };
+    assert_eq!((value(&lens, 0, 10.0), value(&lens, 0, 8.0)), (-2.0, 0.0));
+    // the last surface has no successor, and a number past it none either
+    assert_eq!([1, 2, usize::MAX].map(|surface| value(&lens, surface, 10.0)), [100_000.0; 3]);
+    lens.surfaces[0].conic_constant = -1.0;
+    assert_eq!((value(&lens, 0, 13.0), value(&lens, 0, 12.0)), (-1.0, 0.0));
+    lens.surfaces[0].conic_constant = 3.0;
+    assert_eq!(value(&lens, 0, 10.0), 100_000.0);
+}
+
 #[test]
 fn square_root_of_two() {
     // track 16 against 15 with weight 2: the residual is the root times 1

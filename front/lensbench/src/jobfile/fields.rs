@@ -78,9 +78,9 @@ pub fn operand(mut words: Words, slots: &[String]) -> Result<Operand, String> {
             _ => return Err(format!("`{word}` is none of target, weight")),
         }
     }
-    // what a thickness is beyond its limit is wanted to be 0
-    let limit = matches!(aim, Aim::LeastCentreThickness { .. } | Aim::GreatestCentreThickness { .. });
-    let target = target.or(limit.then_some(0.0)).ok_or_else(|| format!("{} has no target: add `target` and a number", AIMS[kind]))?;
+    // what a thickness or an edge is beyond its limit is wanted to be 0
+    let limit = aim.surface_and_limit();
+    let target = target.or(limit.map(|_| 0.0)).ok_or_else(|| format!("{} has no target: add `target` and a number", AIMS[kind]))?;
     Ok(Operand { aim, target, weight })
 }
 
@@ -92,7 +92,8 @@ fn aim(kind: usize, words: &mut Words, slots: &[String]) -> Result<Aim, String> 
         3 => Aim::BackFocus { slot: slot(words, slots)? },
         4 => Aim::Magnification { slot: slot(words, slots)? },
         5 => Aim::LeastCentreThickness { surface: words.surface()?, limit_mm: words.number("the limit")? },
-        _ => Aim::GreatestCentreThickness { surface: words.surface()?, limit_mm: words.number("the limit")? },
+        6 => Aim::GreatestCentreThickness { surface: words.surface()?, limit_mm: words.number("the limit")? },
+        _ => Aim::LeastEdgeThickness { surface: words.surface()?, limit_mm: words.number("the limit")? },
     })
 }
 

@@ -4,7 +4,8 @@ use crate::lens::{Aim, Quantity};
 
 pub const KEYWORDS: [&str; 7] = ["job", "slots", "pupil", "surface", "vary", "want", "run"];
 pub const QUANTITIES: [&str; 4] = ["curvature", "thickness", "conic", "semi-diameter"];
-pub const AIMS: [&str; 7] = ["focal-length", "f-number", "track", "back-focus", "magnification", "centre-at-least", "centre-at-most"];
+pub const AIMS: [&str; 8] =
+    ["focal-length", "f-number", "track", "back-focus", "magnification", "centre-at-least", "centre-at-most", "edge-at-least"];
 pub const RUNS: [&str; 3] = ["damped", "multi-start", "annealing"];
 pub const DAMPED_SETTINGS: [&str; 5] = ["iterations", "damping", "merit-tolerance", "gradient-tolerance", "relative-step"];
 pub const MULTI_START_SETTINGS: [&str; 7] = ["iterations", "damping", "merit-tolerance", "gradient-tolerance", "relative-step", "trials", "seed"];
@@ -30,14 +31,16 @@ pub fn run_name(run: &Run) -> &'static str {
 /// What an operand looks at, as it is written after `want`. A slot that is not there goes by its number, from 1.
 pub fn aim_name(aim: &Aim, slots: &[String]) -> String {
     let slot = |at: usize| slots.get(at).cloned().unwrap_or_else(|| (at as u128 + 1).to_string());
+    let limited = |name: &str, surface: usize, limit_mm: f64| format!("{name} {} {}", surface as u128 + 1, crate::shortest(limit_mm));
     match *aim {
         Aim::FocalLength { slot: at } => format!("{} {}", AIMS[0], slot(at)),
         Aim::FNumber { slot: at } => format!("{} {}", AIMS[1], slot(at)),
         Aim::Track => AIMS[2].to_string(),
         Aim::BackFocus { slot: at } => format!("{} {}", AIMS[3], slot(at)),
         Aim::Magnification { slot: at } => format!("{} {}", AIMS[4], slot(at)),
-        Aim::LeastCentreThickness { surface, limit_mm } => format!("{} {} {}", AIMS[5], surface as u128 + 1, crate::shortest(limit_mm)),
-        Aim::GreatestCentreThickness { surface, limit_mm } => format!("{} {} {}", AIMS[6], surface as u128 + 1, crate::shortest(limit_mm)),
+        Aim::LeastCentreThickness { surface, limit_mm } => limited(AIMS[5], surface, limit_mm),
+        Aim::GreatestCentreThickness { surface, limit_mm } => limited(AIMS[6], surface, limit_mm),
+        Aim::LeastEdgeThickness { surface, limit_mm } => limited(AIMS[7], surface, limit_mm),
     }
 }
 

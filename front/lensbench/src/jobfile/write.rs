@@ -3,7 +3,7 @@ use super::names::{aim_name, quantity_name, run_name};
 use super::Entry;
 use crate::format::shortest;
 use crate::job::{Annealing, Damped, Run};
-use crate::lens::{Aim, Operand, Surface, Variable};
+use crate::lens::{Operand, Surface, Variable};
 
 /// The job as a file has it. The line `run` is left out where the entry has none.
 pub fn write(entry: &Entry) -> String {
@@ -41,8 +41,8 @@ fn variable(v: &Variable) -> String {
 }
 
 fn operand(o: &Operand, slots: &[String]) -> String {
-    let limit = matches!(o.aim, Aim::LeastCentreThickness { .. } | Aim::GreatestCentreThickness { .. });
-    let target = if limit && o.target.to_bits() == 0 { String::new() } else { format!(" target {}", shortest(o.target)) };
+    let limit = o.aim.surface_and_limit();
+    let target = if limit.is_some() && o.target.to_bits() == 0 { String::new() } else { format!(" target {}", shortest(o.target)) };
     let weight = if o.weight == 1.0 { String::new() } else { format!(" weight {}", shortest(o.weight)) };
     format!("want {}{target}{weight}", aim_name(&o.aim, slots))
 }

@@ -86,14 +86,15 @@ fn variable(d: &mut Dice, lens: &Lens) -> Variable {
 
 fn operand(d: &mut Dice, lens: &Lens) -> Operand {
     let (slot, surface, limit_mm) = (d.below(lens.slots), d.below(lens.surfaces.len() + 1), d.between(0.5, 9.0));
-    let (aim, target) = match d.below(7) {
+    let (aim, target) = match d.below(8) {
         0 => (Aim::FocalLength { slot }, d.between(20.0, 150.0)),
         1 => (Aim::FNumber { slot }, d.between(2.0, 12.0)),
         2 => (Aim::Track, d.between(10.0, 80.0)),
         3 => (Aim::BackFocus { slot }, d.between(5.0, 120.0)),
         4 => (Aim::Magnification { slot }, d.between(-1.0, 1.0)),
         5 => (Aim::LeastCentreThickness { surface, limit_mm }, 0.0),
-        _ => (Aim::GreatestCentreThickness { surface, limit_mm }, 0.0),
+        6 => (Aim::GreatestCentreThickness { surface, limit_mm }, 0.0),
+        _ => (Aim::LeastEdgeThickness { surface, limit_mm }, 0.0),
     };
     Operand { aim, target, weight: d.pick(&[1.0, 1.0, 0.25, 3.0, 100.0, 0.0]) }
 }
@@ -173,7 +174,10 @@ pub fn faulty(d: &mut Dice) -> Job {
         9 => job.variables[v].surface = d.pick(&[16, 255, usize::MAX]),
         10 => job.operands[o].target = odd,
         11 => job.operands[o].weight = odd,
-        12 => job.operands[o].aim = Aim::LeastCentreThickness { surface: s, limit_mm: odd },
+        12 => {
+            job.operands[o].aim =
+                d.pick(&[Aim::LeastCentreThickness { surface: s, limit_mm: odd }, Aim::LeastEdgeThickness { surface: s, limit_mm: odd }])
+        }
         13 => job.operands[o].aim = Aim::BackFocus { slot: d.pick(&[4, 17, usize::MAX]) },
         14 => job.variables.clear(),
         15 => job.operands.clear(),

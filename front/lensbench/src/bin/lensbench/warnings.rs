@@ -68,9 +68,12 @@ fn of_variable(job: &Job, i: usize, v: &Variable) -> Vec<String> {
 
 fn of_operand(job: &Job, o: &Operand) -> Vec<String> {
     let mut found = Vec::new();
-    if let Aim::LeastCentreThickness { surface, .. } | Aim::GreatestCentreThickness { surface, .. } = o.aim {
-        if surface >= job.lens.surfaces.len() {
+    if let Some((surface, _)) = o.aim.surface_and_limit() {
+        let count = job.lens.surfaces.len();
+        if surface >= count {
             found.push(format!("surface {} is not there: the operand counts 100000 whatever the lens is", surface as u128 + 1));
+        } else if matches!(o.aim, Aim::LeastEdgeThickness { .. }) && surface + 1 == count {
+            found.push(format!("surface {count} is the last: it has no edge, and the operand counts 100000 whatever the lens is"));
         }
     }
     if o.weight == 0.0 {
