@@ -18,14 +18,12 @@ ghost use Rattle.held.specs.JobFrom.{variableCountFrom, operandCountFrom, varia
 ghost use Rattle.held.specs.RowFrom.{dampedFrom};
 ghost use Rattle.dls.specs.Found.{ForFound};
 use crate::attempts::resume_rejected;
-use crate::flat::lay;
 use crate::states::at_plus;
 use crate::states::ended;
 use floats::is_finite;
 use floats::max;
 use held::Head;
 use held::apply_values;
-use held::stand;
 use heldmerit::merit_of;
 use heldmerit::residuals_of;
 use jobs::DlsConfig;
@@ -96,9 +94,7 @@ fn moved(
         after ≡ withCurrent before (moved o (now (candidate .entry)) e (currentOf before))) ⌝ }
 {
     let x = *candidate;
-    let s = stand(surfaces);
-    let trial = apply_values(counts, numbers, x, s);
-    lay(trial, surfaces);
+    apply_values(counts, numbers, x, surfaces);
     *params = x;
     let v = *found;
     *values = v;

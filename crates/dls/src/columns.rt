@@ -12,18 +12,17 @@ ghost use Rattle.runs.specs.DampedRow.{currentOf};
 ghost use Rattle.dls.specs.DampedSteps.{optimizer, movedUp, movedDown, withJacobian};
 ghost use Rattle.held.specs.JobFrom.{standing, variableCountFrom, operandCountFrom, variablesFrom};
 ghost use Rattle.held.specs.RowFrom.{dampedFrom};
+ghost use Rattle.held.specs.Standing.{Behind};
 use held::Head;
 use held::active_at;
-use held::apply_values;
+use held::lay_applied;
 use held::operand_count;
-use held::stand;
 use jobs::DlsConfig;
 use normal::delta;
 use normal::denominator;
 use normal::jacobian_column;
 use normal::minus_value;
 use normal::plus_value;
-use optics::OpticalSurface;
 use variables::VariableDef;
 
 // A variable's value moved up, within its bounds.
@@ -42,7 +41,7 @@ fn moved_down(x0: f64, relative: f64, variable: VariableDef) -> f64
     minus_value(x0, by, variable.min_value, variable.max_value)
 }
 
-// The surfaces with all values applied, one of them changed.
+// The surfaces laid with all values applied, one of them changed.
 fn perturbed(
     q: usize,
     x: f64,
@@ -50,18 +49,20 @@ fn perturbed(
     numbers: &[f64],
     surfaces: &[f64; 64],
     params: &[f64; 8],
-) -> [OpticalSurface; 16]
-    requires { ⌜ variableCountFrom (now counts) ≤ mostVariables ⌝ ∗ ⌜ 195 ≤ length (now numbers) ⌝ ∗ ⌜ q < mostVariables ⌝ }
-    ensures { λ r.
-        ⌜ r ≡ applied (variablesFrom (now (counts .entry)) (now (numbers .entry))) (set (now (params .entry)) q x) (standing (now (surfaces .entry))) ⌝ }
+    flat: &mut [f64],
+)
+    requires { ⌜ variableCountFrom (now counts) ≤ mostVariables ⌝ ∗ ⌜ 195 ≤ length (now numbers) ⌝ ∗ ⌜ q < mostVariables ⌝ ∗ ⌜ 64 ≤ length (now flat) ⌝ }
+    ensures { λ _.
+        ⌜ standing (now (flat .exit)) ≡ applied (variablesFrom (now (counts .entry)) (now (numbers .entry))) (set (now (params .entry)) q x)
+        (standing (now (surfaces .entry))) ⌝
+        ∗ ⌜ Behind (now (flat .entry)) (now (flat .exit)) ⌝ }
 {
     let mut moved = *params;
     moved[q] = x;
-    let s = stand(surfaces);
-    apply_values(counts, numbers, moved, s)
+    lay_applied(counts, numbers, moved, surfaces, flat);
 }
 
-// The surfaces with the parameter of this column moved up.
+// The surfaces with the parameter of this column moved up, laid where their merit is worked out.
 pub fn presc_plus(
     h: Head,
     config: DlsConfig,
@@ -69,19 +70,24 @@ pub fn presc_plus(
     numbers: &[f64],
     surfaces: &[f64; 64],
     params: &[f64; 8],
-) -> [OpticalSurface; 16]
-    requires { ⌜ variableCountFrom (now counts) ≤ mostVariables ⌝ ∗ ⌜ 195 ≤ length (now numbers) ⌝ ∗ ⌜ h .column < mostVariables ⌝ }
-    ensures { λ r.
+    flat: &mut [f64],
+)
+    requires { ⌜ variableCountFrom (now counts) ≤ mostVariables ⌝
+        ∗ ⌜ 195 ≤ length (now numbers) ⌝
+        ∗ ⌜ h .column < mostVariables ⌝
+        ∗ ⌜ 64 ≤ length (now flat) ⌝ }
+    ensures { λ _.
         ⌜ ((m : ℕ) (jacobian values residuals plus candidate : List Float) →
         let o = optimizer config (variablesFrom (now (counts .entry)) (now (numbers .entry))) m in
         let state = dampedFrom h (now (surfaces .entry)) jacobian values residuals plus (now (params .entry)) candidate in
-        r ≡ prescPlus o (currentOf state) (h .column)) ⌝ }
+        standing (now (flat .exit)) ≡ prescPlus o (currentOf state) (h .column)) ⌝
+        ∗ ⌜ Behind (now (flat .entry)) (now (flat .exit)) ⌝ }
 {
     let q = h.column as usize;
     let variable = active_at(counts, numbers, q);
     let x0 = params[q];
     let x = moved_up(x0, config.finite_difference_relative_step, variable);
-    perturbed(q, x, counts, numbers, surfaces, params)
+    perturbed(q, x, counts, numbers, surfaces, params, flat);
 }
 
 // The surfaces with it moved down.
@@ -92,19 +98,24 @@ pub fn presc_minus(
     numbers: &[f64],
     surfaces: &[f64; 64],
     params: &[f64; 8],
-) -> [OpticalSurface; 16]
-    requires { ⌜ variableCountFrom (now counts) ≤ mostVariables ⌝ ∗ ⌜ 195 ≤ length (now numbers) ⌝ ∗ ⌜ h .column < mostVariables ⌝ }
-    ensures { λ r.
+    flat: &mut [f64],
+)
+    requires { ⌜ variableCountFrom (now counts) ≤ mostVariables ⌝
+        ∗ ⌜ 195 ≤ length (now numbers) ⌝
+        ∗ ⌜ h .column < mostVariables ⌝
+        ∗ ⌜ 64 ≤ length (now flat) ⌝ }
+    ensures { λ _.
         ⌜ ((m : ℕ) (jacobian values residuals plus candidate : List Float) →
         let o = optimizer config (variablesFrom (now (counts .entry)) (now (numbers .entry))) m in
         let state = dampedFrom h (now (surfaces .entry)) jacobian values residuals plus (now (params .entry)) candidate in
-        r ≡ prescMinus o (currentOf state) (h .column)) ⌝ }
+        standing (now (flat .exit)) ≡ prescMinus o (currentOf state) (h .column)) ⌝
+        ∗ ⌜ Behind (now (flat .entry)) (now (flat .exit)) ⌝ }
 {
     let q = h.column as usize;
     let variable = active_at(counts, numbers, q);
     let x0 = params[q];
     let x = moved_down(x0, config.finite_difference_relative_step, variable);
-    perturbed(q, x, counts, numbers, surfaces, params)
+    perturbed(q, x, counts, numbers, surfaces, params, flat);
 }
 
 // What lies between the parameter moved up and moved down.

@@ -9,8 +9,9 @@ ghost use Rattle.variables.specs.Active.{numActive};
 ghost use Rattle.runs.specs.DampedRow as Damped;
 ghost use Rattle.runs.specs.DampedRow.{pending, advance, advanceAt};
 ghost use Rattle.dls.specs.DampedSteps.{optimizer, ScratchKept};
-ghost use Rattle.held.specs.JobFrom.{variableCountFrom, operandCountFrom, variablesFrom};
+ghost use Rattle.held.specs.JobFrom.{standing, variableCountFrom, operandCountFrom, variablesFrom};
 ghost use Rattle.held.specs.RowFrom.{dampedFrom};
+ghost use Rattle.held.specs.Standing.{Behind};
 ghost use Rattle.dls.specs.Found.{ForFound};
 use crate::accepting::advance_candidate;
 use crate::accepting::resume_iterations;
@@ -21,16 +22,15 @@ use crate::columns::with_differences;
 use crate::states::at_minus;
 use crate::states::at_plus;
 use held::Head;
-use held::apply_values;
+use held::copy;
 use held::extract_values;
+use held::lay_applied;
 use held::num_active;
-use held::stand;
 use heldmerit::merit_of;
 use heldmerit::residuals_of;
 use jobs::DlsConfig;
-use optics::OpticalSurface;
 
-// The surfaces whose merit comes next.
+// The surfaces whose merit comes next, laid where it is worked out.
 pub fn pending_damped(
     h: Head,
     config: DlsConfig,
@@ -39,29 +39,34 @@ pub fn pending_damped(
     surfaces: &[f64; 64],
     params: &[f64; 8],
     candidate: &[f64; 8],
-) -> [OpticalSurface; 16]
+    flat: &mut [f64],
+)
     requires { ⌜ variableCountFrom (now counts) ≤ mostVariables ⌝
         ∗ ⌜ 195 ≤ length (now numbers) ⌝
-        ∗ ⌜ h .column < numActive (variablesFrom (now counts) (now numbers)) ⌝ }
-    ensures { λ r.
+        ∗ ⌜ h .column < numActive (variablesFrom (now counts) (now numbers)) ⌝
+        ∗ ⌜ 64 ≤ length (now flat) ⌝ }
+    ensures { λ _.
         ⌜ ((m : ℕ) (jacobian values residuals plus : List Float) →
         let o = optimizer config (variablesFrom (now (counts .entry)) (now (numbers .entry))) m in
         let state = dampedFrom h (now (surfaces .entry)) jacobian values residuals plus (now (params .entry)) (now (candidate .entry)) in
-        r ≡ pending o state) ⌝ }
+        standing (now (flat .exit)) ≡ pending o state) ⌝
+        ∗ ⌜ Behind (now (flat .entry)) (now (flat .exit)) ⌝ }
 {
     let phase = h.phase;
     if phase == 1 {
-        return presc_plus(h, config, counts, numbers, surfaces, params);
+        presc_plus(h, config, counts, numbers, surfaces, params, flat);
+        return;
     }
     if phase == 2 {
-        return presc_minus(h, config, counts, numbers, surfaces, params);
+        presc_minus(h, config, counts, numbers, surfaces, params, flat);
+        return;
     }
-    let s = stand(surfaces);
     if phase == 3 {
         let x = *candidate;
-        return apply_values(counts, numbers, x, s);
+        lay_applied(counts, numbers, x, surfaces, flat);
+        return;
     }
-    s
+    copy(surfaces, flat);
 }
 
 // The first merit is of the surfaces as they are; the parameters are read from them.

@@ -3,11 +3,9 @@ mod accepting;
 mod attempts;
 mod columns;
 mod damped;
-mod flat;
 mod states;
 
 pub use damped::advance_damped;
 pub use damped::pending_damped;
-pub use flat::lay;
 pub use states::at_first;
 pub use states::holding;

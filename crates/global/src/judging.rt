@@ -71,9 +71,7 @@ fn accepted(
         after ≡ Run.accepted a (now (candidate .entry)) merit walking) ⌝ }
 {
     let x = *candidate;
-    let s = held::stand(surfaces);
-    let trial = held::apply_values(counts, numbers, x, s);
-    dls::lay(trial, surfaces);
+    held::apply_values(counts, numbers, x, surfaces);
     *params = x;
     let mut next = w;
     next.current_merit = merit;

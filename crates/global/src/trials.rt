@@ -38,9 +38,7 @@ fn trial_surfaces(
 {
     let drawn = draws::random_params(generator, counts, numbers);
     let params = drawn.params;
-    let s = held::stand(numbers);
-    let trial = held::apply_values(counts, numbers, params, s);
-    dls::lay(trial, surfaces);
+    held::lay_applied(counts, numbers, params, numbers, surfaces);
     drawn.generator
 }
 

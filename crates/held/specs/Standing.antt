@@ -4,13 +4,21 @@ use mathlib.Core.List.{List, [], _∷_, _++_, append-assoc}
 use Prim.Native.Nat.{ℕ, zero, suc, _+_, _*_, _≤_, _<_}
 use native.Mathlib.Omega.{arith}
 use lib.Ieee.{Float, nan}
-use lib.ListN.{length, getD}
+use lib.ListN.{length, getD, drop}
 use Rattle.lists.specs.Tab.{tab, length-tab, getD-tab, tab-same, tab-self}
 use Rattle.optics.specs.Types.{noSurface, surfaceAt, flatSurface}
 use Rattle.optics.specs.Flat.{numbersOf, laidFlat}
 use Rattle.optics.specs.FlatLaws.{flat-laid}
 use Rattle.optics.specs.declared.types.OpticalSurface.{OpticalSurface}
 use Rattle.held.specs.JobFrom.{standing}
+
+-- what lies behind sixteen surfaces stays
+pub record Behind (l l' : List Float) : Type 0 where
+  pub long : length l' ≡ length l
+  pub rest : drop 64 l' ≡ drop 64 l
+
+pub behind-on : {a b c : List Float} → Behind a b → Behind b c → Behind a c
+behind-on p q = record { long = q .long ∙ p .long; rest = q .rest ∙ p .rest }
 
 -- a list of n is the one of its n entries
 pub whole : {A : Type 0} (l : List A) (d : A) (n : ℕ) → length l ≡ n → tab (λ (i : ℕ). getD l i d) n ≡ l

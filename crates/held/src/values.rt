@@ -4,14 +4,16 @@ ghost use mathlib.Core.List.{_++_};
 ghost use Prim.Native.Nat.{_*_, _≤_};
 ghost use lib.ListN.{length, drop};
 ghost use Rattle.optics.specs.Flat.{laidFlat};
-ghost use Rattle.variables.specs.Kinds.{valueOf};
+ghost use Rattle.variables.specs.Kinds.{valueOf, applyClamp, put};
 ghost use Rattle.variables.specs.Values.{extracted, clampedValues, applied};
 ghost use Rattle.held.specs.JobFrom.{standing, surfaceCountFrom, variableCountFrom, variablesFrom};
+ghost use Rattle.held.specs.Standing.{Behind};
 use crate::entries::surface_count;
 use crate::entries::variable_at;
 use crate::entries::variable_count;
-use crate::flat::stand;
-use optics::OpticalSurface;
+use crate::flat::copy;
+use crate::flat::put_surface;
+use variables::VariableDef;
 use variables::VariableType;
 
 // A variable's quantity as it stands in surfaces laid flat.
@@ -68,34 +70,51 @@ pub fn clamp_values(counts: &[u64; 57], numbers: &[f64], values: [f64; 8]) -> [f
     x
 }
 
-// The surfaces with each value clamped and stored, one field at a time, in rising order of the variables.
-pub fn apply_values(
-    counts: &[u64; 57],
-    numbers: &[f64],
-    values: [f64; 8],
-    surfaces: [OpticalSurface; 16],
-) -> [OpticalSurface; 16]
-    requires { ⌜ variableCountFrom (now counts) ≤ 8 ⌝ ∗ ⌜ 195 ≤ length (now numbers) ⌝ }
-    ensures { λ r. ⌜ r ≡ applied (variablesFrom (now (counts .entry)) (now (numbers .entry))) values surfaces ⌝ }
+// One value clamped and stored in its variable's surface, one field of it.
+fn apply_variable(d: VariableDef, value: f64, flat: &mut [f64])
+    requires { ⌜ 64 ≤ length (now flat) ⌝ }
+    ensures { λ _. ⌜ standing (now (flat .exit)) ≡ put (standing (now (flat .entry))) (d .«var_type») (applyClamp value (d .«min_value») (d .«max_value»)) ⌝ ∗ ⌜ Behind (now (flat .entry)) (now (flat .exit)) ⌝ }
+{
+    let kind = d.var_type;
+    let x = variables::apply_clamp(value, d.min_value, d.max_value);
+    let at = variables::surface_index(kind);
+    if at < 16 {
+        let old = optics::surface_at(flat, at);
+        put_surface(flat, at, variables::with_value(old, kind, x));
+    }
+}
+
+// The surfaces that stand in flat numbers with each value applied, in rising order of the variables.
+pub fn apply_values(counts: &[u64; 57], numbers: &[f64], values: [f64; 8], flat: &mut [f64])
+    requires { ⌜ variableCountFrom (now counts) ≤ 8 ⌝ ∗ ⌜ 195 ≤ length (now numbers) ⌝ ∗ ⌜ 64 ≤ length (now flat) ⌝ }
+    ensures { λ _. ⌜ standing (now (flat .exit)) ≡ applied (variablesFrom (now (counts .entry)) (now (numbers .entry))) values (standing (now (flat .entry))) ⌝ ∗ ⌜ Behind (now (flat .entry)) (now (flat .exit)) ⌝ }
 {
     let count = variable_count(counts);
-    let mut s = surfaces;
     let mut q: usize = 0;
     let mut i: usize = 0;
     while i < count {
         let d = variable_at(counts, numbers, i);
         if d.enabled {
-            let kind = d.var_type;
-            let x = variables::apply_clamp(values[q], d.min_value, d.max_value);
-            let at = variables::surface_index(kind);
-            if at < 16 {
-                let old = s[at];
-                let new = variables::with_value(old, kind, x);
-                s[at] = new;
-            }
+            apply_variable(d, values[q], flat);
             q += 1;
         }
         i += 1;
     }
-    s
+}
+
+// The surfaces of flat numbers laid in others, with each value applied.
+pub fn lay_applied(
+    counts: &[u64; 57],
+    numbers: &[f64],
+    values: [f64; 8],
+    surfaces: &[f64],
+    flat: &mut [f64],
+)
+    requires { ⌜ variableCountFrom (now counts) ≤ 8 ⌝ ∗ ⌜ 195 ≤ length (now numbers) ⌝ ∗ ⌜ 64 ≤ length (now surfaces) ⌝ ∗ ⌜ 64 ≤ length (now flat) ⌝ }
+    ensures { λ _.
+        ⌜ standing (now (flat .exit)) ≡ applied (variablesFrom (now (counts .entry)) (now (numbers .entry))) values (standing (now (surfaces .entry))) ⌝
+        ∗ ⌜ Behind (now (flat .entry)) (now (flat .exit)) ⌝ }
+{
+    copy(surfaces, flat);
+    apply_values(counts, numbers, values, flat);
 }

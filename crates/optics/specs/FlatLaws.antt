@@ -54,12 +54,23 @@ module _ (surfaces : List OpticalSurface) (index : ℕ → Float) (pupil : Float
   pub paraxial-flat : paraxialOf (flatSurface (laidFlat surfaces n ++ rest)) index pupil n ≡ paraxialOf (surfaceAt surfaces) index pupil n
   paraxial-flat = paraxial-same (flatSurface (laidFlat surfaces n ++ rest)) (surfaceAt surfaces) index index pupil n (flat-laid surfaces n rest) (λ i h. refl)
 
+-- four stores write the numbers of a surface
+pub four-stored : (l : List Float) (i : ℕ) (s : OpticalSurface)
+    → set (set (set (set l i (s .«radius_mm»)) (i + 1) (s .«conic_constant»)) (i + 2) (s .«thickness_mm»)) (i + 3) (s .«semi_diameter_mm») ≡ sets l i (numbersOf s)
+four-stored l i s = λ j. set (set (set (set l i (s .«radius_mm»)) (add-one i j) (s .«conic_constant»)) (two i j) (s .«thickness_mm»)) (three i j) (s .«semi_diameter_mm»)
+  where
+    two : (i : ℕ) → i + 2 ≡ suc (suc i)
+    two i = omega arith
+
+    three : (i : ℕ) → i + 3 ≡ suc (suc (suc i))
+    three i = omega arith
+
 -- four stores make the laid part longer by one surface
 pub laid-more : (surfaces : List OpticalSurface) (l p : List Float) (k : ℕ) → p ≡ laidFlat surfaces k ++ drop (4 * k) l → 4 * k + 4 ≤ length l
     → set (set (set (set p (4 * k) (surfaceAt surfaces k .«radius_mm»)) (4 * k + 1) (surfaceAt surfaces k .«conic_constant»)) (4 * k + 2) (surfaceAt surfaces k .«thickness_mm»)) (4 * k + 3) (surfaceAt surfaces k .«semi_diameter_mm»)
     ≡ laidFlat surfaces (k + 1) ++ drop (4 * (k + 1)) l
 unfolding laidFlat
-laid-more surfaces l p k e h = rw e (stored ∙ sets-eq (numbersOf s) (q ++ drop i l) i room ∙ parts ∙ rw add-one)
+laid-more surfaces l p k e h = rw e (four-stored (q ++ drop i l) i s ∙ sets-eq (numbersOf s) (q ++ drop i l) i room ∙ parts ∙ rw add-one)
   where
     s : OpticalSurface
     s = surfaceAt surfaces k
@@ -70,17 +81,8 @@ laid-more surfaces l p k e h = rw e (stored ∙ sets-eq (numbersOf s) (q ++ drop
     i : ℕ
     i = 4 * k
 
-    two : (i : ℕ) → i + 2 ≡ suc (suc i)
-    two i = omega arith
-
-    three : (i : ℕ) → i + 3 ≡ suc (suc (suc i))
-    three i = omega arith
-
     more : (k : ℕ) → 4 * k + 4 ≡ 4 * suc k
     more k = omega arith
-
-    stored : set (set (set (set (q ++ drop i l) i (s .«radius_mm»)) (i + 1) (s .«conic_constant»)) (i + 2) (s .«thickness_mm»)) (i + 3) (s .«semi_diameter_mm») ≡ sets (q ++ drop i l) i (numbersOf s)
-    stored = λ j. set (set (set (set (q ++ drop i l) i (s .«radius_mm»)) (add-one i j) (s .«conic_constant»)) (two i j) (s .«thickness_mm»)) (three i j) (s .«semi_diameter_mm»)
 
     room : i + 4 ≤ length (q ++ drop i l)
     room = rw (length-append, length-laid surfaces k, length-drop) (omega arith)

@@ -65,7 +65,18 @@ fn pending_parts(
     }
     let h = held::head_of(words, scalars);
     let kind = held::kind(words);
-    let pending = turns::pending_surfaces(h, kind, counts, numbers, surfaces, params, candidate);
+    let mut flat = [0.0; 64];
+    turns::pending_surfaces(
+        h,
+        kind,
+        counts,
+        numbers,
+        surfaces,
+        params,
+        candidate,
+        &mut flat,
+    );
+    let pending = held::stand(&flat);
     Pending {
         surfaces: pending,
         merit: merit_at(pending, counts, numbers),

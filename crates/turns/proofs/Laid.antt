@@ -2,42 +2,32 @@
 use mathlib.Core.Path.{_≡_, sym, ap, _∙_}
 use mathlib.Core.Bool.{true}
 use mathlib.Core.List.{List, _++_}
-use Prim.Native.Nat.{ℕ, _+_, _-_, _*_, _≤_}
+use Prim.Native.Nat.{ℕ, _*_, _≤_}
 use native.Mathlib.Omega.{arith}
-use borrow.Author.Tests.{eqb-true, not-false}
-use lib.Ieee.{Float}
-use lib.ListN.{length, drop, length-append, length-drop}
-use lib.Seq.{drop-append-add, drop-drop}
-use Rattle.normal.specs.Layout.{scratchLength}
+use lib.Ieee.{Float, nan}
+use lib.ListN.{length, getD, take, drop, take-append-drop}
+use lib.Seq.{length-take-le, getD-take, drop-drop}
+use Rattle.lists.specs.Tab.{tab, tab-same}
 use Rattle.optics.specs.Flat.{laidFlat}
-use Rattle.optics.specs.FlatLaws.{length-laid}
-use Rattle.optics.specs.declared.types.OpticalSurface.{OpticalSurface}
 use Rattle.merit.specs.Steps.{SlotsKnown}
-use Rattle.merit.specs.Check.{operandsTaken}
 use Rattle.merit.specs.CheckLaws.{slots-known}
 use Rattle.jobs.specs.declared.types.Job.{Job}
 use Rattle.jobs.specs.Checks.{jobTaken}
 use Rattle.jobs.specs.Passed.{passed}
-use Rattle.jobs.specs.RefusalLaws.{not-refused}
+use Rattle.held.specs.JobFrom.{standing}
+use Rattle.held.specs.Standing.{Behind, whole, first-laid}
 use Rattle.dls.specs.DampedSteps.{ScratchKept}
 
-module _ (surfaces : List OpticalSurface) (n : ℕ) (few : n ≤ 16) (l : List Float) (room : scratchLength ≤ length l) where
-  abbrev laid : List Float
-  laid = laidFlat surfaces n
+-- the first surfaces that stand at the start of numbers lie there
+pub lies : (l : List Float) (n : ℕ) → n ≤ 16 → 64 ≤ length l → l ≡ laidFlat (standing l) n ++ drop (4 * n) l
+lies l n few room = sym (ap (λ (p : List Float). p ++ drop (4 * n) l) (first-laid l n few ∙ taken) ∙ take-append-drop (4 * n) l)
+  where
+    taken : tab (λ (i : ℕ). getD l i nan) (4 * n) ≡ take (4 * n) l
+    taken = tab-same _ _ (4 * n) (λ i h. sym (getD-take (4 * n) l i nan h)) ∙ whole (take (4 * n) l) nan (4 * n) (length-take-le (4 * n) l (omega arith))
 
-  laid-long : length (laid ++ drop (4 * n) l) ≡ length l
-  laid-long = rw (length-append, length-laid surfaces n, length-drop) (omega arith)
-
-  laid-rest : drop scratchLength (laid ++ drop (4 * n) l) ≡ drop scratchLength l
-  laid-rest =
-      let split : scratchLength ≡ 4 * n + (scratchLength - 4 * n) = omega arith in
-      ap (λ (k : ℕ). drop k (laid ++ drop (4 * n) l)) (split ∙ ap (λ (k : ℕ). k + (scratchLength - 4 * n)) (sym (length-laid surfaces n)))
-      ∙ drop-append-add laid (drop (4 * n) l) (scratchLength - 4 * n)
-      ∙ drop-drop (scratchLength - 4 * n) (4 * n) l
-      ∙ ap (λ (k : ℕ). drop k l) (sym split)
-
-  pub laid-kept : ScratchKept l (laid ++ drop (4 * n) l)
-  laid-kept = record { long = laid-long; rest = laid-rest }
+-- what lies behind sixteen surfaces lies behind scratch too
+pub behind-kept : {l l′ : List Float} → Behind l l′ → ScratchKept l l′
+behind-kept {l} {l′} b = record { long = b .long; rest = sym (drop-drop 192 64 l′) ∙ ap (drop 192) (b .rest) ∙ drop-drop 192 64 l }
 
 -- the slots that the operands of a job that is taken name
 pub operands-known : (job : Job) → jobTaken job ≡ true → SlotsKnown (job .«merit_function»)

@@ -14,7 +14,7 @@ ghost use Rattle.runs.specs.AnnealingRow as Annealing;
 ghost use Rattle.runs.specs.Rows.{advanceBy};
 ghost use Rattle.dls.specs.DampedSteps.{optimizer, ScratchKept};
 ghost use Rattle.held.specs.JobFrom.{variableCountFrom, operandCountFrom, settingsFrom, variablesFrom, heldJob};
-ghost use Rattle.held.specs.RowFrom.{dampedFrom, stateFrom};
+ghost use Rattle.held.specs.RowFrom.{stateFrom};
 ghost use Rattle.dls.specs.Found.{ForFound};
 use held::RowHead;
 use heldmerit::merit_of;

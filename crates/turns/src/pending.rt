@@ -1,4 +1,4 @@
-// The surfaces whose merit comes next, by kind and phase.
+// The surfaces whose merit comes next, by kind and phase, laid where it is worked out.
 ghost use mathlib.Core.Path.{_≡_};
 ghost use mathlib.Core.List.{List};
 ghost use Prim.Native.Nat.{_≤_, _<_};
@@ -7,11 +7,11 @@ ghost use lib.ListN.{length};
 ghost use Rattle.variables.specs.Active.{numActive};
 ghost use Rattle.runs.specs.AnnealingRow as Annealing;
 ghost use Rattle.runs.specs.Rows.{pendingBy};
-ghost use Rattle.held.specs.JobFrom.{variableCountFrom, variablesFrom, heldJob};
+ghost use Rattle.held.specs.JobFrom.{standing, variableCountFrom, variablesFrom, heldJob};
 ghost use Rattle.held.specs.RowFrom.{stateFrom};
+ghost use Rattle.held.specs.Standing.{Behind};
 ghost use Rattle.global.specs.Parts.{ForAnnealer};
 use held::RowHead;
-use optics::OpticalSurface;
 
 // Annealing: the base, a step's trial, or the polish's.
 fn pending_annealing(
@@ -21,23 +21,27 @@ fn pending_annealing(
     surfaces: &[f64; 64],
     params: &[f64; 8],
     candidate: &[f64; 8],
-) -> [OpticalSurface; 16]
+    flat: &mut [f64],
+)
     requires { ⌜ variableCountFrom (now counts) ≤ 8 ⌝
         ∗ ⌜ 195 ≤ length (now numbers) ⌝
-        ∗ ⌜ h .damped .column < numActive (variablesFrom (now counts) (now numbers)) ⌝ }
-    ensures { λ r.
+        ∗ ⌜ h .damped .column < numActive (variablesFrom (now counts) (now numbers)) ⌝
+        ∗ ⌜ 64 ≤ length (now flat) ⌝ }
+    ensures { λ _.
         ⌜ ForAnnealer (variablesFrom (now (counts .entry)) (now (numbers .entry))) (λ a. (jacobian values residuals plus bs bv br : List Float) →
         let state = stateFrom h (now (surfaces .entry)) jacobian values residuals plus (now (params .entry)) (now (candidate .entry)) bs bv br in
-        r ≡ Annealing.pending a state) ⌝ }
+        standing (now (flat .exit)) ≡ Annealing.pending a state) ⌝
+        ∗ ⌜ Behind (now (flat .entry)) (now (flat .exit)) ⌝ }
 {
     let damped = h.damped;
     if damped.phase == 5 {
-        return held::stand(surfaces);
+        held::copy(surfaces, flat);
+        return;
     }
     if damped.phase == 6 {
         let x = *candidate;
-        let s = held::stand(surfaces);
-        return held::apply_values(counts, numbers, x, s);
+        held::lay_applied(counts, numbers, x, surfaces, flat);
+        return;
     }
     dls::pending_damped(
         damped,
@@ -47,7 +51,8 @@ fn pending_annealing(
         surfaces,
         params,
         candidate,
-    )
+        flat,
+    );
 }
 
 pub fn pending_surfaces(
@@ -58,23 +63,46 @@ pub fn pending_surfaces(
     surfaces: &[f64; 64],
     params: &[f64; 8],
     candidate: &[f64; 8],
-) -> [OpticalSurface; 16]
+    flat: &mut [f64],
+)
     requires { ⌜ variableCountFrom (now counts) ≤ 8 ⌝
         ∗ ⌜ 195 ≤ length (now numbers) ⌝
-        ∗ ⌜ h .damped .column < numActive (variablesFrom (now counts) (now numbers)) ⌝ }
-    ensures { λ r.
+        ∗ ⌜ h .damped .column < numActive (variablesFrom (now counts) (now numbers)) ⌝
+        ∗ ⌜ 64 ≤ length (now flat) ⌝ }
+    ensures { λ _.
         ⌜ ((jacobian values residuals plus bs bv br : List Float) →
         let job = heldJob (now (counts .entry)) (now (numbers .entry)) kind in
         let state = stateFrom h (now (surfaces .entry)) jacobian values residuals plus (now (params .entry)) (now (candidate .entry)) bs bv br in
-        r ≡ pendingBy (job .method) job state) ⌝ }
+        standing (now (flat .exit)) ≡ pendingBy (job .method) job state) ⌝
+        ∗ ⌜ Behind (now (flat .entry)) (now (flat .exit)) ⌝ }
 {
     let damped = h.damped;
     let config = held::dls_config(counts, numbers);
     if kind == 1 {
-        return dls::pending_damped(damped, config, counts, numbers, surfaces, params, candidate);
+        dls::pending_damped(
+            damped,
+            config,
+            counts,
+            numbers,
+            surfaces,
+            params,
+            candidate,
+            flat,
+        );
+        return;
     }
     if kind == 2 {
-        return dls::pending_damped(damped, config, counts, numbers, surfaces, params, candidate);
+        dls::pending_damped(
+            damped,
+            config,
+            counts,
+            numbers,
+            surfaces,
+            params,
+            candidate,
+            flat,
+        );
+        return;
     }
-    pending_annealing(h, counts, numbers, surfaces, params, candidate)
+    pending_annealing(h, counts, numbers, surfaces, params, candidate, flat);
 }

@@ -46,8 +46,16 @@ pub fn turned(
         after ≡ turnedBy job before) ⌝
         ∗ ⌜ ScratchKept (now (scratch .entry)) (now (scratch .exit)) ⌝ }
 {
-    let pending = pending_surfaces(h, kind, counts, numbers, surfaces, params, candidate);
-    optics::lay_flat(pending, held::surface_count(counts), scratch);
+    pending_surfaces(
+        h,
+        kind,
+        counts,
+        numbers,
+        surfaces,
+        params,
+        candidate,
+        scratch,
+    );
     let found = heldmerit::values_of(scratch, counts, numbers);
     advance_run(
         h,

@@ -5,14 +5,8 @@ use borrow.Author.Needs.{needs}
 use Rattle.dls.proofs.accepting.moved.Statement.{statement}
 use Rattle.dls.proofs.accepting.moved.Tie as tie
 
-stand-requires : tie.Need-stand-requires
-stand-requires c κs = search needs
-
 apply-values-requires : tie.Need-apply-values-requires
 apply-values-requires c κs = search needs
-
-lay-requires : tie.Need-lay-requires
-lay-requires c κs = search needs
 
 residuals-of-requires : tie.Need-residuals-of-requires
 residuals-of-requires c κs = search needs
@@ -22,15 +16,13 @@ ease-requires c κs = search needs
 
 returns : tie.Need-returns
 unfolding testPresc
-returns c = λ k lens w em config m j p. simp (c .before .before .before .lay .ensures, c .before .before .before .before .before .apply-values .ensures, c .before .before .before .before .before .before .stand .ensures, c .ease .ensures, c .before .residuals-of .ensures k lens w, w, sym em)
+returns c = λ k lens w em config m j p. simp (c .before .before .before .apply-values .ensures .0, c .ease .ensures, c .before .residuals-of .ensures k lens w, w, sym em)
 
 pub moved-spec : {M : Type 1} → statement M
 moved-spec =
     tie.close
     (tie.spec
-    stand-requires
     apply-values-requires
-    lay-requires
     residuals-of-requires
     ease-requires
     returns)

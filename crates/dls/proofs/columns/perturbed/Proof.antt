@@ -9,14 +9,14 @@ mul-moved c = search needs
 array-write-moved : tie.Need-array-write-moved
 array-write-moved c = search needs
 
-stand-requires : tie.Need-stand-requires
-stand-requires c κs = search needs
+lay-applied-requires : tie.Need-lay-applied-requires
+lay-applied-requires c κs = search needs
 
-apply-values-requires : tie.Need-apply-values-requires
-apply-values-requires c κs = search needs
+same-length : tie.Need-same-length
+same-length c = search needs
 
 returns : tie.Need-returns
-returns c = rw (c .before .stand .ensures) at (c .apply-values .ensures)
+returns c = search needs
 
 pub perturbed-spec : {M : Type 1} → statement M
 perturbed-spec =
@@ -24,6 +24,6 @@ perturbed-spec =
     (tie.spec
     mul-moved
     array-write-moved
-    stand-requires
-    apply-values-requires
+    lay-applied-requires
+    same-length
     returns)

@@ -2,6 +2,9 @@
 use Rattle.held.specs.JobFrom.{variablesFrom}
 use Rattle.held.specs.RowFrom.{dampedFrom}
 use Rattle.dls.proofs.Differences.{minus-surfaces}
+use mathlib.Core.List.{List}
+use lib.Ieee.{Float}
+use Rattle.runs.specs.declared.types.DampedState.{DampedState}
 use borrow.Author.Needs.{needs}
 use Rattle.dls.proofs.columns.presc_minus.Statement.{statement}
 use Rattle.dls.proofs.columns.presc_minus.Tie as tie
@@ -21,10 +24,17 @@ moved-down-requires c κs = search needs
 perturbed-requires : tie.Need-perturbed-requires
 perturbed-requires c κs = search needs
 
+same-length : tie.Need-same-length
+same-length c = search needs
+
 returns : tie.Need-returns
-returns c = λ m j v r e d.
-    let x = c .before .before .before .before .before .args in
-    minus-surfaces (x .config) (variablesFrom (x .counts .now) (x .numbers .now)) m (dampedFrom (x .h) (x .surfaces .now) j v r e (x .params .now) d) (c .before .before .before .active-at .ensures) (c .before .moved-down .ensures) (c .perturbed .ensures)
+returns c =
+    let x = c .before .before .before .before .before .before .before .before .before .args in
+    let d : (j v r e d : List Float) → DampedState = λ j v r e d. dampedFrom (x .h) (x .surfaces .now) j v r e (x .params .now) d in
+    let p = c .before .before .perturbed .ensures in (
+      λ m j v r e d′. minus-surfaces (x .config) (variablesFrom (x .counts .now) (x .numbers .now)) m (d j v r e d′) (c .before .before .before .before .before .before .active-at .ensures) (c .before .before .before .before .moved-down .ensures) (p .0),
+      p .1,
+    )
 
 pub presc-minus-spec : {M : Type 1} → statement M
 presc-minus-spec =
@@ -35,4 +45,5 @@ presc-minus-spec =
     element-copy-out-x0
     moved-down-requires
     perturbed-requires
+    same-length
     returns)

@@ -4,22 +4,16 @@ use borrow.Author.Needs.{needs}
 use Rattle.global.proofs.judging.accepted.Statement.{statement}
 use Rattle.global.proofs.judging.accepted.Tie as tie
 
-stand-requires : tie.Need-stand-requires
-stand-requires c κs = search needs
-
 apply-values-requires : tie.Need-apply-values-requires
 apply-values-requires c κs = search needs
 
-lay-requires : tie.Need-lay-requires
-lay-requires c κs = search needs
-
 returns : tie.Need-returns
 unfolding accepted ifBest trialPresc
-returns c = λ a ev. simp (ev, c .before .if1 .taken, c .before .before .before .lay .ensures, c .before .before .before .before .before .apply-values .ensures, c .before .before .before .before .before .before .stand .ensures)
+returns c = λ a ev. simp (ev, c .before .if1 .taken, c .before .before .before .apply-values .ensures .0)
 
 returns-2 : tie.Need-returns-2
 unfolding accepted ifBest trialPresc
-returns-2 c = λ a ev. simp (ev, c .if1 .left, c .before .before .lay .ensures, c .before .before .before .before .apply-values .ensures, c .before .before .before .before .before .stand .ensures)
+returns-2 c = λ a ev. simp (ev, c .if1 .left, c .before .before .apply-values .ensures .0)
 
 pub accepted-spec : {M : Type 1} → statement M
-accepted-spec = tie.close (tie.spec stand-requires apply-values-requires lay-requires returns returns-2)
+accepted-spec = tie.close (tie.spec apply-values-requires returns returns-2)

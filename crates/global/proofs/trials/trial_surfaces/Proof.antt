@@ -8,18 +8,12 @@ use Rattle.global.proofs.trials.trial_surfaces.Tie as tie
 random-params-requires : tie.Need-random-params-requires
 random-params-requires c κs = search needs
 
-stand-requires : tie.Need-stand-requires
-stand-requires c κs = search needs
-
-apply-values-requires : tie.Need-apply-values-requires
-apply-values-requires c κs = search needs
-
-lay-requires : tie.Need-lay-requires
-lay-requires c κs = search needs
+lay-applied-requires : tie.Need-lay-applied-requires
+lay-applied-requires c κs = search needs
 
 returns : tie.Need-returns
 unfolding trialPresc
-returns c = (λ o ev. c .lay .ensures ∙ c .before .before .apply-values .ensures ∙ simp (ev, c .before .before .before .before .before .random-params .ensures .0, c .before .before .before .stand .ensures), c .before .before .before .before .before .random-params .ensures .1)
+returns c = (λ o ev. c .lay-applied .ensures .0 ∙ simp (ev, c .before .before .before .random-params .ensures .0), c .before .before .before .random-params .ensures .1)
 
 pub trial-surfaces-spec : {M : Type 1} → statement M
-trial-surfaces-spec = tie.close (tie.spec random-params-requires stand-requires apply-values-requires lay-requires returns)
+trial-surfaces-spec = tie.close (tie.spec random-params-requires lay-applied-requires returns)

@@ -1,67 +1,56 @@
--- `held::values::apply_values` meets its contract: the loop's invariant is `Applying`. Assumes nothing.
-use Rattle.optics.specs.Types.{noSurface}
-use Prim.Native.Nat.{ℕ, _<_, _-_}
+-- `held::values::apply_values` meets its contract: the loop's invariant is `Applying`, of the surfaces that stand there. Assumes nothing.
+use Prim.Native.Nat.{ℕ, _≤_, _<_, _-_}
 use mathlib.Core.Path.{_≡_, refl, sym, ap, _∙_}
 use mathlib.Core.Logic.{⊎-elim}
 use native.Mathlib.Omega.{arith}
 use borrow.Author.Needs.{needs}
 use Rattle.variables.specs.declared.types.VariableDef.{VariableDef}
 use Rattle.variables.specs.Active.{enabledOf}
-use Rattle.held.specs.JobFrom.{variableCountFrom, variablesFrom}
-use lib.ListN.{length, getD}
-use lib.Ieee.{nan}
-use Rattle.variables.specs.Active.{variableAt}
-use Rattle.variables.specs.Kinds.{surfaceIndex, applyClamp, withValue}
+use Rattle.variables.specs.Kinds.{applyClamp, put}
 use Rattle.variables.specs.Values.{appliedTo, applied}
-use Rattle.variables.proofs.Applying.{Applying, counted-le, same-length, apply-more, apply-past, put-in, put-out}
+use Rattle.variables.proofs.Applying.{Applying, counted-le, apply-more, apply-past}
+use mathlib.Core.List.{List}
+use lib.ListN.{length, getD, drop}
+use lib.Ieee.{Float, nan}
+use Rattle.optics.specs.declared.types.OpticalSurface.{OpticalSurface}
+use Rattle.held.specs.JobFrom.{standing, variableCountFrom, variablesFrom}
+use Rattle.held.specs.Standing.{Behind}
 use Rattle.held.proofs.values.apply_values.Statement.{statement}
 use Rattle.held.proofs.values.apply_values.Tie as tie
 
 abbrev Inv-loop : tie.InvT-loop
-Inv-loop counts numbers values count s₀ q₀ i₀ s q i = Applying (variablesFrom counts numbers) values s₀ s q i × (count ≡ variableCountFrom counts)
+Inv-loop counts numbers flat₀ values count q₀ i₀ flat q i = Applying (variablesFrom counts numbers) values (standing flat₀) (standing flat) q i × (count ≡ variableCountFrom counts) × Behind flat₀ flat
 
 abbrev μ-loop : tie.MeasureT-loop
-μ-loop counts numbers values count s₀ q₀ i₀ s q i = count - i
+μ-loop counts numbers flat₀ values count q₀ i₀ flat q i = count - i
+
+-- one step more, and what came of it under another name
+further : {a b c d : List Float} → Behind a b → Behind b c → d ≡ c → Behind a d
+further p q e = record { long = ap length e ∙ q .long ∙ p .long; rest = ap (drop 64) e ∙ q .rest ∙ p .rest }
 
 variable-count-requires : tie.Need-variable-count-requires Inv-loop μ-loop
 variable-count-requires c κs = search needs
 
 loop-holds : tie.Need-loop-holds Inv-loop μ-loop
 unfolding enabledOf appliedTo
-loop-holds c = (record { passed = omega arith; counted = refl; stored = refl }, c .variable-count .ensures)
+loop-holds c = (record { passed = omega arith; counted = refl; stored = refl }, c .variable-count .ensures, record { long = refl; rest = refl })
 
 variable-at-requires : tie.Need-variable-at-requires Inv-loop μ-loop
 variable-at-requires c κs = omega (arith, c .before .loop .inv .0 .passed, c .before .loop .inv .1)
 
-mul-apply-clamp : tie.Need-mul-apply-clamp Inv-loop μ-loop
-mul-apply-clamp c = omega (arith, counted-le (c .before .before .before .loop .inv .0), c .before .before .before .loop .inv .1)
+mul-apply-variable : tie.Need-mul-apply-variable Inv-loop μ-loop
+mul-apply-variable c = omega (arith, counted-le (c .before .before .before .loop .inv .0), c .before .before .before .loop .inv .1)
 
-array-read-apply-clamp : tie.Need-array-read-apply-clamp Inv-loop μ-loop
-array-read-apply-clamp c = omega (arith, counted-le (c .before .before .before .loop .inv .0), c .before .before .before .loop .inv .1)
+array-read-apply-variable : tie.Need-array-read-apply-variable Inv-loop μ-loop
+array-read-apply-variable c = omega (arith, counted-le (c .before .before .before .loop .inv .0), c .before .before .before .loop .inv .1)
 
-apply-clamp-requires : tie.Need-apply-clamp-requires Inv-loop μ-loop
-apply-clamp-requires c κs = search needs
-
-surface-index-requires : tie.Need-surface-index-requires Inv-loop μ-loop
-surface-index-requires c κs = search needs
-
-mul-old : tie.Need-mul-old Inv-loop μ-loop
-mul-old c = omega arith
-
-array-copy-out-old : tie.Need-array-copy-out-old Inv-loop μ-loop
-array-copy-out-old c = omega arith
-
-with-value-requires : tie.Need-with-value-requires Inv-loop μ-loop
-with-value-requires c κs = search needs
-
-mul-s : tie.Need-mul-s Inv-loop μ-loop
-mul-s c = omega arith
-
-array-set-from-s : tie.Need-array-set-from-s Inv-loop μ-loop
-array-set-from-s c = omega arith
+apply-variable-requires : tie.Need-apply-variable-requires Inv-loop μ-loop
+apply-variable-requires c κs = omega (arith, c .before .before .before .before .loop .inv .2 .long)
 
 add-q : tie.Need-add-q Inv-loop μ-loop
-add-q c = omega (arith, counted-le (c .before .before .before .before .before .before .loop .inv .0), c .before .before .before .before .before .before .loop .inv .1)
+add-q c =
+    let l = c .before .before .before .before .before .before .before .loop in
+    omega (arith, counted-le (l .inv .0), l .inv .1)
 
 add-i : tie.Need-add-i Inv-loop μ-loop
 add-i c = omega arith
@@ -71,36 +60,32 @@ loop-less c = omega arith
 
 loop-again : tie.Need-loop-again Inv-loop μ-loop
 loop-again c =
-    let x = c .before .before .before .before .before .before .args in
-    let v = variablesFrom (x .counts .now) (x .numbers .now) in
-    let d = variableAt v (c .before .before .before .loop .i) in
-    let values = x .t3 in
-    let q = c .before .before .before .loop .q in
-    let s = c .before .before .before .loop .s in
+    let x = c .before .before .before .before .before .before .before .args in
+    let l = c .before .before .before .loop in
     let is = c .before .variable-at .ensures in
     let e = ap (λ (d : VariableDef). d .enabled) is in
-    let h : c .before .before .before .loop .i < variableCountFrom (x .counts .now) = omega (arith, c .before .before .loop-test .taken, c .before .before .before .loop .inv .1) in
-    let l : length (x .surfaces) ≡ 16 = search needs in
+    let h : l .i < variableCountFrom (x .counts .now) = omega (arith, c .before .before .loop-test .taken, l .inv .1) in
+    let stored : VariableDef → List OpticalSurface = λ d. put (standing (l .flat)) (d .«var_type») (applyClamp (getD (x .t3) (l .q) nan) (d .«min_value») (d .«max_value»)) in
     ⊎-elim
     (λ w. (
-      apply-more (c .before .before .before .loop .inv .0) _ _ h (sym e ∙ w .0 .taken)
-          (w .4 ∙ ⊎-elim
-          (λ u. u .3 ∙ put-in d values q s _ (w .2 .ensures ∙ ap (λ (d : VariableDef). surfaceIndex (d .«var_type»)) is) _ _ (w .1 .ensures ∙ ap (λ (d : VariableDef). applyClamp (getD values q nan) (d .«min_value») (d .«max_value»)) is) (u .2 .ensures ∙ ap (λ (d : VariableDef). withValue (getD s (w .2 .result) noSurface) (d .«var_type») (w .1 .result)) is))
-          (λ u. u .1 ∙ put-out d values q s _ (w .2 .ensures ∙ ap (λ (d : VariableDef). surfaceIndex (d .«var_type»)) is) (omega (arith, u .0 .left, same-length (c .before .before .before .loop .inv .0))))
-          (w .3 .came))
-          (w .5),
-      c .before .before .before .loop .inv .1,
+      apply-more (l .inv .0) _ _ h (sym e ∙ w .0 .taken) (ap standing (w .5) ∙ w .2 .ensures .0 ∙ ap stored is) (w .6),
+      l .inv .1,
+      further (l .inv .2) (w .2 .ensures .1) (w .5),
     ))
-    (λ w. (apply-past (c .before .before .before .loop .inv .0) _ _ h (sym e ∙ w .0 .left) (w .1) (w .2), c .before .before .before .loop .inv .1))
+    (λ w. (apply-past (l .inv .0) _ _ h (sym e ∙ w .0 .left) (ap standing (w .1)) (w .2), l .inv .1, further (l .inv .2) (record { long = refl; rest = refl }) (w .1)))
     (c .if1 .came)
+
+same-length : tie.Need-same-length Inv-loop μ-loop
+same-length c = c .before .loop .inv .2 .long
 
 returns : tie.Need-returns Inv-loop μ-loop
 unfolding applied
 returns c =
-    let x = c .before .before .before .before .args in
+    let x = c .before .before .before .before .before .args in
+    let l = c .before .loop in
     let v = variablesFrom (x .counts .now) (x .numbers .now) in
-    let e : c .before .loop .i ≡ variableCountFrom (x .counts .now) = omega (arith, c .before .loop .inv .0 .passed, c .before .loop .inv .1) in
-    c .before .loop .inv .0 .stored ∙ ap (appliedTo v (x .t3) (x .surfaces)) (rw e at (c .before .loop .inv .0 .counted))
+    let e : l .i ≡ variableCountFrom (x .counts .now) = omega (arith, l .inv .0 .passed, l .inv .1) in
+    (l .inv .0 .stored ∙ ap (appliedTo v (x .t3) (standing (x .flat .now))) (rw e at (l .inv .0 .counted)), l .inv .2)
 
 pub apply-values-spec : {M : Type 1} → statement M
 apply-values-spec =
@@ -111,17 +96,12 @@ apply-values-spec =
     variable-count-requires
     loop-holds
     variable-at-requires
-    mul-apply-clamp
-    array-read-apply-clamp
-    apply-clamp-requires
-    surface-index-requires
-    mul-old
-    array-copy-out-old
-    with-value-requires
-    mul-s
-    array-set-from-s
+    mul-apply-variable
+    array-read-apply-variable
+    apply-variable-requires
     add-q
     add-i
     loop-less
     loop-again
+    same-length
     returns)

@@ -9,7 +9,6 @@ use lib.Ieee.{Float, nan}
 use borrow.Author.Needs.{needs}
 use Rattle.floats.specs.Constants.{zero64}
 use Rattle.lists.specs.Tab.{tab, length-tab, getD-tab, tab-step}
-use Rattle.runs.specs.Cleared.{cleared}
 use Rattle.rows.proofs.scratch.zero_first.Statement.{statement}
 use Rattle.rows.proofs.scratch.zero_first.Tie as tie
 
