@@ -5,18 +5,15 @@ use mathlib.Core.Bool.{true, false}
 use mathlib.Core.List.{List}
 use native.Mathlib.Numerals.{add-one}
 use native.Mathlib.Omega.{arith}
-use lib.ListN.{length, getD, set}
-use lib.Seq.{set-out}
+use lib.ListN.{length, getD}
 use lib.Ieee.{Float, nan}
 use Rattle.optics.specs.declared.types.OpticalSurface.{OpticalSurface}
-use Rattle.optics.specs.Types.{noSurface}
 use Rattle.variables.specs.declared.types.VariableDef.{VariableDef}
 use Rattle.variables.specs.declared.types.VariableSet.{VariableSet}
-use Rattle.variables.specs.Kinds.{surfaceIndex, applyClamp, withValue, put}
+use Rattle.variables.specs.Kinds.{applyClamp, put}
 use Rattle.variables.specs.Active.{variableAt}
 use Rattle.variables.specs.ActiveLaws.{enabledCount, count-le, count-more, count-past, active-here}
 use Rattle.variables.specs.Values.{appliedTo}
-use Rattle.variables.specs.CallerLaws.{length-applied-to}
 
 -- i variables are passed, of which q were enabled, and the values of those are stored
 pub record Applying (v : VariableSet) (values : List Float) (start s : List OpticalSurface) (q i : ℕ) : Type 0 where
@@ -32,9 +29,6 @@ module _ {v : VariableSet} {values : List Float} {start s : List OpticalSurface}
   pub counted-le : q ≤ i
   counted-le = omega (arith, a .counted, count-le v i)
 
-  pub same-length : length s ≡ length start
-  same-length = ap length (a .stored) ∙ length-applied-to v values start q
-
   pub apply-more : (s′ : List OpticalSurface) (q′ : ℕ) → i < v .«variable_count» → variableAt v i .enabled ≡ true → s′ ≡ one (variableAt v i) values q s → q′ ≡ q + 1 → Applying v values start s′ q′ (i + 1)
   unfolding appliedTo
   apply-more s′ q′ h e es eq = record {
@@ -49,11 +43,3 @@ module _ {v : VariableSet} {values : List Float} {start s : List OpticalSurface}
     counted = omega (arith, a .counted, count-past v i e);
     stored = rw (es, eq) (a .stored);
   }
-
--- the store of a surface with its value is `put`, and so is no store past the last surface
-module _ (d : VariableDef) (values : List Float) (q : ℕ) (s : List OpticalSurface) (at : ℕ) (here : at ≡ surfaceIndex (d .«var_type»)) where
-  pub put-in : (y : Float) (new : OpticalSurface) → y ≡ applyClamp (getD values q nan) (d .«min_value») (d .«max_value») → new ≡ withValue (getD s at noSurface) (d .«var_type») y → set s at new ≡ one d values q s
-  put-in y new ey en = rw (en, ey, here)
-
-  pub put-out : length s ≤ at → s ≡ one d values q s
-  put-out h = sym (set-out s (surfaceIndex (d .«var_type»)) _ (rw here at h))

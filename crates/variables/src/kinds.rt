@@ -41,18 +41,6 @@ pub fn no_surface() -> OpticalSurface
     }
 }
 
-// The variable's quantity as it stands in the surfaces.
-pub(crate) fn value_of(surfaces: [OpticalSurface; 16], kind: VariableType) -> f64
-    ensures { λ r. ⌜ r ≡ valueOf surfaces kind ⌝ }
-{
-    let i = surface_index(kind);
-    if i < 16 {
-        let s = surfaces[i];
-        return quantity(s, kind);
-    }
-    quantity(no_surface(), kind)
-}
-
 // Clamp, with a NaN counting as below the lower bound.
 pub fn apply_clamp(x: f64, lo: f64, hi: f64) -> f64
     ensures { λ r. ⌜ r ≡ applyClamp x lo hi ⌝ }
