@@ -57,37 +57,48 @@ fn is_empty(bench: Bench, place: usize, request: JobRequest) -> bool {
     keeps(bench, place, 11) && lists_others(bench, place) && admits(bench, place, request)
 }
 
-// No damage: a place is at its end or not, and all three calls say the same of it.
-fn is_taken(bench: Bench, place: usize) -> bool {
-    let mut scratch = [0.5; 256];
-    let turn = benchcalls::turned(bench, place, &mut scratch);
-    let fetch = benchcalls::fetched(bench, place, marked());
-    let finished = finished::listed(bench);
-    agree(turn.number, fetch.number, finished.count)
+// What a turn, a fetch and the listing answer, and whether bench, scratch and result are what they were.
+struct Answers {
+    turn: u32,
+    fetch: u32,
+    listed: usize,
+    is_kept: bool,
 }
 
-fn agree(turn: u32, fetch: u32, listed: usize) -> bool {
-    match turn {
-        0 => fetch == 14 && listed == 3,
-        13 => fetch == 0 && listed == 4,
-        _ => false,
-    }
-}
-
-// A turn and a fetch give the number, and neither bench nor scratch nor result is changed.
-fn keeps(bench: Bench, place: usize, number: u32) -> bool {
+fn answers_of(bench: Bench, place: usize) -> Answers {
     let before = [0.5; 256];
     let mut scratch = before;
     let turn = benchcalls::turned(bench, place, &mut scratch);
     let fetch = benchcalls::fetched(bench, place, marked());
     let left = turn.bench;
     let result = fetch.result;
-    if turn.number != number || fetch.number != number {
-        return false;
-    }
-    same::same_benches(left, bench)
+    let finished = finished::listed(bench);
+    let is_kept = same::same_benches(left, bench)
         && same::same_floats(&scratch, &before)
-        && same::same_results(result, marked())
+        && same::same_results(result, marked());
+    Answers {
+        turn: turn.number,
+        fetch: fetch.number,
+        listed: finished.count,
+        is_kept: is_kept,
+    }
+}
+
+// No damage: a place is at its end or not, and all three calls say the same of it.
+fn is_taken(bench: Bench, place: usize) -> bool {
+    let a = answers_of(bench, place);
+    let turn = a.turn;
+    match turn {
+        0 => a.fetch == 14 && a.listed == 3,
+        13 => a.fetch == 0 && a.listed == 4,
+        _ => false,
+    }
+}
+
+// A turn and a fetch give the number, and nothing is changed.
+fn keeps(bench: Bench, place: usize, number: u32) -> bool {
+    let a = answers_of(bench, place);
+    a.turn == number && a.fetch == number && a.is_kept
 }
 
 // The listing has the three other places: 0 to 3 but this one make 6 less this one.
