@@ -1,6 +1,6 @@
 // The lines of calls: each is one call, or turns of one place, and has a name of one letter.
 use crate::listing;
-use crate::turns;
+use crate::turning;
 use crate::types::Answered;
 use answers::put_unknown;
 use bench::Bench;
@@ -24,7 +24,7 @@ pub(crate) fn answer_call(
     match letter {
         b'Z' => empty(out, waiting, bench, line, at, number),
         b'A' => admit(out, waiting, bench, line, at, number),
-        b'T' => turns::turn(out, waiting, bench, line, at, number),
+        b'T' => turning::turn(out, waiting, bench, line, at, number),
         b'D' => release(out, waiting, bench, line, at, number),
         b'F' => Answered {
             bench: bench,

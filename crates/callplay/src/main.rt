@@ -4,7 +4,7 @@
 mod call;
 mod lines;
 mod listing;
-mod turns;
+mod turning;
 mod types;
 
 fn main() {

@@ -2,7 +2,7 @@
 ghost use mathlib.Core.Path.{_≡_};
 ghost use Prim.Native.Nat.{_≤_};
 ghost use Rattle.variables.specs.Taken.{boundsTaken, stepTaken, lowerBoundTaken, variableTaken, variablesTaken};
-use crate::kinds;
+use crate::quantities;
 use crate::types::VariableDef;
 use crate::types::VariableSet;
 use crate::types::VariableType;
@@ -41,7 +41,7 @@ pub fn variable_taken(v: VariableDef, surface_count: usize) -> bool
     ensures { λ r. ⌜ r ≡ variableTaken «surface_count» v ⌝ }
 {
     let kind = v.var_type;
-    if kinds::surface_index(kind) >= surface_count {
+    if quantities::surface_index(kind) >= surface_count {
         return false;
     }
     if !bounds_taken(v.min_value, v.max_value) {

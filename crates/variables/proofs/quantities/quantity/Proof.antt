@@ -1,7 +1,7 @@
--- `variables::kinds::quantity` meets its contract: an arm for each kind of variable. Assumes nothing.
+-- `variables::quantities::quantity` meets its contract: an arm for each kind of variable. Assumes nothing.
 use borrow.Author.Needs.{needs}
-use Rattle.variables.proofs.kinds.quantity.Statement.{statement}
-use Rattle.variables.proofs.kinds.quantity.Tie as tie
+use Rattle.variables.proofs.quantities.quantity.Statement.{statement}
+use Rattle.variables.proofs.quantities.quantity.Tie as tie
 
 enum-told : tie.Need-enum-told
 enum-told c = search needs

@@ -1,7 +1,7 @@
--- `variables::kinds::with_value` meets its contract: an arm for each kind of variable. Assumes nothing.
+-- `variables::quantities::with_value` meets its contract: an arm for each kind of variable. Assumes nothing.
 use borrow.Author.Needs.{needs}
-use Rattle.variables.proofs.kinds.with_value.Statement.{statement}
-use Rattle.variables.proofs.kinds.with_value.Tie as tie
+use Rattle.variables.proofs.quantities.with_value.Statement.{statement}
+use Rattle.variables.proofs.quantities.with_value.Tie as tie
 
 enum-told : tie.Need-enum-told
 enum-told c = search needs

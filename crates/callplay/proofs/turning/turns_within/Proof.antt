@@ -1,10 +1,10 @@
--- `callplay::turns::turns_within` is safe. Assumes nothing.
+-- `callplay::turning::turns_within` is safe. Assumes nothing.
 use mathlib.Core.Path.{sym}
 use native.Mathlib.Omega.{arith}
 use lib.Seq.{length-take-le}
 use borrow.Author.Needs.{needs}
-use Rattle.callplay.proofs.turns.turns_within.Statement.{statement}
-use Rattle.callplay.proofs.turns.turns_within.Tie as tie
+use Rattle.callplay.proofs.turning.turns_within.Statement.{statement}
+use Rattle.callplay.proofs.turning.turns_within.Tie as tie
 
 least-requires : tie.Need-least-requires
 least-requires c κs = search needs

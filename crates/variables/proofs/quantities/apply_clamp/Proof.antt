@@ -1,8 +1,8 @@
--- `variables::kinds::apply_clamp` meets its contract: each arm returns what `applyClamp` picks by the test that led there. Assumes nothing.
+-- `variables::quantities::apply_clamp` meets its contract: each arm returns what `applyClamp` picks by the test that led there. Assumes nothing.
 use borrow.Author.Needs.{needs}
 use Rattle.floats.specs.BasicLaws.{differs}
-use Rattle.variables.proofs.kinds.apply_clamp.Statement.{statement}
-use Rattle.variables.proofs.kinds.apply_clamp.Tie as tie
+use Rattle.variables.proofs.quantities.apply_clamp.Statement.{statement}
+use Rattle.variables.proofs.quantities.apply_clamp.Tie as tie
 
 returns : tie.Need-returns
 returns c = simp (differs, c .if1 .taken)

@@ -1,9 +1,9 @@
--- `variables::kinds::radius_of` meets its contract: each arm returns what `radiusOf` picks by the test that led there. Assumes nothing.
+-- `variables::quantities::radius_of` meets its contract: each arm returns what `radiusOf` picks by the test that led there. Assumes nothing.
 use borrow.Author.Needs.{needs}
 use Rattle.floats.specs.Constants.{infinite}
 use Rattle.variables.specs.Kinds.{radiusOf}
-use Rattle.variables.proofs.kinds.radius_of.Statement.{statement}
-use Rattle.variables.proofs.kinds.radius_of.Tie as tie
+use Rattle.variables.proofs.quantities.radius_of.Statement.{statement}
+use Rattle.variables.proofs.quantities.radius_of.Tie as tie
 
 abs-requires : tie.Need-abs-requires
 abs-requires c κs = search needs
