@@ -23,7 +23,7 @@ static LensRequest doublet(void) {
     job->slot_count = 3;
     job->entrance_pupil_diameter_mm = 20;
     add_surface(job, 62.8, 4, 1.52238, 1.51680, 1.51432);
-    add_surface(job, -45.7, 2.5, 1.68876, 1.67270, 1.66661);
+    add_surface(job, -45.7, 2.5, 1.68750, 1.67270, 1.66661);
     add_surface(job, -128.2, 97.1, 1, 1, 1);
     add_surface(job, INFINITY, 0, 1, 1, 1);
     for (uint64_t i = 0; i < 3; i++) job->variables[job->variable_count++] = (LensVariable){LENS_CURVATURE, i, 1, -0.05, 0.05, 1e-4};

@@ -5,7 +5,7 @@ use lensbench::{Aim, Bench, Job, Lens, Operand, Place, Quantity, Refusal, Surfac
 fn doublet() -> Job {
     let lens = Lens::new(3, 20.0)
         .surface(Surface::sphere(62.8, 4.0, 12.7), &[1.52238, 1.51680, 1.51432])
-        .surface(Surface::sphere(-45.7, 2.5, 12.7), &[1.68876, 1.67270, 1.66661])
+        .surface(Surface::sphere(-45.7, 2.5, 12.7), &[1.68750, 1.67270, 1.66661])
         .surface(Surface::sphere(-128.2, 97.1, 12.7), &[1.0; 3])
         .surface(Surface::flat(0.0, 12.7), &[1.0; 3]);
     let job = (0..3).fold(Job::new(lens), |job, i| job.vary(Variable::new(Quantity::Curvature, i).between(-0.05, 0.05)));

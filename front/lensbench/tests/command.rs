@@ -283,7 +283,7 @@ fn zemax() {
     let (status, out, err) = lensbench(&["import", file], "");
     assert_eq!((status, out.as_str()), (2, ""));
     assert!(err.contains(":30: surface 1: no indices of N-BK7 are known here: --glass N-BK7=N,N,N gives them"), "{err}");
-    let glass = ["--glass", "N-BK7=1.52238,1.51680,1.51432", "--glass", "SF5=1.68876,1.67270,1.66661", "--semi", "12.7"];
+    let glass = ["--glass", "N-BK7=1.52238,1.51680,1.51432", "--glass", "SF5=1.68750,1.67270,1.66661", "--semi", "12.7"];
     let (status, out, err) = lensbench(&[&["import", file][..], &glass].concat(), "");
     assert_eq!((status, err.as_str()), (0, ""));
     let entry = read(&out).unwrap().remove(0);

@@ -66,3 +66,43 @@ fn the_examples_are_of_the_kinds_that_the_document_says() {
     assert!(matches!(kind("singlet.lens"), Run::Damped(_)) && matches!(kind("achromat.lens"), Run::Damped(_)));
     assert!(matches!(kind("triplet.lens"), Run::MultiStart(_)) && matches!(kind("scanner.lens"), Run::Annealing(_)));
 }
+
+/// Sellmeier constants of the makers' catalogues: B1, B2, B3, C1, C2, C3, for wavelengths in µm.
+const GLASSES: [(&str, [f64; 6]); 5] = [
+    ("N-BK7", [1.03961212, 0.231792344, 1.01046945, 0.00600069867, 0.0200179144, 103.560653]),
+    ("SF5", [1.46141885, 0.247713019, 0.949995832, 0.0111826126, 0.0508594669, 112.041888]),
+    ("N-SK16", [1.34317774, 0.241144399, 0.994317969, 0.00704687339, 0.0229005, 92.7508526]),
+    ("F2", [1.34533359, 0.209073176, 0.937357162, 0.00997743871, 0.0470450767, 111.886764]),
+    ("N-SF11", [1.73759695, 0.313747346, 1.89878101, 0.013188707, 0.0623068142, 155.23629]),
+];
+
+fn index(glass: &str, slot: &str) -> f64 {
+    let [b1, b2, b3, c1, c2, c3] = GLASSES.iter().find(|(name, _)| *name == glass).unwrap().1;
+    let um: f64 = match slot {
+        "F" => 0.4861327,
+        "d" => 0.5875618,
+        "C" => 0.6562725,
+        "HeNe" => 0.6328,
+        other => panic!("{other}"),
+    };
+    let w = um * um;
+    (1.0 + b1 * w / (w - c1) + b2 * w / (w - c2) + b3 * w / (w - c3)).sqrt()
+}
+
+/// An example's indices are those of the glass that its comment names, to five places.
+#[test]
+fn the_glasses_of_the_examples_have_their_indices() {
+    let mut seen = 0;
+    for name in ["singlet.lens", "achromat.lens", "triplet.lens", "scanner.lens"] {
+        let text = std::fs::read_to_string(top().join("examples").join(name)).unwrap();
+        let entry = read(&text).unwrap().remove(0);
+        for (line, indices) in entry.lines.surfaces.iter().zip(&entry.job.lens.indices).filter(|(_, of)| of[0] != 1.0) {
+            let glass = text.lines().nth(line - 1).unwrap().split_once("# ").unwrap().1;
+            for (slot, n) in entry.slots.iter().zip(indices) {
+                assert!((n - index(glass, slot)).abs() <= 5.1e-6, "{name}:{line}: {glass} has {} at {slot}", index(glass, slot));
+                seen += 1;
+            }
+        }
+    }
+    assert_eq!(seen, 1 + 2 * 3 + 3 * 3 + 3);
+}
