@@ -1,30 +1,11 @@
 //! The command as a user has it: what it prints, says and answers.
 #![allow(clippy::unwrap_used)]
 mod common;
-use common::top;
+use common::{example, lensbench};
 use lensbench::jobfile::read;
 use lensbench::{Job, Surface};
-use std::io::Write;
 use std::path::PathBuf;
-use std::process::{Command, Output, Stdio};
-
-fn lensbench(words: &[&str], input: &str) -> (i32, String, String) {
-    let mut child = Command::new(env!("CARGO_BIN_EXE_lensbench"))
-        .args(words)
-        .stdin(Stdio::piped())
-        .stdout(Stdio::piped())
-        .stderr(Stdio::piped())
-        .spawn()
-        .unwrap();
-    // a command that does not read its input may be gone already
-    let _ = child.stdin.take().unwrap().write_all(input.as_bytes());
-    let Output { status, stdout, stderr } = child.wait_with_output().unwrap();
-    (status.code().unwrap(), String::from_utf8(stdout).unwrap(), String::from_utf8(stderr).unwrap())
-}
-
-fn example(name: &str) -> String {
-    top().join("examples").join(name).to_str().unwrap().to_string()
-}
+use std::process::Command;
 
 fn job(name: &str) -> Job {
     read(&std::fs::read_to_string(example(name)).unwrap()).unwrap()[0].job.clone()
@@ -274,37 +255,6 @@ fn lines_and_back() {
     let (status, _, err) = lensbench(&["convert", "--from-line", "-"], &format!("{lines}J broken\n"));
     assert_eq!((status, err.as_str()), (2, "-:5: the line ends before the kind\n"));
     assert!(lensbench(&["convert", "--to-line", "--trace", "C", &files[1]], "").1.trim_end().ends_with(" C 2"));
-}
-
-#[test]
-fn zemax() {
-    let file = PathBuf::from(env!("CARGO_MANIFEST_DIR")).join("tests/data/achromat.zmx");
-    let file = file.to_str().unwrap();
-    let (status, out, err) = lensbench(&["import", file], "");
-    assert_eq!((status, out.as_str()), (2, ""));
-    assert!(err.contains(":30: surface 1: no indices of N-BK7 are known here: --glass N-BK7=N,N,N gives them"), "{err}");
-    let glass = ["--glass", "N-BK7=1.52238,1.51680,1.51432", "--glass", "SF5=1.68750,1.67270,1.66661", "--semi", "12.7"];
-    let (status, out, err) = lensbench(&[&["import", file][..], &glass].concat(), "");
-    assert_eq!((status, err.as_str()), (0, ""));
-    let entry = read(&out).unwrap().remove(0);
-    let mut same = job("achromat.lens").lens;
-    same.surfaces[1].conic_constant = -0.5;
-    assert_eq!((entry.name.as_str(), &entry.slots[..]), ("achromat for tests", &["486.1nm".to_string(), "587.6nm".into(), "656.3nm".into()][..]));
-    assert_eq!(entry.job.lens, same);
-    // what is not known is named, with its line
-    let text = std::fs::read_to_string(file).unwrap();
-    for (from, to, what) in [
-        ("  TYPE STANDARD\n  CURV -2", "  TYPE EVENASPH\n  CURV -2", "TYPE EVENASPH: only STANDARD is known here"),
-        ("ENPD", "FNUM", "FNUM is not known here"),
-        ("GLAS SF5", "GLAS MIRROR", "a mirror is not known here"),
-        ("DISZ INFINITY", "DISZ 100", "the object (SURF 0) is not at infinity"),
-        ("UNIT MM", "UNIT IN", "UNIT IN: only MM is known here"),
-        ("DISZ 97.1", "DISZ 97,1", "DISZ: `97,1` is no number"),
-        ("MNUM 1", "MNUM 2", "MNUM 2: only 1 is known here"),
-    ] {
-        let (status, _, err) = lensbench(&[&["import", "-"][..], &glass].concat(), &text.replace(from, to));
-        assert!(status == 2 && err.starts_with("-:") && err.contains(what), "{to}: {err}");
-    }
 }
 
 #[test]

@@ -2,7 +2,9 @@
 #![allow(dead_code, clippy::unwrap_used, clippy::expect_used)]
 use lensbench::lines::{bits, Call, Line};
 use lensbench::{Aim, Annealing, Bench, Damped, Job, Lens, MultiStart, Operand, Place, Quantity, Refusal, Run, Surface, Variable};
+use std::io::Write;
 use std::path::PathBuf;
+use std::process::{Command, Output, Stdio};
 
 /// Marsaglia's xorshift.
 pub struct Dice(pub u64);
@@ -298,4 +300,24 @@ pub fn top() -> PathBuf {
 /// 01's known lens: radius 64, thickness 16, index 2; then flat, thickness 0, index 1; pupil 8.
 pub fn known_lens() -> Lens {
     Lens::new(1, 8.0).surface(Surface::sphere(64.0, 16.0, 10.0), &[2.0]).surface(Surface::flat(0.0, 10.0), &[1.0])
+}
+
+/// The command with these words and this standard input: its status, output and what it says.
+pub fn lensbench(words: &[&str], input: impl AsRef<[u8]>) -> (i32, String, String) {
+    let mut child = Command::new(env!("CARGO_BIN_EXE_lensbench"))
+        .args(words)
+        .stdin(Stdio::piped())
+        .stdout(Stdio::piped())
+        .stderr(Stdio::piped())
+        .spawn()
+        .unwrap();
+    // a command that does not read its input may be gone already
+    let _ = child.stdin.take().unwrap().write_all(input.as_ref());
+    let Output { status, stdout, stderr } = child.wait_with_output().unwrap();
+    (status.code().unwrap(), String::from_utf8(stdout).unwrap(), String::from_utf8(stderr).unwrap())
+}
+
+/// A file of examples/.
+pub fn example(name: &str) -> String {
+    top().join("examples").join(name).to_str().unwrap().to_string()
 }

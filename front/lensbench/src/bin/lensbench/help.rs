@@ -53,8 +53,11 @@ const IMPORT: &str = "\
 usage: lensbench import [OPTIONS] FILE.zmx
 A plain sequential prescription as a job file, to which `vary`, `want` and `run` are added by hand. What is not known is named and refused.
   --glass NAME=N[,N..]  the index of a glass at each wavelength, in their order; once for each glass
+                        a model glass goes by its nd and Vd: --glass 1.6/50=N,N..
   --waves K[,K..]       which of the file's wavelengths become slots, by number, where there are more than four
   --semi MM             the semi-diameter of surfaces that the file gives none
+  --solved              take a number that the file solves for or picks up as it was when the file was saved
+  --skip WORD[,WORD..]  pass over lines of these keywords, which are not known here and do not change the lens
 ";
 
 const BATCH: &str = "\
