@@ -106,21 +106,28 @@ fn a_typo_in_each_field() {
         (4, "surface 60 4,0 12 0 1.52 1.51 1.50", "the thickness: `4,0` is no number"),
         (4, "surface 60 4 x 0 1.52 1.51 1.50", "the semi-diameter: `x` is no number"),
         (4, "surface 60 4 12 - 1.52 1.51 1.50", "the conic: `-` is no number"),
-        (4, "surface 60 4 12 0 1.52 1.51", "2 indices for 3 slots (F d C)"),
+        (4, "surface 60 4 12 0 1.52 1.51", "2 indices for 3 slots (F d C); before the index there are radius, thickness, semi-diameter and conic"),
+        (4, "surface \u{2212}60 4 12 0 1.52 1.51 1.50", "is no number; it has a letter or sign that is not ASCII"),
+        (4, "surface 60 4 12 0 1.52 1.51 air", "`air` must stand alone"),
         (4, "surface 60 4 12 0", "the index is missing: `air`, or one for each slot (F d C)"),
         (4, "surface 60 4 12 0 1.52 1.51 glass", "the index: `glass` is no number"),
         (4, "surface 60 4", "the semi-diameter is missing"),
-        (5, "surface flat 0 12 0 Air", "the index: `Air` is no number"),
+        (5, "surface flat 0 12 0 Air", "the index: `Air` is no number, and not `air`"),
+        (5, "surface flat 12 0 air", "the conic is missing: before the index there are radius, thickness, semi-diameter and conic"),
+        (5, "surface flat 0 0 12 0 air", "`air` must stand alone"),
+        (6, "VARY curvature 1", "did you mean `vary`?"),
         (6, "vary curvatur 1 from 0.001 to 0.1", "did you mean `curvature`?"),
         (6, "vary curvature 0 from 0.001 to 0.1", "surfaces are numbered from 1"),
         (6, "vary curvature one", "`one` is no surface's number"),
         (6, "vary curvature 1 form 0.001 to 0.1", "`form` is none of from, to, step, off"),
-        (6, "vary curvature 1 from 0.001 to", "to is missing"),
+        (6, "vary curvature 1 from 0.001 to", "`to` has no number behind it"),
         (6, "vary curvature 1 from 0.00l", "from: `0.00l` is no number"),
         (6, "vary curvature 1 from 0.1 from 0.2", "`from` is there twice"),
         (7, "want focal-lenght d target 100", "did you mean `focal-length`?"),
-        (7, "want focal-length e target 100", "no slot `e`; there are F d C"),
+        (7, "want focal-length e target 100", "`e`: no such slot; there are F d C"),
         (7, "want focal-length d", "focal-length has no target"),
+        (7, "want focal-length target 100", "`target`: the slot is missing; there are F d C"),
+        (7, "want focal-length d target", "`target` has no number behind it"),
         (7, "want focal-length d target ten", "target: `ten` is no number"),
         (7, "want focal-length d target 100 wieght 2", "`wieght` is none of target, weight"),
         (8, "want centre-at-least 1", "the limit is missing"),
@@ -130,6 +137,7 @@ fn a_typo_in_each_field() {
         (10, "run multistart", "did you mean `multi-start`?"),
         (10, "run", "run is missing: there are damped, multi-start, annealing"),
         (10, "run damped trials 3", "`trials` is no setting of `run damped`"),
+        (10, "run multi-start trials", "`trials` has no number behind it"),
         (10, "run multi-start trials 3.5", "trials: `3.5` is no whole number"),
         (10, "run multi-start seed -1", "seed: `-1` is no whole number"),
         (10, "run multi-start iteration 4", "did you mean `iterations`?"),
@@ -147,6 +155,45 @@ fn a_typo_in_each_field() {
     assert_eq!((status, err.starts_with("-:1: job one has no line `run`")), (2, true));
     assert!(lensbench(&["run", "-"], "# nothing\n").2.contains("-:1: there is no job"));
     assert_eq!(lensbench(&["evaluate", "-"], &GOOD.replace("run multi", "# run multi")).0, 0);
+}
+
+/// One mistake is not told once for each line that it reaches.
+#[test]
+fn one_mistake_is_told_once() {
+    for (from, to, said) in [("job one", "jib one", 2), ("slots F d C", "slots F d F", 1), ("slots F d C\n", "", 1)] {
+        let (status, _, err) = lensbench(&["run", "-"], GOOD.replace(from, to));
+        assert_eq!((status, err.lines().count()), (2, said), "{to}\n{err}");
+    }
+    let (_, _, err) = lensbench(&["run", "-"], GOOD.replace("slots F d C", "slots"));
+    assert!(err.contains("-:4: 3 indices for 0 slots (none: the line `slots` has no name)"), "{err}");
+}
+
+/// Files that are hardly job files, and such as other programs save: what is said of them, or nothing where they are taken.
+#[test]
+fn odd_files() {
+    let crlf = GOOD.replace('\n', "\r\n");
+    let utf16: Vec<u8> = format!("\u{feff}{GOOD}").encode_utf16().flat_map(u16::to_le_bytes).collect();
+    let cases: [(Vec<u8>, &str); 12] = [
+        (crlf.into(), ""),
+        (GOOD.replace(' ', "\t").into(), ""),
+        (GOOD.trim_end().into(), ""),
+        (format!("\u{feff}{GOOD}").into(), ""),
+        (b"".to_vec(), "-:1: there is no job; a job begins with a line `job NAME`\n"),
+        (b"\0\0\0\0".to_vec(), "-:1: the line has a character that is no text, U+0000\n"),
+        (GOOD.replace('\n', "\r").into(), "-:1: the line has a character that is no text, U+000D\n"),
+        (GOOD.replace("job one", "job \x1b[31mone").into(), "-:1: the line has a character that is no text, U+001B\n"),
+        (utf16, "-:1: the line is not UTF-8 text\n"),
+        (b"job one\npupil 3\n# \xb5m\n".to_vec(), "-:3: the line is not UTF-8 text\n"),
+        (format!("job {}\npupil {}\n", "x".repeat(100_000), "9".repeat(1_000_000)).into(), "-:2: the pupil's diameter: `999"),
+        (format!("job one\npupil 3\n{} 3\n", "p".repeat(100_000)).into(), "-:3: `ppp"),
+    ];
+    for (text, said) in cases {
+        let (status, out, err) = lensbench(&["run", "-"], text);
+        assert!(
+            err.starts_with(said) && err.len() < 500 && (status, out.is_empty()) == if said.is_empty() { (0, false) } else { (2, true) },
+            "{err}"
+        );
+    }
 }
 
 /// What is in form and refused: the number, line, field and value.
@@ -183,6 +230,8 @@ fn warnings() {
         let (status, out, err) = lensbench(&["check", "-"], &GOOD.replace("vary curvature 1 from 0.001 to 0.1 step 1e-6", line));
         assert!(status == 0 && err.contains(what) && out.contains("would be taken"), "{err}");
     }
+    let (status, _, err) = lensbench(&["check", "-"], &GOOD.replace(" 1.51 ", " .151 "));
+    assert!(status == 0 && err.contains("-:4: warning: index 0.151 is below 1, that of no glass and not of air"), "{err}");
     let (status, _, err) = lensbench(&["check", "-"], &GOOD.replace("centre-at-least 1 2", "centre-at-least 3 2"));
     assert!(status == 0 && err.contains("-:8: warning: surface 3 is not there"), "{err}");
     let (status, _, err) = lensbench(&["check", "-"], &GOOD.replace("edge-at-least 1", "edge-at-least 2"));

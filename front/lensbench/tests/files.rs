@@ -34,8 +34,8 @@ fn there_and_back() {
 #[test]
 fn a_name_is_no_comment() {
     let mut odd = entry(job(&mut Dice(5)));
-    odd.name = "#7 of   #8".into();
-    assert_eq!(read(&write(&odd)).unwrap()[0].name, "_7 of _8");
+    odd.name = "#7 of   #8\n\x1b".into();
+    assert_eq!(read(&write(&odd)).unwrap()[0].name, "_7 of _8 _");
 }
 
 #[test]

@@ -4,12 +4,11 @@ use super::words::{number, Words};
 use crate::format::counted;
 use crate::lens::{Aim, Operand, Quantity, Surface, Variable};
 
-/// The names of the slots, each once.
-pub fn slots(words: Words) -> Result<Vec<String>, String> {
-    let names: Vec<String> = words.rest().into_iter().map(str::to_string).collect();
+/// The names of slots are each there once.
+pub fn slots_apart(names: &[String]) -> Result<(), String> {
     match names.iter().enumerate().find(|(i, name)| names[..*i].contains(name)) {
         Some((_, name)) => Err(format!("slot `{name}` is there twice")),
-        None => Ok(names),
+        None => Ok(()),
     }
 }
 
@@ -17,11 +16,21 @@ pub fn slots(words: Words) -> Result<Vec<String>, String> {
 pub fn surface(mut words: Words, slots: &[String]) -> Result<(Surface, Vec<f64>), String> {
     let surface = Surface {
         radius_mm: radius(words.need("the radius")?)?,
-        thickness_mm: words.number("the thickness")?,
-        semi_diameter_mm: words.number("the semi-diameter")?,
-        conic_constant: words.number("the conic")?,
+        thickness_mm: column(&mut words, "the thickness")?,
+        semi_diameter_mm: column(&mut words, "the semi-diameter")?,
+        conic_constant: column(&mut words, "the conic")?,
     };
     Ok((surface, indices(words.rest(), slots)?))
+}
+
+/// What is said where a column is left out, or is there twice.
+const BEFORE_THE_INDEX: &str = "before the index there are radius, thickness, semi-diameter and conic";
+
+fn column(words: &mut Words, what: &str) -> Result<f64, String> {
+    match words.need(what)? {
+        "air" => Err(format!("{what} is missing: {BEFORE_THE_INDEX}")),
+        word => number(word, what),
+    }
 }
 
 fn radius(word: &str) -> Result<f64, String> {
@@ -35,15 +44,29 @@ fn indices(words: Vec<&str>, slots: &[String]) -> Result<Vec<f64>, String> {
     if words == ["air"] {
         return Ok(vec![1.0; slots.len()]);
     }
-    let named = slots.join(" ");
+    let named = listed(slots);
     if words.is_empty() && !slots.is_empty() {
         return Err(format!("the index is missing: `air`, or one for each slot ({named})"));
     }
-    let numbers = words.iter().map(|word| number(word, "the index")).collect::<Result<Vec<f64>, String>>()?;
+    if words.contains(&"air") {
+        return Err(format!("`air` must stand alone: {BEFORE_THE_INDEX}"));
+    }
+    let numbers = words.iter().map(|word| number(word, "the index")).collect::<Result<Vec<f64>, String>>();
+    let numbers = numbers.map_err(|what| if what.ends_with("no number") { format!("{what}, and not `air`") } else { what })?;
     if numbers.len() != slots.len() {
-        return Err(format!("{} for {} ({named})", counted(numbers.len(), "index", "indices"), counted(slots.len(), "slot", "slots")));
+        let (have, need) = (counted(numbers.len(), "index", "indices"), counted(slots.len(), "slot", "slots"));
+        return Err(format!("{have} for {need} ({named}); {BEFORE_THE_INDEX}"));
     }
     Ok(numbers)
+}
+
+/// The names of the slots, for a message.
+fn listed(slots: &[String]) -> String {
+    if slots.is_empty() {
+        "none: the line `slots` has no name".to_string()
+    } else {
+        slots.join(" ")
+    }
 }
 
 /// Quantity and surface, then `from`, `to`, `step` with a number each, and `off`.
@@ -54,9 +77,9 @@ pub fn variable(mut words: Words) -> Result<Variable, String> {
     while let Some(word) = words.next() {
         once(&mut seen, word)?;
         match word {
-            "from" => variable.least = words.number(word)?,
-            "to" => variable.greatest = words.number(word)?,
-            "step" => variable.step = words.number(word)?,
+            "from" => variable.least = words.number_after(word)?,
+            "to" => variable.greatest = words.number_after(word)?,
+            "step" => variable.step = words.number_after(word)?,
             "off" => variable.enabled = false,
             _ => return Err(format!("`{word}` is none of from, to, step, off")),
         }
@@ -73,8 +96,8 @@ pub fn operand(mut words: Words, slots: &[String]) -> Result<Operand, String> {
     while let Some(word) = words.next() {
         once(&mut seen, word)?;
         match word {
-            "target" => target = Some(words.number(word)?),
-            "weight" => weight = words.number(word)?,
+            "target" => target = Some(words.number_after(word)?),
+            "weight" => weight = words.number_after(word)?,
             _ => return Err(format!("`{word}` is none of target, weight")),
         }
     }
@@ -99,14 +122,15 @@ fn aim(kind: usize, words: &mut Words, slots: &[String]) -> Result<Aim, String> 
 
 /// A slot by its name, or by its number from 1.
 fn slot(words: &mut Words, slots: &[String]) -> Result<usize, String> {
-    let named = slots.join(" ");
+    let named = listed(slots);
     let word = words.need(&format!("the slot ({named})"))?;
     if let Some(at) = slots.iter().position(|name| name == word) {
         return Ok(at);
     }
     let digits = word.bytes().all(|b| b.is_ascii_digit());
     let number = word.parse::<u128>().ok().filter(|_| digits).and_then(|n| n.checked_sub(1)).and_then(|n| usize::try_from(n).ok());
-    number.ok_or_else(|| format!("no slot `{word}`; there are {named}"))
+    let missing = if ["target", "weight"].contains(&word) { "the slot is missing" } else { "no such slot" };
+    number.ok_or_else(|| format!("`{word}`: {missing}; there are {named}"))
 }
 
 pub fn once<'a>(seen: &mut Vec<&'a str>, word: &'a str) -> Result<(), String> {

@@ -46,9 +46,9 @@ pub fn aim_name(aim: &Aim, slots: &[String]) -> String {
 
 /// Among the words that are known, those that a mistyped one may have meant, for a message: "there are a, b, c; did you mean b?"
 pub fn choice(word: &str, known: &[&str]) -> String {
-    let list = known.join(", ");
-    match known.iter().min_by_key(|k| distance(word, k)) {
-        Some(near) if distance(word, near) <= 2 => format!("there are {list}; did you mean `{near}`?"),
+    let (list, word) = (known.join(", "), word.to_lowercase());
+    match known.iter().min_by_key(|k| distance(&word, k)) {
+        Some(near) if distance(&word, near) <= 2 => format!("there are {list}; did you mean `{near}`?"),
         _ => format!("there are {list}"),
     }
 }

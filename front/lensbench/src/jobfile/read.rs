@@ -1,5 +1,5 @@
 //! A job file, line by line.
-use super::fields::{operand, slots, surface, variable};
+use super::fields::{operand, slots_apart, surface, variable};
 use super::names::{choice, KEYWORDS, ONE_SLOT};
 use super::settings::run;
 use super::words::Words;
@@ -25,19 +25,32 @@ pub fn read(text: &str) -> Result<Vec<Entry>, Vec<Complaint>> {
     }
 }
 
+/// Letters of a complaint.
+const LONGEST: usize = 400;
+
 #[derive(Default)]
 struct Reader {
+    /// whether a line before the first job was told of: once is enough
+    early: bool,
     done: Vec<Entry>,
     open: Option<Entry>,
     complaints: Vec<Complaint>,
 }
 
 impl Reader {
+    /// A word that is very long is not shown in full.
     fn complain(&mut self, line: usize, what: String) {
+        let letters: Vec<char> = what.chars().collect();
+        let short = |of: &[char]| of.iter().collect::<String>();
+        let what =
+            if letters.len() > LONGEST { short(&letters[..LONGEST / 2]) + " .. " + &short(&letters[letters.len() - LONGEST / 2..]) } else { what };
         self.complaints.push(Complaint { line, what });
     }
 
     fn line(&mut self, number: usize, line: &str) {
+        if let Some(odd) = line.chars().find(|c| c.is_control() && *c != '\t') {
+            return self.complain(number, format!("the line has a character that is no text, U+{:04X}", u32::from(odd)));
+        }
         let mut words = Words::of(line);
         let Some(keyword) = words.next() else { return };
         let read = if keyword == "job" { self.job(number, words) } else { self.field(number, keyword, words) };
@@ -63,7 +76,8 @@ impl Reader {
             return Err(format!("`{keyword}` is no keyword: {}", choice(keyword, &KEYWORDS)));
         }
         let Some(entry) = self.open.as_mut() else {
-            return Err(format!("`{keyword}` stands before the first line `job NAME`"));
+            let told = std::mem::replace(&mut self.early, true);
+            return if told { Ok(()) } else { Err(format!("`{keyword}` stands before the first line `job NAME`")) };
         };
         put(entry, line, keyword, words)
     }
@@ -111,9 +125,9 @@ fn put_slots(entry: &mut Entry, line: usize, words: Words) -> Result<(), String>
     if !entry.lines.surfaces.is_empty() || !entry.lines.operands.is_empty() {
         return Err("`slots` must stand before the job's first `surface` and `want`".to_string());
     }
-    entry.slots = slots(words)?;
+    entry.slots = words.rest().into_iter().map(str::to_string).collect();
     entry.job.lens.slots = entry.slots.len();
-    Ok(())
+    slots_apart(&entry.slots)
 }
 
 fn put_pupil(entry: &mut Entry, line: usize, mut words: Words) -> Result<(), String> {

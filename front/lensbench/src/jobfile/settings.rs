@@ -37,11 +37,11 @@ fn settings(run: &Run) -> &'static [&'static str] {
 
 fn damped(to: &mut Damped, word: &str, words: &mut Words) -> Result<bool, String> {
     match word {
-        "iterations" => to.max_iterations = Some(words.whole(word)?),
-        "damping" => to.initial_damping = Some(words.number(word)?),
-        "merit-tolerance" => to.merit_tolerance = Some(words.number(word)?),
-        "gradient-tolerance" => to.gradient_tolerance = Some(words.number(word)?),
-        "relative-step" => to.relative_step = Some(words.number(word)?),
+        "iterations" => to.max_iterations = Some(words.whole_after(word)?),
+        "damping" => to.initial_damping = Some(words.number_after(word)?),
+        "merit-tolerance" => to.merit_tolerance = Some(words.number_after(word)?),
+        "gradient-tolerance" => to.gradient_tolerance = Some(words.number_after(word)?),
+        "relative-step" => to.relative_step = Some(words.number_after(word)?),
         _ => return Ok(false),
     }
     Ok(true)
@@ -49,8 +49,8 @@ fn damped(to: &mut Damped, word: &str, words: &mut Words) -> Result<bool, String
 
 fn multi_start(to: &mut MultiStart, word: &str, words: &mut Words) -> Result<bool, String> {
     match word {
-        "trials" => to.trials = Some(words.whole(word)?),
-        "seed" => to.seed = Some(words.whole(word)?),
+        "trials" => to.trials = Some(words.whole_after(word)?),
+        "seed" => to.seed = Some(words.whole_after(word)?),
         _ => return damped(&mut to.local, word, words),
     }
     Ok(true)
@@ -58,11 +58,11 @@ fn multi_start(to: &mut MultiStart, word: &str, words: &mut Words) -> Result<boo
 
 fn annealing(to: &mut Annealing, word: &str, words: &mut Words) -> Result<bool, String> {
     match word {
-        "temperature" => to.temperature = Some(words.number(word)?),
-        "cooling" => to.cooling_rate = Some(words.number(word)?),
-        "steps" => to.steps = Some(words.whole(word)?),
-        "cycles" => to.cycles = Some(words.whole(word)?),
-        "seed" => to.seed = Some(words.whole(word)?),
+        "temperature" => to.temperature = Some(words.number_after(word)?),
+        "cooling" => to.cooling_rate = Some(words.number_after(word)?),
+        "steps" => to.steps = Some(words.whole_after(word)?),
+        "cycles" => to.cycles = Some(words.whole_after(word)?),
+        "seed" => to.seed = Some(words.whole_after(word)?),
         _ => return Ok(false),
     }
     Ok(true)

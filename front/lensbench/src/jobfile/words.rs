@@ -33,8 +33,18 @@ impl<'a> Words<'a> {
         number(self.need(what)?, what)
     }
 
-    pub fn whole(&mut self, what: &str) -> Result<u64, String> {
-        let word = self.need(what)?;
+    /// The number behind a word that takes one.
+    pub fn number_after(&mut self, word: &str) -> Result<f64, String> {
+        number(self.after(word)?, word)
+    }
+
+    fn after(&mut self, word: &str) -> Result<&'a str, String> {
+        self.next().ok_or_else(|| format!("`{word}` has no number behind it"))
+    }
+
+    /// The whole number behind a word that takes one.
+    pub fn whole_after(&mut self, what: &str) -> Result<u64, String> {
+        let word = self.after(what)?;
         let hex = word.strip_prefix("0x").map(|digits| u64::from_str_radix(digits, 16));
         let digits = word.bytes().all(|b| b.is_ascii_digit());
         match hex.unwrap_or_else(|| word.parse()) {
@@ -80,6 +90,7 @@ pub fn number(word: &str, what: &str) -> Result<f64, String> {
     match word.parse::<f64>() {
         Ok(x) if decimal && x.is_finite() => Ok(x),
         Ok(_) if decimal => Err(format!("{what}: `{word}` is too large for a number")),
+        _ if !word.is_ascii() => Err(format!("{what}: `{word}` is no number; it has a letter or sign that is not ASCII")),
         _ if word.contains(',') => Err(format!("{what}: `{word}` is no number; write a point and no comma")),
         _ => Err(format!("{what}: `{word}` is no number")),
     }

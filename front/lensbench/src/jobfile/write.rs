@@ -20,9 +20,13 @@ pub fn write(entry: &Entry) -> String {
     lines.join("\n") + "\n"
 }
 
-/// A word of a name that would read as a comment gets another first letter.
+/// A word of a name that would read as a comment gets another first letter, and what is no text another one.
 fn name(of: &str) -> String {
-    of.split_whitespace().map(|word| word.strip_prefix('#').map_or(word.to_string(), |rest| format!("_{rest}"))).collect::<Vec<_>>().join(" ")
+    of.replace(|c: char| c.is_control() && !c.is_whitespace(), "_")
+        .split_whitespace()
+        .map(|word| word.strip_prefix('#').map_or(word.to_string(), |rest| format!("_{rest}")))
+        .collect::<Vec<_>>()
+        .join(" ")
 }
 
 fn surface(s: &Surface, indices: &[f64]) -> String {

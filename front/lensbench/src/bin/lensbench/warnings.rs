@@ -24,6 +24,10 @@ fn warnings(job: &Job) -> Vec<(Part, String)> {
             found.push((Part::Surface(i), format!("radius {} is taken as flat; write `flat`", shortest(s.radius_mm))));
         }
     }
+    for (i, indices) in job.lens.indices.iter().enumerate() {
+        let thin = indices.iter().filter(|n| **n > 0.0 && **n < 1.0);
+        found.extend(thin.map(|n| (Part::Surface(i), format!("index {} is below 1, that of no glass and not of air", shortest(*n)))));
+    }
     for (i, v) in job.variables.iter().enumerate() {
         found.extend(of_variable(job, i, v).into_iter().map(|what| (Part::Variable(i), what)));
     }
