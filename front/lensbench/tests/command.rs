@@ -4,8 +4,9 @@ mod common;
 use common::{example, lensbench};
 use lensbench::jobfile::read;
 use lensbench::{Job, Surface};
+use std::os::unix::ffi::OsStrExt;
 use std::path::PathBuf;
-use std::process::Command;
+use std::process::{Command, Stdio};
 
 fn job(name: &str) -> Job {
     read(&std::fs::read_to_string(example(name)).unwrap()).unwrap()[0].job.clone()
@@ -249,6 +250,8 @@ fn usage_and_status() {
         &["convert", "-"],
         &["batch", "/no/such/folder"],
         &["run", "--svg"],
+        &["help", "frobnicate"],
+        &["frobnicate", "--help"],
     ] {
         let (status, out, err) = lensbench(words, "");
         assert_eq!((status, out.as_str()), (2, ""), "{words:?}");
@@ -277,6 +280,44 @@ fn a_full_disk() {
     assert!(String::from_utf8(done.stderr).unwrap().starts_with("lensbench: standard output: "));
     let (status, _, err) = lensbench(&["run", "--svg", "/no/such/folder/x.svg", &example("singlet.lens")], "");
     assert!(status == 2 && err.contains("/no/such/folder/x.svg: "), "{err}");
+}
+
+/// So is one of a line on standard error, and a name that is no text is no reason to panic.
+#[test]
+fn nobody_listens() {
+    for words in [&["run", "/no/such/file"][..], &["run", "/no/such/file", "-"], &["frobnicate"]] {
+        let full = std::fs::OpenOptions::new().write(true).open("/dev/full").unwrap();
+        let done = Command::new(env!("CARGO_BIN_EXE_lensbench")).args(words).stdin(Stdio::null()).stderr(full).output().unwrap();
+        assert_eq!(done.status.code(), Some(2), "{words:?}");
+    }
+    // a warning that cannot be said
+    let (folder, full) = (folder("nobody"), std::fs::OpenOptions::new().write(true).open("/dev/full").unwrap());
+    let name = folder.join("warned.lens");
+    std::fs::write(&name, GOOD.replace("weight 2", "weight 0")).unwrap();
+    let done = Command::new(env!("CARGO_BIN_EXE_lensbench")).arg("run").arg(&name).stderr(full).output().unwrap();
+    assert_eq!((done.status.code(), done.stdout.is_empty()), (Some(2), false));
+    // a name that is not UTF-8
+    let done = Command::new(env!("CARGO_BIN_EXE_lensbench")).arg("run").arg(std::ffi::OsStr::from_bytes(b"\xff.lens")).output().unwrap();
+    assert_eq!(done.status.code(), Some(2));
+    assert!(String::from_utf8(done.stderr).unwrap().ends_with(".lens: the word is not UTF-8 text\n"));
+}
+
+/// A reader that has gone away: the write fails, and the rest is not played.
+#[test]
+fn a_closed_pipe() {
+    let folder = folder("pipe");
+    std::fs::write(folder.join("many.lens"), GOOD.repeat(2000)).unwrap();
+    let mut child = Command::new(env!("CARGO_BIN_EXE_lensbench"))
+        .args(["run", "many.lens"])
+        .current_dir(&folder)
+        .stdout(Stdio::piped())
+        .stderr(Stdio::piped())
+        .spawn()
+        .unwrap();
+    drop(child.stdout.take());
+    let done = child.wait_with_output().unwrap();
+    assert_eq!(done.status.code(), Some(2));
+    assert!(String::from_utf8(done.stderr).unwrap().starts_with("lensbench: standard output: Broken pipe"));
 }
 
 #[test]

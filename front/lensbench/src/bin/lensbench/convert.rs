@@ -1,6 +1,6 @@
 //! `lensbench convert`: job files to job lines and back.
 use super::args::{Args, Known};
-use super::out::Out;
+use super::out::{say, Out};
 use super::source::{read_all, text_of, Source};
 use super::Done;
 use lensbench::jobfile::{write, Entry, Lines};
@@ -54,7 +54,7 @@ fn from_line(args: &Args) -> Done {
             match Line::of_text(line) {
                 Ok(line) => out.put(&format!("{}\n", file_of(line)))?,
                 Err(what) => {
-                    eprintln!("{file}:{}: {what}", i + 1);
+                    say(&format!("{file}:{}: {what}", i + 1));
                     status = 2;
                 }
             }

@@ -68,8 +68,9 @@ Runs `lensbench run --json` on every *.lens of the folder, each in a process of 
   --again        also those whose NAME.json is there and newer than the job file
 ";
 
-pub fn of(command: &str) -> &'static str {
-    match command {
+/// What is said of a command, if there is one of that name.
+pub fn of(command: &str) -> Option<&'static str> {
+    Some(match command {
         "run" => RUN,
         "check" => CHECK,
         "evaluate" => EVALUATE,
@@ -77,8 +78,9 @@ pub fn of(command: &str) -> &'static str {
         "convert" => CONVERT,
         "import" => IMPORT,
         "batch" => BATCH,
-        _ => USAGE,
-    }
+        "help" | "--help" | "-h" | "version" | "--version" | "-V" => USAGE,
+        _ => return None,
+    })
 }
 
 pub fn version() -> String {

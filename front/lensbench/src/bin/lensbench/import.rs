@@ -22,7 +22,7 @@ pub fn import(words: &[String]) -> Done {
         Err(complaints) => complaints,
     };
     for (line, what) in complaints {
-        eprintln!("{file}:{line}: {what}");
+        out::say(&format!("{file}:{line}: {what}"));
     }
     Ok(2)
 }

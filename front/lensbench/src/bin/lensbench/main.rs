@@ -31,14 +31,17 @@ use std::process::ExitCode;
 pub type Done = Result<u8, String>;
 
 fn main() -> ExitCode {
-    let words: Vec<String> = std::env::args().skip(1).collect();
-    match command(&words) {
-        Ok(status) => ExitCode::from(status),
-        Err(what) => {
-            eprintln!("lensbench: {what}");
-            ExitCode::from(2)
-        }
-    }
+    let status = words().and_then(|words| command(&words)).unwrap_or_else(|what| {
+        out::say(&format!("lensbench: {what}"));
+        2
+    });
+    ExitCode::from(if out::all_said() { status } else { 2 })
+}
+
+/// The words of the command line. Names of files are said and written as text, so one that is none is not taken.
+fn words() -> Result<Vec<String>, String> {
+    let text = |word: std::ffi::OsString| word.into_string().map_err(|word| format!("{}: the word is not UTF-8 text", word.to_string_lossy()));
+    std::env::args_os().skip(1).map(text).collect()
 }
 
 fn command(words: &[String]) -> Done {
@@ -46,7 +49,7 @@ fn command(words: &[String]) -> Done {
         return Err(format!("no command\n{}", help::USAGE));
     };
     if rest.iter().any(|word| word == "--help" || word == "-h") {
-        return out::text(help::of(name));
+        return helped(name);
     }
     match name.as_str() {
         "run" => run::run(rest),
@@ -56,8 +59,16 @@ fn command(words: &[String]) -> Done {
         "convert" => convert::convert(rest),
         "import" => import::import(rest),
         "batch" => batch::batch(rest),
-        "help" | "--help" | "-h" => out::text(rest.first().map_or(help::USAGE, |name| help::of(name))),
+        "help" | "--help" | "-h" => rest.first().map_or_else(|| out::text(help::USAGE), |name| helped(name)),
         "version" | "--version" | "-V" => out::text(&help::version()),
-        other => Err(format!("`{other}` is no command\n{}", help::USAGE)),
+        other => unknown(other),
     }
+}
+
+fn helped(name: &str) -> Done {
+    help::of(name).map_or_else(|| unknown(name), out::text)
+}
+
+fn unknown(name: &str) -> Done {
+    Err(format!("`{name}` is no command\n{}", help::USAGE))
 }

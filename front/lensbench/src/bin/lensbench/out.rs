@@ -1,5 +1,6 @@
-//! Standard output and files. A write that fails is an error.
+//! Standard output, standard error and files. A write that fails is an error.
 use std::io::{BufWriter, StdoutLock, Write};
+use std::sync::atomic::{AtomicBool, Ordering};
 
 pub struct Out {
     to: BufWriter<StdoutLock<'static>>,
@@ -29,6 +30,21 @@ pub fn text(text: &str) -> super::Done {
     out.put(text)?;
     out.flush()?;
     Ok(0)
+}
+
+/// Whether a line could not be said.
+static UNSAID: AtomicBool = AtomicBool::new(false);
+
+/// A line on standard error, in one write. Where it fails nobody can be told, but the status is 2.
+pub fn say(line: &str) {
+    if std::io::stderr().write_all(format!("{line}\n").as_bytes()).is_err() {
+        UNSAID.store(true, Ordering::Relaxed);
+    }
+}
+
+/// Whether all lines could be said.
+pub fn all_said() -> bool {
+    !UNSAID.load(Ordering::Relaxed)
 }
 
 /// A file as a whole.

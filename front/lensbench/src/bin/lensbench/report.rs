@@ -1,4 +1,5 @@
 //! What is said of a job that has ended, for the table and for JSON alike.
+use super::out::say;
 use super::source::Source;
 use lensbench::causes::{causes, Cause, Part};
 use lensbench::jobfile::{Entry, Lines};
@@ -67,13 +68,13 @@ pub fn refused(source: &Source, refusal: Refusal) {
     let found = causes(&source.entry.job);
     print_causes(source, &found);
     if found.first().map(|cause| cause.refusal) != Some(refusal) {
-        eprintln!("{}: {refusal}", source.at(source.entry.lines.job));
+        say(&format!("{}: {refusal}", source.at(source.entry.lines.job)));
     }
 }
 
 pub fn print_causes(source: &Source, found: &[Cause]) {
     for cause in found {
         let at = source.at(line_of(&source.entry.lines, cause.part));
-        eprintln!("{at}: refused with {}: {}", cause.refusal.number(), cause.what);
+        say(&format!("{at}: refused with {}: {}", cause.refusal.number(), cause.what));
     }
 }

@@ -1,4 +1,5 @@
 //! Job files, read. What is wrong with one goes to standard error, as `file:line: what`.
+use super::out::say;
 use lensbench::jobfile::{read, Entry};
 use std::io::Read;
 
@@ -40,7 +41,7 @@ pub fn read_all(files: &[String], need_run: bool) -> Sources {
             Ok(jobs) => sources.jobs.extend(jobs),
             Err(complaints) => {
                 sources.in_form = false;
-                complaints.iter().for_each(|complaint| eprintln!("{complaint}"));
+                complaints.iter().for_each(|complaint| say(complaint));
             }
         }
     }

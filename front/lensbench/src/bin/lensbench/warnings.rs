@@ -1,4 +1,5 @@
 //! What is taken, and is hardly meant.
+use super::out::say;
 use super::report::line_of;
 use super::source::Source;
 use lensbench::causes::Part;
@@ -9,7 +10,7 @@ use lensbench::{shortest, Aim, Job, Operand, Quantity, Run, Variable};
 pub fn print(source: &Source) -> usize {
     let found = warnings(&source.entry.job);
     for (part, what) in &found {
-        eprintln!("{}: warning: {what}", source.at(line_of(&source.entry.lines, *part)));
+        say(&format!("{}: warning: {what}", source.at(line_of(&source.entry.lines, *part))));
     }
     found.len()
 }
