@@ -330,6 +330,15 @@ fn pictures() {
     assert_eq!((text.matches("class=\"glass\"").count(), text.matches("class=\"ray\"").count(), text.matches("class=\"image\"").count()), (3, 12, 1));
     assert_eq!(lensbench(&["run", "--svg", name.to_str().unwrap(), &example("singlet.lens"), &example("scanner.lens")], "").0, 0);
     assert!(folder.join("lens-1.svg").is_file() && folder.join("lens-2.svg").is_file());
+    // a lens that runs into the one before it, and one whose faces meet
+    let odd = std::fs::read_to_string(example("triplet.lens")).unwrap();
+    for (from, to) in [("  4.750409 ", "  -1.0 "), ("79.6836    2.952076", "79.6836    0.1")] {
+        assert!(odd.contains(from));
+        let text = odd.replace(from, to).replace("vary thickness 4 from 4 to 6\n", "");
+        assert_eq!(lensbench(&["run", "--svg", name.to_str().unwrap(), "-"], text).0, 0);
+        let text = std::fs::read_to_string(&name).unwrap();
+        assert_eq!((text.matches("class=\"glass\"").count(), text.matches("class=\"crossed\"").count()), (2, 1), "{to}");
+    }
 }
 
 #[test]

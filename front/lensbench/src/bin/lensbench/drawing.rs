@@ -73,8 +73,14 @@ impl<'a> Layout<'a> {
         Some([front, vec![(first, edge), (last, edge)], back, vec![(last, -edge), (first, -edge)]].concat())
     }
 
-    /// Whether the two faces of an element meet before its edge.
+    /// Whether the two faces of an element meet before its edge, or its front meets the element before it.
     pub fn crossed(&self, i: usize) -> bool {
+        let air_before = i >= 2 && !self.glass(i - 1) && self.glass(i - 2);
+        self.meet(i) || (air_before && self.meet(i - 1))
+    }
+
+    /// Whether a surface and the next meet within the smaller of their semi-diameters.
+    fn meet(&self, i: usize) -> bool {
         let y = reach(&self.surfaces[i]).min(reach(&self.surfaces[i + 1]));
         self.at[i] + sag(&self.surfaces[i], y) > self.at[i + 1] + sag(&self.surfaces[i + 1], y)
     }
