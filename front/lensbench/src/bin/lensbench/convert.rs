@@ -51,8 +51,8 @@ fn from_line(args: &Args) -> Done {
         let text = text_of(file)?.map_err(|line| format!("{file}:{line}: the line is not UTF-8 text"))?;
         let lines = text.lines().enumerate().filter(|(_, line)| !line.trim().is_empty());
         for (i, line) in lines {
-            match Line::of_text(line) {
-                Ok(line) => out.put(&format!("{}\n", file_of(line)))?,
+            match Line::of_text(line).and_then(file_of) {
+                Ok(job) => out.put(&format!("{job}\n"))?,
                 Err(what) => {
                     say(&format!("{file}:{}: {what}", i + 1));
                     status = 2;
@@ -64,9 +64,15 @@ fn from_line(args: &Args) -> Done {
     Ok(status)
 }
 
+/// Slots that are given names. A line without surfaces may have any number of them, since it has no index then.
+const NAMED: usize = 1000;
+
 /// The job as a file; a lens that is only evaluated or traced has no line `run`.
-fn file_of(line: Line) -> String {
+fn file_of(line: Line) -> Result<String, String> {
+    if line.job.lens.slots > NAMED {
+        return Err(format!("{} slots are too many to be named in a file", line.job.lens.slots));
+    }
     let slots = (1..=line.job.lens.slots).map(|i| format!("w{i}")).collect();
     let run = (line.call == Call::Run).then_some(1);
-    write(&Entry { name: line.id, slots, job: line.job, lines: Lines { run, ..Lines::default() } })
+    Ok(write(&Entry { name: line.id, slots, job: line.job, lines: Lines { run, ..Lines::default() } }))
 }
