@@ -218,6 +218,11 @@ fn refusals_with_their_lines() {
         let (status, out, _) = lensbench(&["run", "--json", "-"], &text);
         assert!(status == 1 && out.contains("\"status\":\"refused\",\"number\":"), "{out}");
     }
+    // an evaluation has causes of its own: the variable is not looked at
+    let text = GOOD.replace("pupil 10", "pupil 0").replace("vary curvature 1", "vary curvature 9");
+    let (_, run, _) = lensbench(&["run", "--json", "-"], &text);
+    let (_, alone, _) = lensbench(&["evaluate", "--json", "-"], &text);
+    assert_eq!((run.matches("\"what\"").count(), alone.matches("\"what\"").count()), (2, 1), "{run}{alone}");
 }
 
 #[test]
@@ -354,6 +359,8 @@ fn lines_and_back() {
     let (status, _, err) = lensbench(&["convert", "--from-line", "-"], &format!("{lines}J broken\n"));
     assert_eq!((status, err.as_str()), (2, "-:5: the line ends before the kind\n"));
     assert!(lensbench(&["convert", "--to-line", "--trace", "C", &files[1]], "").1.trim_end().ends_with(" C 2"));
+    let (status, _, err) = lensbench(&["convert", "--from-line", "-"], "J x 4 S 0 I 99999999999 P 3ff0000000000000 V 0 O 0 C\n");
+    assert_eq!((status, err.as_str()), (2, "-:1: 99999999999 slots are too many to be named in a file\n"));
 }
 
 #[test]

@@ -66,8 +66,9 @@ fn each(args: &Args, show: impl Fn(&Source) -> Shown) -> Done {
             Ok(text) => out.put(&text)?,
             Err(refusal) => {
                 status = 1;
-                report::print_causes(source, &causes_of_evaluation(&source.entry.job));
-                let text = if args.has("--json") { json::refused(source, refusal) } else { table::refused(source, refusal) };
+                let causes = causes_of_evaluation(&source.entry.job);
+                report::print_causes(source, &causes);
+                let text = if args.has("--json") { json::refused(source, refusal, causes) } else { table::refused(source, refusal) };
                 out.put(&text)?;
             }
         }

@@ -1,5 +1,5 @@
 //! A lens as lines in the plane of its axis, in mm: z along the axis, y across it.
-use lensbench::{Lens, Ray, Surface};
+use lensbench::{Lens, Quantity, Ray, Surface};
 
 pub type Point = (f64, f64);
 
@@ -9,21 +9,17 @@ const STEPS: i32 = 48;
 const HEIGHTS: [f64; 4] = [-1.0, -0.5, 0.5, 1.0];
 
 fn curvature(s: &Surface) -> f64 {
-    if s.radius_mm.is_infinite() || s.radius_mm.abs() < 1e-15 {
-        0.0
-    } else {
-        1.0 / s.radius_mm
-    }
+    Quantity::Curvature.of(s)
 }
 
-/// How far a surface lies behind its vertex at a height, and the height to which it reaches.
+/// How far a surface lies behind its vertex at a height; beyond its reach it stays as it is there.
 fn sag(s: &Surface, y: f64) -> f64 {
     let (c, y) = (curvature(s), y.abs().min(reach(s)));
     let under = (1.0 - (1.0 + s.conic_constant) * c * c * y * y).max(0.0);
     c * y * y / (1.0 + under.sqrt())
 }
 
-/// A sphere or ellipsoid ends where its tangent is across the axis.
+/// The height to which a surface is drawn: a sphere or ellipsoid ends where its tangent is across the axis.
 fn reach(s: &Surface) -> f64 {
     let (c, wide) = (curvature(s).abs(), 1.0 + s.conic_constant);
     if c > 0.0 && wide > 0.0 {

@@ -1,7 +1,7 @@
 //! Results for programs: one object of JSON a line. A number has 17 digits and its bits; one that is not finite has the value null.
 use super::report::{changed, line_of, share, Found};
 use super::source::Source;
-use lensbench::causes::causes;
+use lensbench::causes::Cause;
 use lensbench::jobfile::{aim_name, run_name, Entry};
 use lensbench::lines::bits;
 use lensbench::{Evaluation, Ray, Refusal};
@@ -73,11 +73,11 @@ fn line(fields: Vec<(&'static str, Json)>) -> String {
     format!("{}\n", Json::Object(fields))
 }
 
-pub fn refused(source: &Source, refusal: Refusal) -> String {
+pub fn refused(source: &Source, refusal: Refusal, causes: Vec<Cause>) -> String {
     let entry = &source.entry;
     let mut fields = head(source, "refused");
     fields.extend([("number", Json::Whole(refusal.number().into())), ("sentence", text(refusal.sentence()))]);
-    let list = causes(&entry.job).into_iter().map(|cause| {
+    let list = causes.into_iter().map(|cause| {
         let at = line_of(&entry.lines, cause.part) as u64;
         Json::Object(vec![("line", Json::Whole(at)), ("number", Json::Whole(cause.refusal.number().into())), ("what", Json::Text(cause.what))])
     });

@@ -5,6 +5,7 @@ use super::play::{Ended, Player};
 use super::progress::Progress;
 use super::source::{read_all, Source};
 use super::{json, report, svg, table, warnings, Done};
+use lensbench::causes::causes;
 use std::collections::BTreeMap;
 
 const KNOWN: Known = Known { marks: &["--json", "--bits", "--progress", "--no-progress"], values: &["--svg"] };
@@ -51,7 +52,7 @@ fn show_one(jobs: &[Source], at: usize, ended: &Ended, show: &Show, out: &mut Ou
     match ended {
         Ended::Refused(refusal) => {
             report::refused(source, *refusal);
-            let text = if show.json { json::refused(source, *refusal) } else { table::refused(source, *refusal) };
+            let text = if show.json { json::refused(source, *refusal, causes(&source.entry.job)) } else { table::refused(source, *refusal) };
             out.put(&text)?;
             out.flush()?;
             Ok(1)
