@@ -383,4 +383,11 @@ fn a_folder_of_jobs() {
     assert_eq!(status, 2);
     assert!(out.contains("job9.lens: not run\n") && out.contains("job3.lens: refused\n"), "{out}");
     assert!(std::fs::read_to_string(into.join("job9.err")).unwrap().contains(":2: `pupl` is no keyword"));
+    // what was refused before is so still, and a file that has come to be broken keeps no older result
+    std::fs::remove_file(folder.join("job9.lens")).unwrap();
+    let (status, out, _) = lensbench(&words, "");
+    assert!(status == 1 && out.contains("job3.lens: refused before\n"), "{out}");
+    std::fs::write(folder.join("job3.lens"), "").unwrap();
+    assert_eq!(lensbench(&words, "").0, 2);
+    assert!(into.join("job3.err").is_file() && !into.join("job3.json").exists());
 }

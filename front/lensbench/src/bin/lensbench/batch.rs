@@ -95,16 +95,17 @@ impl Work {
         let named = |ending: &str| self.into.join(file.file_stem().unwrap_or_default()).with_extension(ending);
         let (result, said) = (named("json"), named("err"));
         if !self.again && newer(&result, file) {
-            return told(file, "done before");
+            let refused = refused_before(&result)?;
+            told(file, if refused { "refused before" } else { "done before" })?;
+            return Ok(u8::from(refused));
         }
         let program = std::env::current_exe().map_err(|e| format!("this program: {e}"))?;
         let ran =
             Command::new(program).args(["run", "--json", "--no-progress"]).arg(file).output().map_err(|e| format!("{}: {e}", file.display()))?;
         keep(&said, &ran.stderr)?;
         let status = ran.status.code().and_then(|code| u8::try_from(code).ok()).unwrap_or(2);
-        if status <= 1 {
-            keep(&result, &ran.stdout)?;
-        }
+        // a file that could not be run has no result, and not an older one either
+        keep(&result, if status <= 1 { &ran.stdout } else { &[] })?;
         told(file, ["done", "refused", "not run"][usize::from(status.min(2))])?;
         Ok(status)
     }
@@ -113,6 +114,12 @@ impl Work {
 fn newer(result: &Path, file: &Path) -> bool {
     let time = |path: &Path| std::fs::metadata(path).and_then(|m| m.modified()).ok();
     matches!((time(result), time(file)), (Some(result), Some(file)) if result > file)
+}
+
+/// Whether some job of a result was refused. A name cannot look like it: its quotation marks are escaped.
+fn refused_before(result: &Path) -> Result<bool, String> {
+    let text = std::fs::read_to_string(result).map_err(|e| format!("{}: {e}", result.display()))?;
+    Ok(text.contains("\"status\":\"refused\""))
 }
 
 /// Writes a file under another name and renames it, so that one that is there is whole. Nothing to say leaves no file.
