@@ -152,10 +152,10 @@ fn a_typo_in_each_field() {
         let said = err.lines().find(|said| said.starts_with(&format!("-:{at}: ")));
         assert!(said.is_some_and(|said| said.contains(what)), "{typo}\n{err}");
     }
-    let (status, _, err) = lensbench(&["run", "-"], &GOOD.replace("run multi", "# run multi"));
+    let (status, _, err) = lensbench(&["run", "-"], GOOD.replace("run multi", "# run multi"));
     assert_eq!((status, err.starts_with("-:1: job one has no line `run`")), (2, true));
     assert!(lensbench(&["run", "-"], "# nothing\n").2.contains("-:1: there is no job"));
-    assert_eq!(lensbench(&["evaluate", "-"], &GOOD.replace("run multi", "# run multi")).0, 0);
+    assert_eq!(lensbench(&["evaluate", "-"], GOOD.replace("run multi", "# run multi")).0, 0);
 }
 
 /// One mistake is not told once for each line that it reaches.
@@ -233,14 +233,14 @@ fn warnings() {
         ("vary thickness 1 from 4 to 4", "-:6: warning: thickness of surface 1 cannot move"),
     ];
     for (line, what) in cases {
-        let (status, out, err) = lensbench(&["check", "-"], &GOOD.replace("vary curvature 1 from 0.001 to 0.1 step 1e-6", line));
+        let (status, out, err) = lensbench(&["check", "-"], GOOD.replace("vary curvature 1 from 0.001 to 0.1 step 1e-6", line));
         assert!(status == 0 && err.contains(what) && out.contains("would be taken"), "{err}");
     }
-    let (status, _, err) = lensbench(&["check", "-"], &GOOD.replace(" 1.51 ", " .151 "));
+    let (status, _, err) = lensbench(&["check", "-"], GOOD.replace(" 1.51 ", " .151 "));
     assert!(status == 0 && err.contains("-:4: warning: index 0.151 is below 1, that of no glass and not of air"), "{err}");
-    let (status, _, err) = lensbench(&["check", "-"], &GOOD.replace("centre-at-least 1 2", "centre-at-least 3 2"));
+    let (status, _, err) = lensbench(&["check", "-"], GOOD.replace("centre-at-least 1 2", "centre-at-least 3 2"));
     assert!(status == 0 && err.contains("-:8: warning: surface 3 is not there"), "{err}");
-    let (status, _, err) = lensbench(&["check", "-"], &GOOD.replace("edge-at-least 1", "edge-at-least 2"));
+    let (status, _, err) = lensbench(&["check", "-"], GOOD.replace("edge-at-least 1", "edge-at-least 2"));
     assert!(status == 0 && err.contains("-:9: warning: surface 2 is the last: it has no edge"), "{err}");
 }
 
@@ -356,7 +356,7 @@ fn lines_and_back() {
     let jobs: Vec<Job> = read(&text).unwrap().into_iter().map(|entry| entry.job).collect();
     assert_eq!(status, 0);
     assert_eq!(jobs, ["singlet.lens", "achromat.lens", "triplet.lens", "scanner.lens"].map(job));
-    let (status, _, err) = lensbench(&["convert", "--from-line", "-"], &format!("{lines}J broken\n"));
+    let (status, _, err) = lensbench(&["convert", "--from-line", "-"], format!("{lines}J broken\n"));
     assert_eq!((status, err.as_str()), (2, "-:5: the line ends before the kind\n"));
     assert!(lensbench(&["convert", "--to-line", "--trace", "C", &files[1]], "").1.trim_end().ends_with(" C 2"));
     let (status, _, err) = lensbench(&["convert", "--from-line", "-"], "J x 4 S 0 I 99999999999 P 3ff0000000000000 V 0 O 0 C\n");
