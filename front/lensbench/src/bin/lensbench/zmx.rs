@@ -48,8 +48,7 @@ pub struct Liberties {
 
 /// Lines that are passed over: they say nothing of the lens on its axis. Version, notes, surroundings, catalogues, ray aiming, fields and vignetting, weights,
 /// polarization, coatings, how things are shown, apertures that only stop light, the stop's place, mechanical sizes, tolerances.
-const PASSED_OVER: &str =
-    "VERS NOTE PFIL LANG ENVD GFAC GCAT RAIM PUSH SDMA OMMA ROPD HYPR PICB XFLN YFLN FWGN VDXN VDYN VCXN VCYN VANN XFLD YFLD FWGT \
+const PASSED_OVER: &str = "VERS NOTE PFIL LANG ENVD GFAC GCAT RAIM PUSH SDMA ROPD PICB XFLN YFLN FWGN VDXN VDYN VCXN VCYN VANN XFLD YFLD FWGT \
     WWGT PWAV POLS GLRS GSTD NSCD COFN COMM STOP FIMP COAT HIDE SLAB POPS FLAP CLAP MEMA OEMA TOL MOFF";
 
 /// Apertures that would have to be turned into a diameter of the entrance pupil.
