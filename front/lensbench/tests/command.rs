@@ -191,7 +191,7 @@ fn odd_files() {
     for (text, said) in cases {
         let (status, out, err) = lensbench(&["run", "-"], text);
         assert!(
-            err.starts_with(said) && err.len() < 500 && (status, out.is_empty()) == if said.is_empty() { (0, false) } else { (2, true) },
+            err.starts_with(said) && err.len() < 2100 && (status, out.is_empty()) == if said.is_empty() { (0, false) } else { (2, true) },
             "{err}"
         );
     }
@@ -236,6 +236,10 @@ fn warnings() {
         let (status, out, err) = lensbench(&["check", "-"], GOOD.replace("vary curvature 1 from 0.001 to 0.1 step 1e-6", line));
         assert!(status == 0 && err.contains(what) && out.contains("would be taken"), "{err}");
     }
+    let conic = GOOD.replace("step 1e-6\n", "step 1e-6\nvary conic 2\n");
+    assert_eq!(lensbench(&["check", "-"], &conic).2, "");
+    let (status, _, err) = lensbench(&["check", "-"], conic.replace("want edge", "# want edge"));
+    assert!(status == 0 && err.starts_with("-:7: warning: no operand depends on the conic of surface 2"), "{err}");
     let (status, _, err) = lensbench(&["check", "-"], GOOD.replace(" 1.51 ", " .151 "));
     assert!(status == 0 && err.contains("-:4: warning: index 0.151 is below 1, that of no glass and not of air"), "{err}");
     let (status, _, err) = lensbench(&["check", "-"], GOOD.replace("centre-at-least 1 2", "centre-at-least 3 2"));

@@ -155,6 +155,10 @@ fn what_is_refused() {
         assert_eq!((status, out.as_str(), err.lines().count()), (2, "", 1), "{to}: {err}");
         assert!(err.starts_with("-:") && err.contains(what), "{to}: {err}");
     }
+    // what is no text does not reach a terminal, and a long word not in full
+    let (_, _, err) = import(triplet() + "\x1b[31m 1\n", &[]);
+    assert!(err.contains(": \u{fffd}[31m is not known here"), "{err}");
+    assert!(import(triplet() + &"A".repeat(100_000), &[]).2.len() < 2100);
     for odd in ["", "job one\npupil 10\n", "PK\u{3}\u{4}\0\0"] {
         let (status, _, err) = import(odd, &[]);
         assert_eq!((status, err.as_str()), (2, "-:1: no line SURF: this is no Zemax text file\n"));

@@ -25,9 +25,6 @@ pub fn read(text: &str) -> Result<Vec<Entry>, Vec<Complaint>> {
     }
 }
 
-/// Letters of a complaint.
-const LONGEST: usize = 400;
-
 #[derive(Default)]
 struct Reader {
     /// whether a line before the first job was told of: once is enough
@@ -38,12 +35,7 @@ struct Reader {
 }
 
 impl Reader {
-    /// A word that is very long is not shown in full.
     fn complain(&mut self, line: usize, what: String) {
-        let letters: Vec<char> = what.chars().collect();
-        let short = |of: &[char]| of.iter().collect::<String>();
-        let what =
-            if letters.len() > LONGEST { short(&letters[..LONGEST / 2]) + " .. " + &short(&letters[letters.len() - LONGEST / 2..]) } else { what };
         self.complaints.push(Complaint { line, what });
     }
 

@@ -37,9 +37,22 @@ static UNSAID: AtomicBool = AtomicBool::new(false);
 
 /// A line on standard error, in one write. Where it fails nobody can be told, but the status is 2.
 pub fn say(line: &str) {
-    if std::io::stderr().write_all(format!("{line}\n").as_bytes()).is_err() {
+    if std::io::stderr().write_all(format!("{}\n", shown(line)).as_bytes()).is_err() {
         UNSAID.store(true, Ordering::Relaxed);
     }
+}
+
+/// Letters of a line that are shown.
+const LONGEST: usize = 2000;
+
+/// A line may have words of a file in it: what is no text does not reach the terminal, and of a very long one both ends are enough.
+fn shown(line: &str) -> String {
+    let letters: Vec<char> = line.chars().map(|c| if c.is_control() && c != '\n' { char::REPLACEMENT_CHARACTER } else { c }).collect();
+    if letters.len() <= LONGEST {
+        return letters.into_iter().collect();
+    }
+    let (first, last) = (&letters[..LONGEST / 2], &letters[letters.len() - LONGEST / 2..]);
+    first.iter().chain(&[' ', '.', '.', ' ']).chain(last).collect()
 }
 
 /// Whether all lines could be said.

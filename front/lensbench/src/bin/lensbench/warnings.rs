@@ -64,11 +64,20 @@ fn of_variable(job: &Job, i: usize, v: &Variable) -> Vec<String> {
     if v.enabled && v.least == v.greatest {
         found.push(format!("{name} cannot move: both its bounds are {least}"));
     }
+    let of_edges = matches!(v.quantity, Quantity::Conic | Quantity::SemiDiameter);
+    if v.enabled && starts.is_some() && of_edges && !job.operands.iter().any(|o| at_edge(o, v.surface)) {
+        found.push(format!("no operand depends on the {name}: it has a part in the edges before and behind it alone (edge-at-least)"));
+    }
     let earlier = job.variables[..i].iter().any(|w| w.enabled && v.enabled && w.quantity == v.quantity && w.surface == v.surface);
     if earlier {
         found.push(format!("{name} is varied twice: the later line has the last word"));
     }
     found
+}
+
+/// Whether an operand looks at an edge that a surface is one side of.
+fn at_edge(o: &Operand, surface: usize) -> bool {
+    matches!(o.aim, Aim::LeastEdgeThickness { surface: front, .. } if front == surface || front.checked_add(1) == Some(surface))
 }
 
 fn of_operand(job: &Job, o: &Operand) -> Vec<String> {
