@@ -1,6 +1,6 @@
-//! One line of a job: slots, pupil, surface, vary, want.
+//! One line of a job: slots, surface, vary, want.
 use super::names::{AIMS, QUANTITIES};
-use super::words::{number, Words};
+use super::words::{number, number_or, Words};
 use crate::format::counted;
 use crate::lens::{Aim, Operand, Quantity, Surface, Variable};
 
@@ -37,7 +37,7 @@ fn radius(word: &str) -> Result<f64, String> {
     if word == "flat" {
         return Ok(f64::INFINITY);
     }
-    number(word, "the radius").map_err(|what| if what.contains("no number") { format!("{what}, and not `flat`") } else { what })
+    number_or(word, "the radius", ", and not `flat`")
 }
 
 fn indices(words: Vec<&str>, slots: &[String]) -> Result<Vec<f64>, String> {
@@ -51,8 +51,7 @@ fn indices(words: Vec<&str>, slots: &[String]) -> Result<Vec<f64>, String> {
     if words.contains(&"air") {
         return Err(format!("`air` must stand alone: {BEFORE_THE_INDEX}"));
     }
-    let numbers = words.iter().map(|word| number(word, "the index")).collect::<Result<Vec<f64>, String>>();
-    let numbers = numbers.map_err(|what| if what.ends_with("no number") { format!("{what}, and not `air`") } else { what })?;
+    let numbers = words.iter().map(|word| number_or(word, "the index", ", and not `air`")).collect::<Result<Vec<f64>, String>>()?;
     if numbers.len() != slots.len() {
         let (have, need) = (counted(numbers.len(), "index", "indices"), counted(slots.len(), "slot", "slots"));
         return Err(format!("{have} for {need} ({named}); {BEFORE_THE_INDEX}"));

@@ -80,6 +80,11 @@ impl<'a> Words<'a> {
 
 /// A decimal number, or `inf`, `-inf`, `nan`, which no field but a radius takes and the bench refuses.
 pub fn number(word: &str, what: &str) -> Result<f64, String> {
+    number_or(word, what, "")
+}
+
+/// The same where a word may stand instead, which a complaint adds: ", and not `flat`".
+pub fn number_or(word: &str, what: &str, instead: &str) -> Result<f64, String> {
     match word {
         "inf" => return Ok(f64::INFINITY),
         "-inf" => return Ok(f64::NEG_INFINITY),
@@ -92,6 +97,6 @@ pub fn number(word: &str, what: &str) -> Result<f64, String> {
         Ok(_) if decimal => Err(format!("{what}: `{word}` is too large for a number")),
         _ if !word.is_ascii() => Err(format!("{what}: `{word}` is no number; it has a letter or sign that is not ASCII")),
         _ if word.contains(',') => Err(format!("{what}: `{word}` is no number; write a point and no comma")),
-        _ => Err(format!("{what}: `{word}` is no number")),
+        _ => Err(format!("{what}: `{word}` is no number{instead}")),
     }
 }
