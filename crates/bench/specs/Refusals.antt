@@ -13,7 +13,7 @@ use Rattle.jobs.specs.Filled.{filled}
 abbrev pub noPlace : (place : ℕ) → Bool
 noPlace place = not (ltb place 4)
 
--- "9. Scratch shorter than 256."
+-- "Scratch from 128 upward is taken, and 9 is now given below 128." (request 11)
 abbrev pub scratchShort : (length : ℕ) → Bool
 scratchShort length = ltb length scratchLength
 

@@ -119,7 +119,7 @@ fn first_row(bench: Bench) -> Row {
 
 // The bench after so many turns of place 0, or as many as there are.
 fn played(bench: Bench, count: u64) -> Bench {
-    let mut scratch = [0.0; 256];
+    let mut scratch = [0.0; 128];
     let answer = benchcalls::play_turns(bench, 0, count, &mut scratch);
     let left = answer.bench;
     left

@@ -57,12 +57,21 @@ fn is_empty(bench: Bench, place: usize, request: JobRequest) -> bool {
     keeps(bench, place, 11) && lists_others(bench, place) && admits(bench, place, request)
 }
 
-// What a turn, a fetch and the listing answer, and whether bench, scratch and result are what they were.
+// What a turn, a fetch and the listing answer; whether bench, scratch and result are what they were; and whether scratch is
+// as a turn leaves it.
 struct Answers {
     turn: u32,
     fetch: u32,
     listed: usize,
     is_kept: bool,
+    is_cleared: bool,
+}
+
+// The first 128 are +0.0, and the others what they were (request 11).
+fn is_cleared(scratch: [f64; 256], before: [f64; 256]) -> bool {
+    let zeros = [0.0; 128];
+    same::same_floats(&scratch[0..128], &zeros)
+        && same::same_floats(&scratch[128..256], &before[128..256])
 }
 
 fn answers_of(bench: Bench, place: usize) -> Answers {
@@ -81,6 +90,7 @@ fn answers_of(bench: Bench, place: usize) -> Answers {
         fetch: fetch.number,
         listed: finished.count,
         is_kept: is_kept,
+        is_cleared: is_cleared(scratch, before),
     }
 }
 
@@ -89,7 +99,7 @@ fn is_taken(bench: Bench, place: usize) -> bool {
     let a = answers_of(bench, place);
     let turn = a.turn;
     match turn {
-        0 => a.fetch == 14 && a.listed == 3,
+        0 => a.fetch == 14 && a.listed == 3 && a.is_cleared,
         13 => a.fetch == 0 && a.listed == 4,
         _ => false,
     }

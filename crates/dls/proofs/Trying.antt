@@ -21,7 +21,8 @@ use Rattle.runs.specs.DampedRun.{isStationary, raised}
 use Rattle.runs.specs.DampedRow.{currentOf, atCandidate, ended, resumeAttempts, resumeStationary}
 use Rattle.dls.specs.DampedSteps.{optimizer, withDamping, ScratchKept, EquationsIn, candidateIn, AttemptsMade}
 use Rattle.dls.proofs.AttemptsLeft.{left, h, g, solved-no, solved-yes, attempt-none, attempt-found, attempts-over, candidate-made}
-use Rattle.dls.proofs.Kept.{kept-same, kept-on, kept-attempt, still-stands}
+use Rattle.normal.proofs.Kept.{attempt-stands}
+use Rattle.dls.proofs.Kept.{kept-same, kept-on, kept-attempt}
 
 -- scratch l₀ has become l, the damping another, and k attempts are over
 pub record Trying (v : VariableSet) (d : DampedState) (l₀ : List Float) (damping₀ : Damping) (k₀ : ℕ) (l : List Float) (damping : Damping) (k : ℕ) : Type 0 where
@@ -45,7 +46,7 @@ module _ {v : VariableSet} {d : DampedState} {l₀ : List Float} {damping₀ : D
       pub trying-on : {more : Damping} → numActive v ≤ mostVariables → x ≡ No → more .value ≡ raisedOf (damping .value) → Trying v d l₀ damping₀ k₀ l' more (k + 1)
       trying-on few none e = record {
         goes = λ config m s. t .goes config m s ∙ attempt-none config v m d (damping .value) k b (solved-no _ (sym none ∙ answer config m s .answer)) ∙ ap (left config v m d (k + 1)) (sym e);
-        stand = λ h g s. still-stands a few h g (t .stand h g s);
+        stand = λ h g s. attempt-stands _ _ h g _ _ _ few a (t .stand h g s);
         kept = kept-on (t .kept) (kept-attempt a);
       }
 

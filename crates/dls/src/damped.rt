@@ -178,7 +178,7 @@ fn advance_minus(
     )
 }
 
-// The state after the merit that came next. A turn uses the first 256 of scratch.
+// The state after the merit that came next. A turn uses the first 128 of scratch.
 pub fn advance_damped(
     h: Head,
     config: DlsConfig,

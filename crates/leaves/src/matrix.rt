@@ -1,5 +1,5 @@
 // The lines on small matrices: a system solved, and the normal equations of a Jacobian.
-ghost use Prim.Native.Nat.{_≤_};
+ghost use Prim.Native.Nat.{_≤_, _<_};
 ghost use lib.ListN.{length};
 ghost use Rattle.normal.specs.Layout.{scratchLength, mostOperands, mostVariables};
 use answers::put_unknown;
@@ -56,7 +56,7 @@ pub(crate) fn answer_solve(
     if p == 0 || p > 8 {
         return put_unknown(out, waiting, line, number, r.next);
     }
-    let mut scratch = [0.0; 256];
+    let mut scratch = [0.0; 128];
     let c = read_system(line, r.next, &mut scratch, p);
     if !cursor::is_done(line, c) {
         return put_unknown(out, waiting, line, number, c);
@@ -119,7 +119,7 @@ pub(crate) fn answer_normal(
     if !cursor::is_done(line, c) {
         return put_unknown(out, waiting, line, number, c);
     }
-    let mut scratch = [0.0; 256];
+    let mut scratch = [0.0; 128];
     let norm = normal::normal_equations(&mut scratch, &jacobian, &residuals, m, p);
     let waiting = put_line(out, waiting, line);
     put_equations(out, waiting, &scratch, p, norm)
@@ -142,10 +142,23 @@ fn put_product(out: &mut [u8], waiting: Waiting, scratch: &[f64], p: usize) -> W
     let mut held = waiting;
     let mut i = 0;
     while i < p {
-        let from = PRODUCT + place(i, 0);
-        let to = from + p;
-        held = output::put_floats(out, held, &scratch[from..to]);
+        held = put_product_row(out, held, scratch, p, i);
         i += 1;
+    }
+    held
+}
+
+// Entry by entry: scratch has the lower triangle alone.
+fn put_product_row(out: &mut [u8], waiting: Waiting, scratch: &[f64], p: usize, i: usize) -> Waiting
+    requires { ⌜ scratchLength ≤ length (now scratch) ⌝ ∗ ⌜ p ≤ mostVariables ⌝ ∗ ⌜ i < p ⌝ }
+{
+    let mut held = waiting;
+    let mut j = 0;
+    while j < p {
+        let at = PRODUCT + place(i, j);
+        let entry = [scratch[at]];
+        held = output::put_floats(out, held, &entry);
+        j += 1;
     }
     held
 }

@@ -17,43 +17,20 @@ use Rattle.normal.specs.Products.{Matrix, Vector, normalProduct, gradien
 use Rattle.normal.specs.Scratch.{Outside, gradientIn, Equations}
 use Rattle.normal.specs.Loops.{withProduct, withProductRow, withProducts, withGradient}
 use Rattle.normal.proofs.Parts.{part-in, part-out}
-use Rattle.normal.proofs.Sums.{norm-same}
-
--- columns that share a place share their product
-place-same : (m : ℕ) (jacobian : Matrix) (i j a b : ℕ) → j < 8 → b < 8 → place a b ≡ place i j → normalProduct m jacobian i j ≡ normalProduct m jacobian a b
-place-same m jacobian i j a b hj hb e =
-    let ei : i ≡ a = omega arith in
-    let ej : j ≡ b = omega arith in
-    λ t. normalProduct m jacobian (ei t) (ej t)
-
-place-within : (i j : ℕ) → i < 8 → j < 8 → productAt + place i j < productAt + productLength
-place-within i j hi hj = omega arith
+use Rattle.normal.proofs.Sums.{symmetric, norm-same}
+use Rattle.normal.proofs.Triangle.{place-below, place-swap, place-same}
 
 module _ (m : ℕ) (jacobian : Matrix) where
   abbrev Held : List Float → ℕ → ℕ → Type 0
   Held l a b = getD l (productAt + place a b) nan ≡ normalProduct m jacobian a b
 
-  abbrev put : ℕ → ℕ → List Float → List Float
-  put i j l = set l (productAt + place i j) (normalProduct m jacobian i j)
-
-  put-new : (l : List Float) (i j : ℕ) → i < 8 → j < 8 → scratchLength ≤ length l → Held (put i j l) i j
-  put-new l i j hi hj h = getD-set-same l (productAt + place i j) (normalProduct m jacobian i j) nan (omega (arith, place-within i j hi hj))
-
-  put-kept : (l : List Float) (i j a b : ℕ) → i < 8 → j < 8 → b < 8 → scratchLength ≤ length l → Held l a b → Held (put i j l) a b
-  put-kept l i j a b hi hj hb h e = go (eqb (place a b) (place i j)) refl
-    where
-      apart : (place a b ≡ place i j → ⊥) → productAt + place a b ≡ productAt + place i j → ⊥
-      apart n q = n (omega arith)
-
-      go : (t : Bool) → eqb (place a b) (place i j) ≡ t → Held (put i j l) a b
-      go true t =
-          let same = eqb-true (place a b) (place i j) t in
-          ap (λ (x : ℕ). getD (put i j l) (productAt + x) nan) same ∙ put-new l i j hi hj h ∙ place-same m jacobian i j a b hj hb same
-      go false t = getD-set-other l (productAt + place i j) (productAt + place a b) (normalProduct m jacobian i j) nan (apart (eqb-false (place a b) (place i j) t)) ∙ e
+  -- a product held is held for the columns in either order
+  turned-round : (l : List Float) (a b : ℕ) → Held l a b → Held l b a
+  turned-round l a b e = ap (λ (x : ℕ). getD l (productAt + x) nan) (place-swap b a) ∙ e ∙ symmetric m jacobian a b
 
   product-long : (i j : ℕ) (l : List Float) → length (withProduct m jacobian i j l) ≡ length l
   unfolding withProduct
-  product-long i j l = length-set (put i j l) (productAt + place j i) (normalProduct m jacobian j i) ∙ length-set l (productAt + place i j) (normalProduct m jacobian i j)
+  product-long i j l = length-set l (productAt + place i j) (normalProduct m jacobian i j)
 
   row-long : (i n : ℕ) (l : List Float) → length (withProductRow m jacobian i n l) ≡ length l
   unfolding withProductRow
@@ -66,40 +43,42 @@ module _ (m : ℕ) (jacobian : Matrix) where
   products-long (suc n) l = row-long n (suc n) (withProducts m jacobian n l) ∙ products-long n l
 
   module _ (l : List Float) (i j : ℕ) (hi : i < 8) (hj : j < 8) (h : scratchLength ≤ length l) where
-    after : scratchLength ≤ length (put i j l)
-    after = rw (length-set l (productAt + place i j) (normalProduct m jacobian i j)) h
-
-    product-new : Held (withProduct m jacobian i j l) i j × Held (withProduct m jacobian i j l) j i
+    product-new : Held (withProduct m jacobian i j l) i j
     unfolding withProduct
-    product-new = (put-kept (put i j l) j i i j hj hi hj after (put-new l i j hi hj h), put-new (put i j l) j i hj hi after)
+    product-new = getD-set-same l (productAt + place i j) (normalProduct m jacobian i j) nan (omega (arith, place-below i j hi hj))
 
-    product-kept : (a b : ℕ) → b < 8 → Held l a b → Held (withProduct m jacobian i j l) a b
+    product-kept : (a b : ℕ) → Held l a b → Held (withProduct m jacobian i j l) a b
     unfolding withProduct
-    product-kept a b hb e = put-kept (put i j l) j i a b hj hi hb after (put-kept l i j a b hi hj hb h e)
+    product-kept a b e = go (eqb (place a b) (place i j)) refl
+      where
+        apart : (place a b ≡ place i j → ⊥) → productAt + place a b ≡ productAt + place i j → ⊥
+        apart n q = n (omega arith)
+
+        go : (t : Bool) → eqb (place a b) (place i j) ≡ t → Held (withProduct m jacobian i j l) a b
+        go true t =
+            let same = eqb-true (place a b) (place i j) t in
+            ap (λ (x : ℕ). getD (withProduct m jacobian i j l) (productAt + x) nan) same ∙ product-new ∙ place-same m jacobian i j a b same
+        go false t = getD-set-other l (productAt + place i j) (productAt + place a b) (normalProduct m jacobian i j) nan (apart (eqb-false (place a b) (place i j) t)) ∙ e
 
     product-out : (x : ℕ) → productAt + productLength ≤ x → getD (withProduct m jacobian i j l) x nan ≡ getD l x nan
     unfolding withProduct
-    product-out x hx =
-        getD-set-other (put i j l) (productAt + place j i) x (normalProduct m jacobian j i) nan (omega (arith, place-within j i hj hi))
-        ∙ getD-set-other l (productAt + place i j) x (normalProduct m jacobian i j) nan (omega (arith, place-within i j hi hj))
+    product-out x hx = getD-set-other l (productAt + place i j) x (normalProduct m jacobian i j) nan (omega (arith, place-below i j hi hj))
 
   module _ (l : List Float) (i : ℕ) (hi : i < 8) (h : scratchLength ≤ length l) where
     still : (n : ℕ) → scratchLength ≤ length (withProductRow m jacobian i n l)
     still n = rw (row-long i n l) h
 
-    row-kept : (n a b : ℕ) → n ≤ 8 → b < 8 → Held l a b → Held (withProductRow m jacobian i n l) a b
+    row-kept : (n a b : ℕ) → n ≤ 8 → Held l a b → Held (withProductRow m jacobian i n l) a b
     unfolding withProductRow
-    row-kept zero a b hn hb e = e
-    row-kept (suc n) a b hn hb e = product-kept (withProductRow m jacobian i n l) i n hi hn (still n) a b hb (row-kept n a b (omega arith) hb e)
+    row-kept zero a b hn e = e
+    row-kept (suc n) a b hn e = product-kept (withProductRow m jacobian i n l) i n hi hn (still n) a b (row-kept n a b (omega arith) e)
 
-    row-new : (n j : ℕ) → n ≤ 8 → j < n → Held (withProductRow m jacobian i n l) i j × Held (withProductRow m jacobian i n l) j i
+    row-new : (n j : ℕ) → n ≤ 8 → j < n → Held (withProductRow m jacobian i n l) i j
     unfolding withProductRow
     row-new zero j hn hj = absurd (not-suc-le-zero hj)
     row-new (suc n) j hn hj = elim (eq-or-lt-of-le (le-of-suc-le-suc hj)) [
       | inl e ↦ rw e (product-new (withProductRow m jacobian i n l) i n hi hn (still n))
-      | inr b ↦
-          let r = row-new n j (omega arith) b in
-          (product-kept (withProductRow m jacobian i n l) i n hi hn (still n) i j (omega arith) (r .0), product-kept (withProductRow m jacobian i n l) i n hi hn (still n) j i hi (r .1))
+      | inr b ↦ product-kept (withProductRow m jacobian i n l) i n hi hn (still n) i j (row-new n j (omega arith) b)
     ]
 
     row-out : (n x : ℕ) → n ≤ 8 → productAt + productLength ≤ x → getD (withProductRow m jacobian i n l) x nan ≡ getD l x nan
@@ -115,10 +94,10 @@ module _ (m : ℕ) (jacobian : Matrix) where
     unfolding withProducts
     products-hold zero a b hn ha hb = absurd (not-suc-le-zero ha)
     products-hold (suc n) a b hn ha hb = elim (eq-or-lt-of-le (le-of-suc-le-suc ha)) [
-      | inl e ↦ rw e (row-new (withProducts m jacobian n l) n hn (enough n) (suc n) b hn hb .0)
+      | inl e ↦ rw e (row-new (withProducts m jacobian n l) n hn (enough n) (suc n) b hn hb)
       | inr ka ↦ elim (eq-or-lt-of-le (le-of-suc-le-suc hb)) [
-        | inl e ↦ rw e (row-new (withProducts m jacobian n l) n hn (enough n) (suc n) a hn ha .1)
-        | inr kb ↦ row-kept (withProducts m jacobian n l) n hn (enough n) (suc n) a b hn (omega arith) (products-hold n a b (omega arith) ka kb)
+        | inl e ↦ rw e (turned-round (withProducts m jacobian (suc n) l) n a (row-new (withProducts m jacobian n l) n hn (enough n) (suc n) a hn ha))
+        | inr kb ↦ row-kept (withProducts m jacobian n l) n hn (enough n) (suc n) a b hn (products-hold n a b (omega arith) ka kb)
       ]
     ]
 
@@ -139,7 +118,7 @@ module _ (m p : ℕ) (jacobian : Matrix) (residuals : Vector) (l l' : List Float
   pub equations : Equations m p jacobian residuals l l' r
   equations = record {
     stand = record {
-      product = λ i j hi hj. outside (productAt + place i j) (inl (omega (arith, place-within i j (omega arith) (omega arith)))) ∙ products-hold m jacobian l h p i j most hi hj;
+      product = λ i j hi hj. outside (productAt + place i j) (inl (omega (arith, place-below i j (omega arith) (omega arith)))) ∙ products-hold m jacobian l h p i j most hi hj;
       gradient = gradient-holds;
     };
     norm = er ∙ norm-same p (gradientIn l') (gradientOf m jacobian residuals) gradient-holds;

@@ -15,13 +15,14 @@ use Rattle.normal.specs.Step.{stepOf}
 use Rattle.normal.specs.Scratch.{Stands, Equations, Attempt}
 use Rattle.normal.specs.declared.elimination.Solved.{Solved}
 use Rattle.normal.proofs.Parts.{same-behind, part-in, part-out}
+use Rattle.normal.proofs.Triangle.{place-below}
 use Rattle.normal.proofs.Exchange.{row-apart}
 use Rattle.normal.proofs.Upward.{length-unknowns}
 
 -- after an attempt the normal equations still stand, so that another attempt can be made
 pub attempt-stands : (p : ℕ) (damping : Float) (h : Matrix) (g : Vector) (l l' : List Float) (r : Solved) → p ≤ mostVariables → Attempt p damping l l' r → Stands p l h g → Stands p l' h g
 attempt-stands p damping h g l l' r most a s = record {
-  product = λ i j hi hj. a .rest (productAt + place i j) (inl (omega arith)) (inl (omega arith)) ∙ s .product i j hi hj;
+  product = λ i j hi hj. a .rest (productAt + place i j) (inl (omega (arith, place-below i j (omega arith) (omega arith)))) (inl (omega (arith, place-below i j (omega arith) (omega arith)))) ∙ s .product i j hi hj;
   gradient = λ i hi. a .rest (gradientAt + i) (inr (omega arith)) (inl (omega arith)) ∙ s .gradient i hi;
 }
 

@@ -1,6 +1,7 @@
 -- Laws that belong to no one function.
 pub mod Parts
 pub mod Sums
+pub mod Triangle
 pub mod Turns
 pub mod System
 pub mod Upward

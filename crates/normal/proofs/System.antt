@@ -17,6 +17,7 @@ use Rattle.normal.specs.Products.{Matrix, Vector}
 use Rattle.normal.specs.Damping.{dampedDiagonal, damped, dampedSystem}
 use Rattle.normal.specs.Scratch.{Outside, Stands, SystemStands, productIn, gradientIn}
 use Rattle.normal.specs.Loops.{withSystemRow, withSystem}
+use Rattle.normal.proofs.Triangle.{place-below}
 use Rattle.normal.proofs.Parts.{part-step, part-in, part-out}
 
 module _ (p : ℕ) (damping : Float) (h : Matrix) (g : Vector) (i j : ℕ) where
@@ -56,7 +57,7 @@ row-turn l q p i j first damping v hi hj hp ef e ev =
     let f : Vector = dampedSystem p damping (productIn l) (gradientIn l) i in
     let out : (x : ℕ) → Outside (systemPlace i 0) j x → getD q x nan ≡ getD l x nan = λ x o. ap (λ (y : List Float). getD y x nan) e ∙ part-out f l (systemPlace i 0) j x nan o in
     part-step f l q (systemPlace i 0) j (first + j) v e (ap (λ (x : ℕ). x + j) ef)
-    (ev ∙ system-same p damping (productIn q) (gradientIn q) i j (productIn l) (gradientIn l) hj (λ b. out (productAt + place i j) (inl (omega arith))) (out (gradientAt + i) (inr (omega arith))))
+    (ev ∙ system-same p damping (productIn q) (gradientIn q) i j (productIn l) (gradientIn l) hj (λ b. out (productAt + place i j) (inl (omega (arith, place-below i j (omega arith) (omega arith))))) (out (gradientAt + i) (inr (omega arith))))
 
 -- ---- the rows that are laid out
 module _ (p : ℕ) (damping : Float) (l : List Float) (most : p ≤ 8) (long : scratchLength ≤ length l) where
@@ -98,7 +99,7 @@ module _ (p : ℕ) (damping : Float) (l : List Float) (most : p ≤ 8) (long : s
         last =
             ap (λ (z : ℕ). getD (sets q (systemPlace n 0) (tab f (p + 1))) z nan) at
             ∙ part-in f q (systemPlace n 0) (p + 1) j nan (omega arith) (rw (system-long n) (omega arith))
-            ∙ system-same p damping (productIn q) (gradientIn q) n j h g hj (λ b. system-out n (omega arith) (productAt + place n j) (inl (omega arith)) ∙ stands .product n j hn b) (system-out n (omega arith) (gradientAt + n) (inr (omega arith)) ∙ stands .gradient n hn)
+            ∙ system-same p damping (productIn q) (gradientIn q) n j h g hj (λ b. system-out n (omega arith) (productAt + place n j) (inl (omega (arith, place-below n j (omega arith) (omega arith)))) ∙ stands .product n j hn b) (system-out n (omega arith) (gradientAt + n) (inr (omega arith)) ∙ stands .gradient n hn)
 
     pub system-stands : SystemStands p (withSystem p damping p l) (dampedSystem p damping h g)
     system-stands i j hi hj = system-holds p (omega arith) i j hi hj

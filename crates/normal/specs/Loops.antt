@@ -66,9 +66,9 @@ unfoldable pub withSystem : ℕ → Float → ℕ → List Float → List Float
 withSystem p damping zero l = l
 withSystem p damping (suc n) l = withSystemRow p damping n (withSystem p damping n l)
 
--- a product and its mirror image
+-- the product of columns i and j
 unfoldable pub withProduct : ℕ → Matrix → ℕ → ℕ → List Float → List Float
-withProduct m jacobian i j l = set (set l (productAt + place i j) (normalProduct m jacobian i j)) (productAt + place j i) (normalProduct m jacobian j i)
+withProduct m jacobian i j l = set l (productAt + place i j) (normalProduct m jacobian i j)
 
 -- the first n of row i
 unfoldable pub withProductRow : ℕ → Matrix → ℕ → ℕ → List Float → List Float

@@ -52,11 +52,9 @@ fn write_product(scratch: &mut [f64], jacobian: &[f64; 96], m: usize, i: usize, 
     let sum = column_product(jacobian, m, i, j);
     let here = PRODUCT + place(i, j);
     scratch[here] = sum;
-    let mirrored = PRODUCT + place(j, i);
-    scratch[mirrored] = sum;
 }
 
-// Row i up to the diagonal, and column i with it.
+// Row i up to the diagonal.
 fn product_row(scratch: &mut [f64], jacobian: &[f64; 96], m: usize, i: usize)
     requires { ⌜ scratchLength ≤ length (now scratch) ⌝ ∗ ⌜ m ≤ mostOperands ⌝ ∗ ⌜ i < mostVariables ⌝ }
     ensures { λ r. ⌜ now (scratch .exit) ≡ withProductRow m (jacobianAt (now (jacobian .entry))) i (suc i) (now (scratch .entry)) ⌝ }

@@ -25,7 +25,7 @@ fn with_pending(hash: u64, bench: Bench, place: usize) -> u64
 
 // The bench after a turn of the place, refused or not.
 fn after_turn(bench: Bench, place: usize) -> Bench {
-    let mut scratch = [0.0; 256];
+    let mut scratch = [0.0; 128];
     let answer = benchcalls::turned(bench, place, &mut scratch);
     let left = answer.bench;
     left
@@ -42,7 +42,7 @@ fn step(play: Play, place: usize) -> Play
     requires { ⌜ place < 4 ⌝ }
 {
     let bench = play.bench;
-    let mut scratch = [0.0; 256];
+    let mut scratch = [0.0; 128];
     let answer = benchcalls::turned(bench, place, &mut scratch);
     if answer.number > 0 {
         return Play {

@@ -5,7 +5,7 @@ ghost use lib.ListN.{length};
 ghost use Rattle.normal.specs.Layout.{scratchLength};
 ghost use Rattle.runs.specs.Cleared.{cleared};
 
-// The first 256 become +0.0, and the rest is untouched.
+// What a turn uses becomes +0.0, and the rest is untouched.
 pub fn zero_first(scratch: &mut [f64])
     requires { ⌜ scratchLength ≤ length (now scratch) ⌝ }
     ensures { λ _. ⌜ now (scratch .exit) ≡ cleared (now (scratch .entry)) ⌝ }

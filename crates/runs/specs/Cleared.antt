@@ -5,6 +5,6 @@ use lib.Ieee.{Float}
 use Rattle.floats.specs.Constants.{zero64}
 use Rattle.normal.specs.Layout.{scratchLength}
 
--- "A turn uses the first 256 f64 of scratch, left all +0.0; the rest is untouched."
+-- "the first 128 entries are left +0.0, the rest now untouched" (request 11)
 abbrev pub cleared : List Float → List Float
 cleared scratch = replicate scratchLength zero64 ++ drop scratchLength scratch

@@ -2,13 +2,14 @@
 use mathlib.Core.Path.{_≡_, sym, ap, _∙_}
 use mathlib.Core.Bool.{true}
 use mathlib.Core.List.{List, _++_}
-use Prim.Native.Nat.{ℕ, _*_, _≤_}
+use Prim.Native.Nat.{ℕ, _-_, _*_, _≤_}
 use native.Mathlib.Omega.{arith}
 use lib.Ieee.{Float, nan}
 use lib.ListN.{length, getD, take, drop, take-append-drop}
 use lib.Seq.{length-take-le, getD-take, drop-drop}
 use Rattle.lists.specs.Tab.{tab, tab-same}
 use Rattle.optics.specs.Flat.{laidFlat}
+use Rattle.normal.specs.Layout.{scratchLength}
 use Rattle.merit.specs.Steps.{SlotsKnown}
 use Rattle.merit.specs.CheckLaws.{slots-known}
 use Rattle.jobs.specs.declared.types.Job.{Job}
@@ -27,7 +28,10 @@ lies l n few room = sym (ap (λ (p : List Float). p ++ drop (4 * n) l) (first-la
 
 -- what lies behind sixteen surfaces lies behind scratch too
 pub behind-kept : {l l′ : List Float} → Behind l l′ → ScratchKept l l′
-behind-kept {l} {l′} b = record { long = b .long; rest = sym (drop-drop 192 64 l′) ∙ ap (drop 192) (b .rest) ∙ drop-drop 192 64 l }
+behind-kept {l} {l′} b = record { long = b .long; rest = sym (drop-drop more 64 l′) ∙ ap (drop more) (b .rest) ∙ drop-drop more 64 l }
+  where
+    more : ℕ
+    more = scratchLength - 64
 
 -- the slots that the operands of a job that is taken name
 pub operands-known : (job : Job) → jobTaken job ≡ true → SlotsKnown (job .«merit_function»)

@@ -164,7 +164,7 @@ fn advance_annealing(
     )
 }
 
-// The state after the merit that came next. A turn uses the first 256 of scratch.
+// The state after the merit that came next. A turn uses the first 128 of scratch.
 pub fn advance_run(
     h: RowHead,
     kind: u64,

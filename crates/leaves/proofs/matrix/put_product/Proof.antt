@@ -15,29 +15,8 @@ abbrev μ-loop : tie.MeasureT-loop
 loop-holds : tie.Need-loop-holds Inv-loop μ-loop
 loop-holds c = search needs
 
-place-requires : tie.Need-place-requires Inv-loop μ-loop
-place-requires c κs = search needs
-
-add-from : tie.Need-add-from Inv-loop μ-loop
-add-from c = search needs
-
-add-to : tie.Need-add-to Inv-loop μ-loop
-add-to c = search needs
-
-mul-put-floats : tie.Need-mul-put-floats Inv-loop μ-loop
-mul-put-floats c = search needs
-
-sub-put-floats : tie.Need-sub-put-floats Inv-loop μ-loop
-sub-put-floats c = search needs
-
-part-put-floats-start : tie.Need-part-put-floats-start Inv-loop μ-loop
-part-put-floats-start c = search needs
-
-part-put-floats-end : tie.Need-part-put-floats-end Inv-loop μ-loop
-part-put-floats-end c = search needs
-
-put-floats-requires : tie.Need-put-floats-requires Inv-loop μ-loop
-put-floats-requires c κs = search needs
+put-product-row-requires : tie.Need-put-product-row-requires Inv-loop μ-loop
+put-product-row-requires c κs = search needs
 
 add-i : tie.Need-add-i Inv-loop μ-loop
 add-i c = search needs
@@ -61,14 +40,7 @@ put-product-spec =
     Inv-loop
     μ-loop
     loop-holds
-    place-requires
-    add-from
-    add-to
-    mul-put-floats
-    sub-put-floats
-    part-put-floats-start
-    part-put-floats-end
-    put-floats-requires
+    put-product-row-requires
     add-i
     loop-less
     loop-again

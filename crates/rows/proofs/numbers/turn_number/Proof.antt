@@ -1,6 +1,7 @@
 -- `rows::numbers::turn_number` meets its contract: one after the other. Assumes nothing.
 use mathlib.Core.Path.{refl}
 use borrow.Author.Tests.{lt-ltb, le-ltb}
+use Rattle.normal.specs.Layout.{scratchLength}
 use Rattle.runs.specs.Damage.{damaged}
 use Rattle.bench.specs.Calls.{isVacant}
 use Rattle.held.specs.RowFrom.{rowFrom}
@@ -13,14 +14,14 @@ use Rattle.rows.proofs.numbers.turn_number.Tie as tie
 
 returns : tie.Need-returns
 unfolding turnRowNumber
-returns c = λ o. rw (lt-ltb (c .before .args .room) 256 (c .if1 .taken)) refl
+returns c = λ o. rw (lt-ltb (c .before .args .room) scratchLength (c .if1 .taken)) refl
 
 usable-number-requires : tie.Need-usable-number-requires
 usable-number-requires c κs = search needs
 
 returns-2 : tie.Need-returns-2
 unfolding turnRowNumber
-returns-2 c = λ o. let x = c .before .before .before .args in rw (le-ltb (x .room) 256 (c .before .before .if1 .left)) (first-two (isVacant (rowFrom (heldWith (x .words .now) (x .counts .now) (x .numbers .now) (x .surfaces .now) (x .best-surfaces .now) o))) (damaged (rowFrom (heldWith (x .words .now) (x .counts .now) (x .numbers .now) (x .surfaces .now) (x .best-surfaces .now) o))) _ _ (c .before .usable-number .ensures o) (c .if2 .taken))
+returns-2 c = λ o. let x = c .before .before .before .args in rw (le-ltb (x .room) scratchLength (c .before .before .if1 .left)) (first-two (isVacant (rowFrom (heldWith (x .words .now) (x .counts .now) (x .numbers .now) (x .surfaces .now) (x .best-surfaces .now) o))) (damaged (rowFrom (heldWith (x .words .now) (x .counts .now) (x .numbers .now) (x .surfaces .now) (x .best-surfaces .now) o))) _ _ (c .before .usable-number .ensures o) (c .if2 .taken))
 
 kind-requires : tie.Need-kind-requires
 kind-requires c κs = search needs
@@ -38,7 +39,7 @@ returns-3 c = λ o.
     let r = rowFrom (heldWith (x .words .now) (x .counts .now) (x .numbers .now) (x .surfaces .now) (x .best-surfaces .now) o) in
     let h = neither (isVacant r) (damaged r) _ (c .before .before .before .before .before .usable-number .ensures o) (c .before .before .before .before .if2 .left) in
     let over = finished-is r (c .before .is-over .ensures) (c .before .before .before .kind .ensures) (c .before .before .phase .ensures) (c .if3 .taken) in
-    rw (le-ltb (x .room) 256 (c .before .before .before .before .before .before .if1 .left), h .0, h .1, over) refl
+    rw (le-ltb (x .room) scratchLength (c .before .before .before .before .before .before .if1 .left), h .0, h .1, over) refl
 
 returns-4 : tie.Need-returns-4
 unfolding turnRowNumber
@@ -47,7 +48,7 @@ returns-4 c = λ o.
     let r = rowFrom (heldWith (x .words .now) (x .counts .now) (x .numbers .now) (x .surfaces .now) (x .best-surfaces .now) o) in
     let h = neither (isVacant r) (damaged r) _ (c .before .before .before .before .before .usable-number .ensures o) (c .before .before .before .before .if2 .left) in
     let over = finished-is r (c .before .is-over .ensures) (c .before .before .before .kind .ensures) (c .before .before .phase .ensures) (c .if3 .left) in
-    rw (le-ltb (x .room) 256 (c .before .before .before .before .before .before .if1 .left), h .0, h .1, over) refl
+    rw (le-ltb (x .room) scratchLength (c .before .before .before .before .before .before .if1 .left), h .0, h .1, over) refl
 
 pub turn-number-spec : {M : Type 1} → statement M
 turn-number-spec =

@@ -8,6 +8,7 @@ use lib.Seq.{ext-getD}
 use lib.Ieee.{Float, nan}
 use borrow.Author.Needs.{needs}
 use Rattle.floats.specs.Constants.{zero64}
+use Rattle.normal.specs.Layout.{scratchLength}
 use Rattle.lists.specs.Tab.{tab, length-tab, getD-tab, tab-step}
 use Rattle.rows.proofs.scratch.zero_first.Statement.{statement}
 use Rattle.rows.proofs.scratch.zero_first.Tie as tie
@@ -18,10 +19,10 @@ same-zeros n =
     (λ i h. let l = rw (length-tab (λ (k : ℕ). zero64) n) at h in getD-tab _ n i nan l ∙ sym (getD-replicate n i zero64 nan l))
 
 abbrev Inv-loop : tie.InvT-loop
-Inv-loop scratch₀ i₀ scratch i = (i ≤ 256) × (length scratch ≡ length scratch₀) × (scratch ≡ tab (λ (k : ℕ). zero64) i ++ drop i scratch₀)
+Inv-loop scratch₀ i₀ scratch i = (i ≤ scratchLength) × (length scratch ≡ length scratch₀) × (scratch ≡ tab (λ (k : ℕ). zero64) i ++ drop i scratch₀)
 
 abbrev μ-loop : tie.MeasureT-loop
-μ-loop scratch₀ i₀ scratch i = 256 - i
+μ-loop scratch₀ i₀ scratch i = scratchLength - i
 
 loop-holds : tie.Need-loop-holds Inv-loop μ-loop
 unfolding tab
@@ -47,8 +48,8 @@ same-length c = search needs
 
 returns : tie.Need-returns Inv-loop μ-loop
 returns c =
-    let e : c .before .loop .i ≡ 256 = omega arith in
-    rw e at (c .before .loop .inv .2) ∙ ap (λ (zeros : List Float). zeros ++ drop 256 (c .before .before .args .scratch .now)) (same-zeros 256)
+    let e : c .before .loop .i ≡ scratchLength = omega arith in
+    rw e at (c .before .loop .inv .2) ∙ ap (λ (zeros : List Float). zeros ++ drop scratchLength (c .before .before .args .scratch .now)) (same-zeros scratchLength)
 
 pub zero-first-spec : {M : Type 1} → statement M
 zero-first-spec =
