@@ -209,7 +209,7 @@ static void job(uint32_t wanted, const char *answer) {
     if (results % 16 == 0) admit_none(place);
     admit_marked(place);
     ALL("admit to a place that is taken", lens_admit(&now.bench.lent, place, asked), LENS_TAKEN);
-    ALL("turn with little scratch", lens_turn(&now.bench.lent, place, now.scratch, 255), LENS_SHORT_SCRATCH);
+    ALL("turn with little scratch", lens_turn(&now.bench.lent, place, now.scratch, LENS_SCRATCH - 1), LENS_SHORT_SCRATCH);
     ALL("turn with no scratch", lens_turn(&now.bench.lent, place, now.scratch, 0), LENS_SHORT_SCRATCH);
     ALL("turn, no such place", lens_turn(&now.bench.lent, 4, now.scratch, LONG), LENS_NO_SUCH_PLACE);
     ALL("turn, no such place and no scratch", lens_turn(&now.bench.lent, SIZE_MAX, now.scratch, 0), LENS_NO_SUCH_PLACE);
@@ -233,7 +233,7 @@ static void job(uint32_t wanted, const char *answer) {
         if (number == LENS_FINISHED) break;
         if (number != LENS_DONE) fail("turn: refused with %u", number);
         if (!all_zero(now.scratch, LENS_SCRATCH * 8)) fail("turn: scratch is not +0.0");
-        if (memcmp(now.scratch + LENS_SCRATCH, before.scratch + LENS_SCRATCH, (LONG - LENS_SCRATCH) * 8) != 0) fail("turn: scratch past 256 has changed");
+        if (memcmp(now.scratch + LENS_SCRATCH, before.scratch + LENS_SCRATCH, (LONG - LENS_SCRATCH) * 8) != 0) fail("turn: scratch past LENS_SCRATCH has changed");
     }
     finished[place] = 1, used[place] = taken;
     lists();
