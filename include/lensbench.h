@@ -36,7 +36,7 @@ extern "C" {
 /* goes up with every change of a record: lens_abi() of the library that is linked must answer the same */
 #define LENS_ABI 3
 
-enum LensLimits { LENS_PLACES = 4, LENS_SURFACES = 16, LENS_SLOTS = 4, LENS_VARIABLES = 8, LENS_OPERANDS = 12, LENS_SCRATCH = 256 };
+enum LensLimits { LENS_PLACES = 4, LENS_SURFACES = 16, LENS_SLOTS = 4, LENS_VARIABLES = 8, LENS_OPERANDS = 12, LENS_SCRATCH = 128 };
 
 /* what a call answers */
 enum LensNumbers {

@@ -64,7 +64,7 @@ impl fmt::Debug for Bench {
 }
 
 impl Bench {
-    /// An empty bench: 18 kB on the heap, and 2 kB of scratch.
+    /// An empty bench: 18 kB on the heap, and 1 kB of scratch.
     ///
     /// # Panics
     /// Where another version of the library is linked than this crate was written for.
@@ -91,7 +91,7 @@ impl Bench {
         Refusal::answer(ffi::turn(&mut self.bench, place.0, &mut self.scratch[..]))
     }
 
-    /// A turn with a scratch of the caller's, of which the first 256 numbers are used and left +0.0; a shorter one is refused with 9.
+    /// A turn with a scratch of the caller's, of which the first 128 numbers are used and left +0.0; a shorter one is refused with 9.
     pub fn turn_with(&mut self, place: Place, scratch: &mut [f64]) -> Result<(), Refusal> {
         Refusal::answer(ffi::turn(&mut self.bench, place.0, scratch))
     }

@@ -17,7 +17,7 @@ pub const VARIABLES: usize = 8;
 /// Operands of a job at most.
 pub const OPERANDS: usize = 12;
 /// Numbers of scratch that a turn takes.
-pub const SCRATCH: usize = 256;
+pub const SCRATCH: usize = 128;
 pub const BENCH_WORDS: usize = 2288;
 /// `lens_trace` answers it where nothing is refused and there is no trace.
 pub const NOT_TRACED: u32 = 100;

@@ -102,7 +102,7 @@ impl Refusal {
             }
             Refusal::NoVariable => "a job has at least one variable that is enabled",
             Refusal::NoOperand => "a job has at least one operand",
-            Refusal::ShortScratch => "a turn needs a scratch of 256 numbers",
+            Refusal::ShortScratch => "a turn needs a scratch of 128 numbers",
             Refusal::Taken => "the place has a job already",
             Refusal::Empty => "the place has no job",
             Refusal::Damaged => "what the place holds was not left there by the bench's calls; it can be released",

@@ -95,7 +95,7 @@ fn scratch_is_left_zero_and_the_rest_untouched() {
     bench.admit(Place(3), &good()).unwrap();
     let mut scratch = [7.0; 300];
     bench.turn_with(Place(3), &mut scratch).unwrap();
-    assert!(scratch[..256].iter().all(|x| x.to_bits() == 0) && scratch[256..].iter().all(|x| *x == 7.0));
+    assert!(scratch[..128].iter().all(|x| x.to_bits() == 0) && scratch[128..].iter().all(|x| *x == 7.0));
 }
 
 #[test]
