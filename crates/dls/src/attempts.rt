@@ -91,14 +91,15 @@ fn resume_attempts(
     let mut k = first;
     while k < 10 {
         let solved = attempt_step(scratch, p, now);
-        let Solved::No = solved else {
-            let x = *params;
-            let found = candidate_params(p, counts, numbers, x, scratch);
-            return at_candidate(h, now.value, k + 1, found, plus_residuals, candidate);
+        let Solved::Yes = solved else {
+            let raised = now.raise();
+            now = raised;
+            k += 1;
+            continue;
         };
-        let raised = now.raise();
-        now = raised;
-        k += 1;
+        let x = *params;
+        let found = candidate_params(p, counts, numbers, x, scratch);
+        return at_candidate(h, now.value, k + 1, found, plus_residuals, candidate);
     }
     ended(h, false, jacobian, plus_residuals, params, candidate)
 }

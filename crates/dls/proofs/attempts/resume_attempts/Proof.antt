@@ -33,6 +33,21 @@ enum-told c = search needs
 enum-told-2 : tie.Need-enum-told-2 Inv-loop μ-loop
 enum-told-2 c = search needs
 
+raise-requires : tie.Need-raise-requires Inv-loop μ-loop
+raise-requires c κs = search needs
+
+add-k : tie.Need-add-k Inv-loop μ-loop
+add-k c = omega arith
+
+loop-less : tie.Need-loop-less Inv-loop μ-loop
+loop-less c = omega arith
+
+loop-again : tie.Need-loop-again Inv-loop μ-loop
+loop-again c = λ s v r.
+    let a = c .before .before .before .before .before .attempt-step in
+    let no : a .result ≡ No = cc in
+    trying-on (c .before .before .before .before .before .before .before .before .loop .inv s v r) (c .before .before .before .before .before .before .before .before .before .before .before .pre .1 .1 .1) (omega arith) (a .ensures) (omega (arith, active-le (variablesFrom (c .before .before .before .before .before .before .before .before .before .before .before .args .counts .now) (c .before .before .before .before .before .before .before .before .before .before .before .args .numbers .now)))) no (c .raise .ensures)
+
 candidate-params-requires : tie.Need-candidate-params-requires Inv-loop μ-loop
 candidate-params-requires c κs = omega (arith, c .before .before .before .before .before .before .before .before .before .loop .inv [] [] [] .kept .long, c .before .before .before .before .before .before .attempt-step .ensures .long)
 
@@ -50,21 +65,6 @@ returns c = λ s v r.
     let a = c .before .before .before .before .before .before .before .before .before .before .attempt-step in
     let yes : a .result ≡ Yes = cc in
     trying-found (c .before .before .before .before .before .before .before .before .before .before .before .before .before .loop .inv s v r) (c .before .before .before .before .before .before .before .before .before .before .before .before .before .before .before .before .pre .1 .1 .1) (omega arith) (a .ensures) yes (c .before .before .before .candidate-params .ensures) (c .at-candidate .ensures s (c .before .before .before .before .before .before .before .before .before .before .before .before .before .before .before .before .args .jacobian .now) v r (c .before .before .before .before .before .before .before .before .before .before .before .before .before .before .before .before .args .params .now))
-
-raise-requires : tie.Need-raise-requires Inv-loop μ-loop
-raise-requires c κs = search needs
-
-add-k : tie.Need-add-k Inv-loop μ-loop
-add-k c = omega arith
-
-loop-less : tie.Need-loop-less Inv-loop μ-loop
-loop-less c = omega arith
-
-loop-again : tie.Need-loop-again Inv-loop μ-loop
-loop-again c = λ s v r.
-    let a = c .before .before .before .before .before .attempt-step in
-    let no : a .result ≡ No = cc in
-    trying-on (c .before .before .before .before .before .before .before .before .loop .inv s v r) (c .before .before .before .before .before .before .before .before .before .before .before .pre .1 .1 .1) (omega arith) (a .ensures) (omega (arith, active-le (variablesFrom (c .before .before .before .before .before .before .before .before .before .before .before .args .counts .now) (c .before .before .before .before .before .before .before .before .before .before .before .args .numbers .now)))) no (c .raise .ensures)
 
 ended-requires : tie.Need-ended-requires Inv-loop μ-loop
 ended-requires c κs = search needs
@@ -85,15 +85,15 @@ resume-attempts-spec =
     attempt-step-requires
     enum-told
     enum-told-2
+    raise-requires
+    add-k
+    loop-less
+    loop-again
     candidate-params-requires
     add-at-candidate
     at-candidate-requires
     same-length
     returns
-    raise-requires
-    add-k
-    loop-less
-    loop-again
     ended-requires
     same-length-2
     returns-2)
