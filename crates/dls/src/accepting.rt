@@ -164,7 +164,7 @@ fn advance_accepted(
 }
 
 // The candidate's merit.
-pub fn advance_candidate(
+pub(crate) fn advance_candidate(
     h: Head,
     config: DlsConfig,
     counts: &[u64; 57],

@@ -115,7 +115,7 @@ fn is_stationary(norm: f64, tolerance: f64) -> bool
 }
 
 // The Jacobian is whole: the gradient's stop comes before any attempt.
-pub fn resume_stationary(
+pub(crate) fn resume_stationary(
     h: Head,
     config: DlsConfig,
     counts: &[u64; 57],

@@ -63,7 +63,7 @@ fn perturbed(
 }
 
 // The surfaces with the parameter of this column moved up, laid where their merit is worked out.
-pub fn presc_plus(
+pub(crate) fn presc_plus(
     h: Head,
     config: DlsConfig,
     counts: &[u64; 57],
@@ -91,7 +91,7 @@ pub fn presc_plus(
 }
 
 // The surfaces with it moved down.
-pub fn presc_minus(
+pub(crate) fn presc_minus(
     h: Head,
     config: DlsConfig,
     counts: &[u64; 57],

@@ -60,7 +60,7 @@ pub fn at_first(
 }
 
 // Just before the merit that moves parameter `column` up.
-pub fn at_plus(
+pub(crate) fn at_plus(
     h: Head,
     column: u64,
     plus_residuals: &mut [f64; 12],
@@ -83,7 +83,7 @@ pub fn at_plus(
 }
 
 // Just before the merit that moves it down.
-pub fn at_minus(
+pub(crate) fn at_minus(
     h: Head,
     found: [f64; 12],
     plus_residuals: &mut [f64; 12],
@@ -105,7 +105,7 @@ pub fn at_minus(
 }
 
 // Just before the candidate's merit.
-pub fn at_candidate(
+pub(crate) fn at_candidate(
     h: Head,
     damping: f64,
     attempt: u64,

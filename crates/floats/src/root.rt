@@ -9,13 +9,13 @@ ghost use Rattle.floats.specs.Sqrt.{sqrtOf, rootAt};
 ghost use Rattle.floats.specs.Steps.{count, Square, Whole, Nears, Aimed};
 
 // hi * 2^54 + lo
-pub struct Wide {
+struct Wide {
     pub hi: u64,
     pub lo: u64,
 }
 
 // A number, and whether it is the one that was sought.
-pub struct Next {
+struct Next {
     pub q: u64,
     pub done: bool,
 }

@@ -7,7 +7,7 @@ ghost use Rattle.runs.specs.AnnealingRun.{Annealer};
 use jobs::SimulatedAnnealingConfig;
 
 // Whether n + 1 is below the limit.
-pub fn has_next(n: u64, limit: u64) -> bool
+pub(crate) fn has_next(n: u64, limit: u64) -> bool
     ensures { λ r. ⌜ r ≡ ltb (suc n) limit ⌝ }
 {
     if n >= limit {
@@ -27,7 +27,7 @@ pub fn is_first_cycle(config: SimulatedAnnealingConfig) -> bool
 }
 
 // Whether there is a cycle after cycle c with a step in it.
-pub fn is_next_cycle(config: SimulatedAnnealingConfig, c: u64) -> bool
+pub(crate) fn is_next_cycle(config: SimulatedAnnealingConfig, c: u64) -> bool
     ensures { λ r. ⌜ ((a : Annealer) → a .config ≡ config → r ≡ isCycle a (suc c)) ⌝ }
 {
     if !has_next(c, config.max_cooling_cycles) {

@@ -11,13 +11,13 @@ use held::variable_at;
 use held::variable_count;
 
 // What was drawn, and the generator after it.
-pub struct Drawn {
+pub(crate) struct Drawn {
     pub params: [f64; 8],
     pub generator: u64,
 }
 
 // `rng.uniform(var.min_value, var.max_value)` for each, and +0.0 after them.
-pub fn random_params(generator: u64, counts: &[u64; 57], numbers: &[f64]) -> Drawn
+pub(crate) fn random_params(generator: u64, counts: &[u64; 57], numbers: &[f64]) -> Drawn
     requires { ⌜ variableCountFrom (now counts) ≤ 8 ⌝ ∗ ⌜ 195 ≤ length (now numbers) ⌝ }
     ensures { λ r.
         ⌜ (r .params ≡ randomParams (variablesFrom (now (counts .entry)) (now (numbers .entry))) generator)

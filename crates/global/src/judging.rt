@@ -10,7 +10,7 @@ use jobs::SimulatedAnnealingConfig;
 use merit::MeritEvaluation;
 
 // The numbers that `optimize` holds from one step to the next.
-pub struct WalkHead {
+pub(crate) struct WalkHead {
     pub current_merit: f64,
     pub best_merit: f64,
     pub rng: u64,

@@ -41,7 +41,7 @@ fn keep(
 }
 
 // A later result replaces the best only when strictly lower; before the base's, in trial 0, there is none.
-pub fn merged(
+pub(crate) fn merged(
     h: RowHead,
     surfaces: &[f64; 64],
     values: &[f64; 12],

@@ -37,7 +37,7 @@ pub fn copy(flat: &[f64], to: &mut [f64])
 }
 
 // One surface of those that stand in flat numbers replaced.
-pub fn put_surface(flat: &mut [f64], i: usize, s: OpticalSurface)
+pub(crate) fn put_surface(flat: &mut [f64], i: usize, s: OpticalSurface)
     requires { ⌜ i < 16 ⌝ ∗ ⌜ 64 ≤ length (now flat) ⌝ }
     ensures { λ _. ⌜ standing (now (flat .exit)) ≡ set (standing (now (flat .entry))) i s ⌝ ∗ ⌜ Behind (now (flat .entry)) (now (flat .exit)) ⌝ }
 {
@@ -48,7 +48,7 @@ pub fn put_surface(flat: &mut [f64], i: usize, s: OpticalSurface)
 }
 
 // Surfaces as flat numbers.
-pub fn laid(surfaces: [OpticalSurface; 16]) -> [f64; 64]
+pub(crate) fn laid(surfaces: [OpticalSurface; 16]) -> [f64; 64]
     ensures { λ r. ⌜ r ≡ laidFlat surfaces 16 ⌝ }
 {
     let mut flat = [0.0; 64];

@@ -104,7 +104,7 @@ fn settings_record(counts: &[u64; 57], numbers: &[f64]) -> SettingsRecord
     }
 }
 
-pub fn job_record(counts: &[u64; 57], numbers: &[f64]) -> JobRecord
+pub(crate) fn job_record(counts: &[u64; 57], numbers: &[f64]) -> JobRecord
     requires { ⌜ 195 ≤ length (now numbers) ⌝ }
     ensures { λ r. ⌜ r ≡ jobRecordFrom (now (counts .entry)) (now (numbers .entry)) ⌝ }
 {

@@ -122,7 +122,7 @@ fn first_numbers(job: JobRecord) -> [f64; 195]
 }
 
 // The counts and numbers of a job.
-pub fn held_job(job: JobRecord) -> HeldJob
+pub(crate) fn held_job(job: JobRecord) -> HeldJob
     ensures { λ r. ⌜ (r .counts ≡ heldCounts job) × (r .numbers ≡ heldNumbers job) ⌝ }
 {
     let mut counts = first_counts(job);

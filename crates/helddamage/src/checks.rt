@@ -13,7 +13,7 @@ ghost use Rattle.jobs.specs.Checks.{multiStartTaken, settingsTaken, countsTaken
 ghost use Rattle.jobs.specs.Records.{multiStartConfig, method, knownVariables, knownOperands};
 ghost use Rattle.held.specs.JobFrom.{standing, surfaceCountFrom, slotCountFrom, variableCountFrom, operandCountFrom, settingsFrom, jobRecordFrom, heldJob, prescriptionFrom, variablesFrom, operandsFrom};
 
-pub fn counts_taken(counts: &[u64; 57]) -> bool
+pub(crate) fn counts_taken(counts: &[u64; 57]) -> bool
     ensures { λ r. ⌜ ((numbers : List Float) (kind : ℕ) → r ≡ countsTaken (heldJob (now (counts .entry)) numbers kind)) ⌝ }
 {
     if !optics::lens_counts_taken(held::surface_count(counts), held::slot_count(counts)) {
@@ -26,7 +26,7 @@ pub fn counts_taken(counts: &[u64; 57]) -> bool
 }
 
 // Check 3 on surfaces laid flat.
-pub fn surfaces_taken(flat: &[f64], count: usize) -> bool
+pub(crate) fn surfaces_taken(flat: &[f64], count: usize) -> bool
     requires { ⌜ (count ≤ 16) × (64 ≤ length (now flat)) ⌝ }
     ensures { λ r. ⌜ r ≡ surfacesTaken (standing (now (flat .entry))) count ⌝ }
 {

@@ -11,7 +11,7 @@ ghost use Rattle.kinds.specs.Phases.{StateInPhase};
 ghost use Rattle.kinds.specs.Limits.{CountsWithin};
 ghost use Rattle.held.specs.JobFrom.{settingsFrom};
 
-pub fn last_phase(kind: u64) -> u64
+pub(crate) fn last_phase(kind: u64) -> u64
     ensures { λ r. ⌜ ((s : SettingsRecord) → r ≡ lastPhase (method kind s)) ⌝ }
 {
     match kind {
@@ -32,7 +32,7 @@ pub fn is_over(kind: u64, phase: u64) -> bool
 }
 
 // Whether the current surfaces are in use: in every phase but multi-start finished.
-pub fn uses_current(kind: u64, phase: u64) -> bool
+pub(crate) fn uses_current(kind: u64, phase: u64) -> bool
     ensures { λ r. ⌜ ((c : SettingsRecord) → StateInPhase phase (λ s. r ≡ usesCurrent (method kind c) s)) ⌝ }
 {
     match kind {
@@ -43,7 +43,7 @@ pub fn uses_current(kind: u64, phase: u64) -> bool
 }
 
 // Whether the best surfaces are in use: in multi-start from trial 1 on and when finished, and in annealing's walk.
-pub fn uses_best(kind: u64, phase: u64, trial: u64) -> bool
+pub(crate) fn uses_best(kind: u64, phase: u64, trial: u64) -> bool
     ensures { λ r. ⌜ ((c : SettingsRecord) → StateInPhase phase (λ s. s .trial ≡ trial → r ≡ usesBest (method kind c) s)) ⌝ }
 {
     match kind {
@@ -53,7 +53,7 @@ pub fn uses_best(kind: u64, phase: u64, trial: u64) -> bool
     }
 }
 
-pub fn iteration_limit(kind: u64, counts: &[u64; 57]) -> u64
+pub(crate) fn iteration_limit(kind: u64, counts: &[u64; 57]) -> u64
     ensures { λ r. ⌜ ((numbers : List Float) → r ≡ iterationLimit (method kind (settingsFrom (now (counts .entry)) numbers))) ⌝ }
 {
     match kind {
@@ -64,7 +64,7 @@ pub fn iteration_limit(kind: u64, counts: &[u64; 57]) -> u64
 }
 
 // A kind that lacks the counter has limit 0 for it.
-pub fn trial_limit(kind: u64, counts: &[u64; 57]) -> u64
+pub(crate) fn trial_limit(kind: u64, counts: &[u64; 57]) -> u64
     ensures { λ r. ⌜ ((numbers : List Float) → r ≡ trialLimit (method kind (settingsFrom (now (counts .entry)) numbers))) ⌝ }
 {
     match kind {
@@ -74,7 +74,7 @@ pub fn trial_limit(kind: u64, counts: &[u64; 57]) -> u64
     }
 }
 
-pub fn cycle_limit(kind: u64, counts: &[u64; 57]) -> u64
+pub(crate) fn cycle_limit(kind: u64, counts: &[u64; 57]) -> u64
     ensures { λ r. ⌜ ((numbers : List Float) → r ≡ cycleLimit (method kind (settingsFrom (now (counts .entry)) numbers))) ⌝ }
 {
     match kind {
@@ -84,7 +84,7 @@ pub fn cycle_limit(kind: u64, counts: &[u64; 57]) -> u64
     }
 }
 
-pub fn step_limit(kind: u64, counts: &[u64; 57]) -> u64
+pub(crate) fn step_limit(kind: u64, counts: &[u64; 57]) -> u64
     ensures { λ r. ⌜ ((numbers : List Float) → r ≡ stepLimit (method kind (settingsFrom (now (counts .entry)) numbers))) ⌝ }
 {
     match kind {
@@ -95,7 +95,7 @@ pub fn step_limit(kind: u64, counts: &[u64; 57]) -> u64
 }
 
 // The most merits that the job's run works out, with p variables enabled.
-pub fn bound(kind: u64, counts: &[u64; 57], p: u64) -> u64
+pub(crate) fn bound(kind: u64, counts: &[u64; 57], p: u64) -> u64
     requires { ⌜ ((numbers : List Float) → CountsWithin (method kind (settingsFrom (now counts) numbers))) × (p ≤ 8) ⌝ }
     ensures { λ r. ⌜ ((numbers : List Float) → r ≡ boundBy (method kind (settingsFrom (now (counts .entry)) numbers)) p) ⌝ }
 {

@@ -75,7 +75,7 @@ pub fn variable_record(d: VariableDef) -> VariableRecord
     }
 }
 
-pub fn variable_of(v: VariableRecord) -> VariableDef
+pub(crate) fn variable_of(v: VariableRecord) -> VariableDef
     ensures { λ r. ⌜ r ≡ variableOf v ⌝ }
 {
     let t = variable_type(v.kind, v.surface_index as usize);
@@ -216,7 +216,7 @@ pub fn operand_record(o: MeritOperand) -> OperandRecord
     }
 }
 
-pub fn operand_of(o: OperandRecord) -> MeritOperand
+pub(crate) fn operand_of(o: OperandRecord) -> MeritOperand
     ensures { λ r. ⌜ r ≡ operandOf o ⌝ }
 {
     let t = operand_type(o.kind, o.at as usize, o.limit_mm);

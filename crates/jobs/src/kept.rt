@@ -11,7 +11,7 @@ use variables::VariableDef;
 use variables::VariableSet;
 use variables::VariableType;
 
-pub fn zero_variable() -> VariableDef
+pub(crate) fn zero_variable() -> VariableDef
     ensures { λ r. ⌜ r ≡ zeroVariable ⌝ }
 {
     VariableDef {
@@ -23,7 +23,7 @@ pub fn zero_variable() -> VariableDef
     }
 }
 
-pub fn zero_operand() -> MeritOperand
+pub(crate) fn zero_operand() -> MeritOperand
     ensures { λ r. ⌜ r ≡ zeroOperand ⌝ }
 {
     MeritOperand {

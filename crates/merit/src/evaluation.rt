@@ -46,7 +46,7 @@ pub fn root_of(known: WeightRoot, weight: f64) -> WeightRoot
 }
 
 // The evaluation of `count` surfaces laid flat, under the indices, the pupil and the operands of a job.
-pub fn evaluate_flat(
+pub(crate) fn evaluate_flat(
     flat: &[f64],
     indices: &[f64],
     count: usize,

@@ -13,7 +13,6 @@ pub use checks::operand_taken;
 pub use checks::operands_taken;
 pub use evaluation::counted_total;
 pub use evaluation::difference_of;
-pub use evaluation::evaluate_flat;
 pub use evaluation::root_of;
 pub use operands::value_of;
 pub use types::Evaluated;

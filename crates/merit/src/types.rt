@@ -22,7 +22,7 @@ pub enum OperandType {
 }
 
 // A surface's sag, or an edge made of two: a number, or missing where the conic does not reach so far out, or there is no second surface.
-pub enum Sag {
+pub(crate) enum Sag {
     Is(f64),
     Missing,
 }
@@ -66,7 +66,7 @@ pub enum Traced {
 }
 
 // A trace by value: heights and slopes, zero past the surfaces and where nothing was traced, whether they were, and the answer.
-pub struct TracedHeights {
+pub(crate) struct TracedHeights {
     pub heights: [f64; 16],
     pub slopes: [f64; 16],
     pub done: bool,

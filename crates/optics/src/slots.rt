@@ -62,7 +62,7 @@ fn rays_between(first: ArrivingRay, second: ArrivingRay, third: ArrivingRay) -> 
 }
 
 // The rays at the last two surfaces.
-pub fn last_rays(flat: &[f64], indices: &[f64], count: usize, pupil: f64) -> [LastRays; 4]
+pub(crate) fn last_rays(flat: &[f64], indices: &[f64], count: usize, pupil: f64) -> [LastRays; 4]
     requires { ⌜ (2 ≤ count) × (4 * count ≤ length (now flat)) × (4 * count ≤ length (now indices)) ⌝ }
     ensures { λ r. ⌜ r ≡ tab (λ (w : ℕ). lastRays (flatSurface (now (flat .entry))) (slotIndex (now (indices .entry)) w) pupil count) 4 ⌝ }
 {

@@ -47,7 +47,7 @@ pub struct ArrivingRay {
 }
 
 // The paraxial rays of the last surface but one and of the last.
-pub struct LastRays {
+pub(crate) struct LastRays {
     pub before: ParaxialRay,
     pub last: ParaxialRay,
 }

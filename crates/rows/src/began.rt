@@ -60,7 +60,7 @@ fn fresh(record: JobRecord, kind: u64, damped: DampedState) -> Row
 }
 
 // `record` is the job in numbers. Phase 5 is the walk's first.
-pub fn began(record: JobRecord, job: Job) -> Row
+pub(crate) fn began(record: JobRecord, job: Job) -> Row
     ensures { λ r. ⌜ r ≡ rowOf «record» (kindOf job) 0 (Rows.began (job .method) job) ⌝ }
 {
     let base = job.prescription.surfaces;

@@ -27,7 +27,7 @@ fn usable_number(
     0
 }
 
-pub fn turn_number(
+pub(crate) fn turn_number(
     room: usize,
     words: &[u64; 13],
     counts: &[u64; 57],
@@ -54,7 +54,7 @@ pub fn turn_number(
     0
 }
 
-pub fn fetch_number(
+pub(crate) fn fetch_number(
     words: &[u64; 13],
     counts: &[u64; 57],
     numbers: &[f64; 195],

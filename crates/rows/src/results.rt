@@ -82,7 +82,7 @@ fn polished(h: RowHead, held: HeldRow) -> OptimizationResult
 }
 
 // By kind.
-pub fn result_of(held: HeldRow) -> OptimizationResult
+pub(crate) fn result_of(held: HeldRow) -> OptimizationResult
     requires { ⌜ CountsWithin (jobOfRow (rowFrom held) .method) × (rowFrom held .damped .iteration ≤ 1000) ⌝ }
     ensures { λ r. ⌜ r ≡ resultOf (rowFrom held) ⌝ }
 {

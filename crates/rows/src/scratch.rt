@@ -6,7 +6,7 @@ ghost use Rattle.normal.specs.Layout.{scratchLength};
 ghost use Rattle.runs.specs.Cleared.{cleared};
 
 // What a turn uses becomes +0.0, and the rest is untouched.
-pub fn zero_first(scratch: &mut [f64])
+pub(crate) fn zero_first(scratch: &mut [f64])
     requires { ⌜ scratchLength ≤ length (now scratch) ⌝ }
     ensures { λ _. ⌜ now (scratch .exit) ≡ cleared (now (scratch .entry)) ⌝ }
 {

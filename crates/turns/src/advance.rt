@@ -165,7 +165,7 @@ fn advance_annealing(
 }
 
 // The state after the merit that came next. A turn uses the first 128 of scratch.
-pub fn advance_run(
+pub(crate) fn advance_run(
     h: RowHead,
     kind: u64,
     counts: &[u64; 57],
