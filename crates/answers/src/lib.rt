@@ -1,4 +1,5 @@
 // What the answers to lines have in common, put in the output piece by piece; oracle/README.md has the formats.
+// Stands on `runs` and `text`; called by the programs.
 mod digest;
 mod pieces;
 mod result;

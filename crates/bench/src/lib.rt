@@ -1,4 +1,5 @@
 // The bench: four places whose jobs take turns; admit, turn, fetch, release and listing (added by document 01).
+// Stands on `held`. The type of a bench, and definitions: the code that meets them is in `rows`, `finished` and `benchcalls`.
 mod types;
 
 pub use types::Bench;

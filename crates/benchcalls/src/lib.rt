@@ -1,4 +1,5 @@
 // The calls on a bench (01): admit, turn, fetch, release and listing. Lent, and by value for programs.
+// Stands on `rows`, `finished` and `records`; called by programs, and from C or Rust as it is exported.
 mod admission;
 mod lent;
 mod play;

@@ -30,6 +30,7 @@ use jobs::DlsConfig;
 use normal::Damping;
 
 // Whether a merit is an improvement.
+// dls.rs: "Successful reduction!"
 fn is_reduction(merit: f64, current: f64) -> bool
     ensures { λ r. ⌜ r ≡ finiteOf merit && lt merit current ⌝ }
 {
@@ -70,6 +71,7 @@ pub fn resume_iterations(
 }
 
 // The candidate's surfaces, parameters and merit become the current ones, and the damping is eased.
+// dls.rs: `current_prescription = test_presc` and on
 fn moved(
     h: Head,
     merit: f64,

@@ -30,6 +30,7 @@ use normal::attempt_step;
 use normal::normal_equations;
 
 // The first p parameters moved by the step that stands in scratch.
+// dls.rs: `candidate_params[i] += dx[i]`
 fn stepped(params: [f64; 8], p: usize, scratch: &[f64]) -> [f64; 8]
     requires { ⌜ scratchLength ≤ length (now scratch) ⌝ ∗ ⌜ p ≤ mostVariables ⌝ }
     ensures { λ r. ⌜ r ≡ steppedIn params p (now (scratch .entry)) ⌝ }
@@ -62,6 +63,7 @@ fn candidate_params(
 }
 
 // The attempts from number `first` on, under a damping: the next candidate, or the end where none of the ten has a step.
+// dls.rs: `for _attempt in 0..10`
 fn resume_attempts(
     h: Head,
     p: usize,
@@ -105,6 +107,7 @@ fn resume_attempts(
 }
 
 // Whether the gradient stops the run: also where its norm is not finite.
+// dls.rs: "Gradient norm termination check"
 fn is_stationary(norm: f64, tolerance: f64) -> bool
     ensures { λ r. ⌜ r ≡ not (finiteOf norm) || lt norm tolerance ⌝ }
 {

@@ -26,6 +26,7 @@ use normal::plus_value;
 use variables::VariableDef;
 
 // A variable's value moved up, within its bounds.
+// dls.rs: `p_plus[param_idx]`
 fn moved_up(x0: f64, relative: f64, variable: VariableDef) -> f64
     ensures { λ r. ⌜ r ≡ movedUp x0 relative variable ⌝ }
 {
@@ -34,6 +35,7 @@ fn moved_up(x0: f64, relative: f64, variable: VariableDef) -> f64
 }
 
 // A variable's value moved down, within its bounds.
+// dls.rs: `p_minus[param_idx]`
 fn moved_down(x0: f64, relative: f64, variable: VariableDef) -> f64
     ensures { λ r. ⌜ r ≡ movedDown x0 relative variable ⌝ }
 {
@@ -119,6 +121,7 @@ pub(crate) fn presc_minus(
 }
 
 // What lies between the parameter moved up and moved down.
+// dls.rs: `denom`
 fn between(
     h: Head,
     config: DlsConfig,

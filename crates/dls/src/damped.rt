@@ -70,6 +70,7 @@ pub fn pending_damped(
 }
 
 // The first merit is of the surfaces as they are; the parameters are read from them.
+// dls.rs: `optimize` up to its loop
 fn advance_first(
     h: Head,
     config: DlsConfig,
@@ -179,6 +180,7 @@ fn advance_minus(
 }
 
 // The state after the merit that came next. A turn uses the first 128 of scratch.
+// dls.rs: `optimize`, from one `evaluate` to the next
 pub fn advance_damped(
     h: Head,
     config: DlsConfig,

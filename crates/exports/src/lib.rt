@@ -1,4 +1,5 @@
 // Functions for callers in C or Rust, by `rt staticlib exports`: a lens by itself, and thin ones, each with its callee's contract.
+// Stands on `lending`, `intervals` and `jobs`; called from C or Rust alone.
 ghost use mathlib.Core.Path.{_≡_};
 ghost use Rattle.exports.specs.Abi.{abiNumber};
 ghost use Rattle.floats.specs.Exp.{expOf};

@@ -1,4 +1,5 @@
 // The finished places by working turns used, fewest first, equal ones by rising place (request 10).
+// Stands on `rows`; called by `benchcalls`, and by value by programs.
 ghost use mathlib.Core.Path.{_≡_};
 ghost use Prim.Native.Nat.{_≤_};
 ghost use Rattle.held.specs.RowFrom.{turnsFrom};

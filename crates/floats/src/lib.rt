@@ -1,6 +1,7 @@
 // Functions on `f64`: the square root, rounded to the nearest `f64`, E, which stands in for the exponential,
 // and what Rust's methods do. Each contract is an equation with a definition in specs/; callers go by
 // the laws in the crate `floatlaws`: `specs/CallerLaws.antt`, `Order.antt` and `Monotone.antt`.
+// Stands on nothing; called wherever an `f64` is more than added, and by `exports`.
 mod basic;
 mod exp;
 mod root;

@@ -53,6 +53,7 @@ fn prob(delta_merit: f64, temp: f64) -> f64
 }
 
 // The step is taken, and kept as the best where its merit is strictly lower.
+// global.rs: `if accept`
 fn accepted(
     w: WalkHead,
     merit: f64,

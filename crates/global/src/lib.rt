@@ -1,4 +1,5 @@
 // Multi-start's trials and annealing's walk, over lent arrays, from merit to merit (out of global.rs).
+// Stands on `dls`, `kinds` and `xorshift`; called by `turns`.
 mod cycles;
 mod draws;
 mod judging;

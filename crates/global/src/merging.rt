@@ -11,6 +11,7 @@ use held::Head;
 use held::RowHead;
 
 // The result of a run at its end, kept as the best.
+// global.rs: `best_result = result`
 fn keep(
     h: Head,
     surfaces: &[f64; 64],

@@ -24,6 +24,7 @@ use held::BestHead;
 use held::RowHead;
 
 // The surfaces that a trial starts from; the generator after its draws.
+// global.rs: `trial_presc`
 fn trial_surfaces(
     generator: u64,
     counts: &[u64; 57],
@@ -77,6 +78,7 @@ fn ended(
 }
 
 // From the end of a trial, with the best of all so far: the next trial, or the end.
+// global.rs: `for trial in 0..self.config.num_trials`
 fn resume_trials(
     best: BestHead,
     generator: u64,

@@ -18,6 +18,7 @@ use jobs::SimulatedAnnealingConfig;
 use merit::MeritEvaluation;
 
 // The cycle is over: it cools, and the next one begins, or the polish.
+// global.rs: `temp *= self.config.cooling_rate`
 fn next_cycle(
     w: WalkHead,
     config: SimulatedAnnealingConfig,
@@ -150,6 +151,7 @@ pub fn advance_walk_first(
 }
 
 // After the merit of a step: the next step, the next cycle, or the polish.
+// global.rs: `optimize`, from one `evaluate` to the next
 pub fn advance_walk(
     h: RowHead,
     config: SimulatedAnnealingConfig,

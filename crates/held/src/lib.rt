@@ -1,4 +1,5 @@
 // A row as the bench holds it: arrays of numbers. Where an entry stands, what a job's numbers are read as, and how a row is written.
+// Stands on `runs`; called by all that works on a row. It alone has offsets.
 mod converted;
 mod entries;
 mod flat;

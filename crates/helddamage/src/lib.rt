@@ -1,4 +1,5 @@
 // Refusal 12 on a held row: its job, its surfaces, its phase, its counters and its turns.
+// Stands on `held` and `kinds`; called by `rows`.
 mod checks;
 mod damage;
 mod limits;

@@ -1,4 +1,5 @@
 // Jobs: as they are asked for, admitted and kept.
+// Stands on `variables` and `merit`; called by admission (`rows`), and by all that reads a row's job.
 mod checks;
 mod entries;
 mod filled;

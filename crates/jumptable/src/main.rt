@@ -1,4 +1,5 @@
 // Prints the words of the tables that `jump` stores, from the step alone, as they stand in jump/src/table.rt: a line each.
+// Stands on `jump` and `text`; a program that only tests.
 use text::output::Waiting;
 use text::output::flush;
 use text::output::put;

@@ -1,4 +1,5 @@
 // Operands, the merit of a lens, and the two calls that stand alone: evaluate and trace (out of operands.rs, merit.rs).
+// Stands on `optics`; called by `heldmerit` for runs, by `lending` and `exports` for callers, by `jobs` (refusal 5).
 mod calls;
 mod checks;
 mod edges;

@@ -12,6 +12,7 @@ pub struct Damping {
 
 impl Damping {
     // After an attempt that was not accepted.
+    // dls.rs: "increase damping"
     pub fn raise(self) -> Damping
         ensures { λ r. ⌜ r .value ≡ raisedOf (self .value) ⌝ }
     {
@@ -21,6 +22,7 @@ impl Damping {
     }
 
     // After one that was accepted.
+    // dls.rs: "Reduce damping"
     pub fn ease(self) -> Damping
         ensures { λ r. ⌜ r .value ≡ easedOf (self .value) ⌝ }
     {
@@ -31,6 +33,7 @@ impl Damping {
 }
 
 // An entry of the diagonal, damped.
+// dls.rs: `a_mat[(i, i)] += damping * diag_val`
 pub fn damped_diagonal(damping: f64, d: f64) -> f64
     ensures { λ r. ⌜ r ≡ dampedDiagonal damping d ⌝ }
 {

@@ -148,6 +148,7 @@ fn solve_upward(scratch: &mut [f64], p: usize)
 }
 
 // Solves the system that stands in scratch. The solution stands there too, as the step.
+// dls.rs: `a_mat.lu()` and `lu.solve`
 pub fn solve(scratch: &mut [f64], p: usize) -> Solved
     requires { ⌜ scratchLength ≤ length (now scratch) ⌝ ∗ ⌜ p ≤ mostVariables ⌝ }
     ensures { λ r. ⌜ Solving p (now (scratch .entry)) (now (scratch .exit)) r ⌝ }

@@ -17,6 +17,7 @@ pub fn delta(x0: f64, relative: f64, size: f64) -> f64
 }
 
 // The parameter moved up, within its bounds.
+// dls.rs: `p_plus[param_idx]`
 pub fn plus_value(x0: f64, by: f64, lo: f64, hi: f64) -> f64
     ensures { λ r. ⌜ r ≡ plusValue x0 by lo hi ⌝ }
 {
@@ -24,6 +25,7 @@ pub fn plus_value(x0: f64, by: f64, lo: f64, hi: f64) -> f64
 }
 
 // The parameter moved down, within its bounds.
+// dls.rs: `p_minus[param_idx]`
 pub fn minus_value(x0: f64, by: f64, lo: f64, hi: f64) -> f64
     ensures { λ r. ⌜ r ≡ minusValue x0 by lo hi ⌝ }
 {
@@ -31,12 +33,14 @@ pub fn minus_value(x0: f64, by: f64, lo: f64, hi: f64) -> f64
 }
 
 // What lies between the two, as the steps that were taken.
+// dls.rs: `denom`
 pub fn denominator(x0: f64, plus: f64, minus: f64) -> f64
     ensures { λ r. ⌜ r ≡ denominatorOf x0 plus minus ⌝ }
 {
     (plus - x0) + (x0 - minus)
 }
 
+// dls.rs: `d_res`
 fn jacobian_entry(plus: f64, minus: f64, between: f64) -> f64
     ensures { λ r. ⌜ r ≡ jacobianEntry plus minus between ⌝ }
 {
@@ -51,6 +55,7 @@ fn jacobian_entry(plus: f64, minus: f64, between: f64) -> f64
 }
 
 // Writes column q for m operands, out of the residuals on either side.
+// dls.rs: `j_mat[(i, param_idx)]`
 pub fn jacobian_column<'a>(
     jacobian: &mut [f64; 96],
     q: usize,

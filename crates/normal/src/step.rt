@@ -50,6 +50,7 @@ fn system_row(scratch: &mut [f64], p: usize, damping: f64, i: usize)
 }
 
 // Lays out the damped system.
+// dls.rs: `a_mat`, and `-g_vec` as its last column
 fn system(scratch: &mut [f64], p: usize, damping: f64)
     requires { ⌜ scratchLength ≤ length (now scratch) ⌝ ∗ ⌜ p ≤ mostVariables ⌝ }
     ensures { λ r. ⌜ now (scratch .exit) ≡ withSystem p damping p (now (scratch .entry)) ⌝ }
@@ -61,6 +62,7 @@ fn system(scratch: &mut [f64], p: usize, damping: f64)
     }
 }
 
+// dls.rs: `dx.iter().all(|&v| v.is_finite())`
 fn all_finite(scratch: &[f64], p: usize) -> Solved
     requires { ⌜ scratchLength ≤ length (now scratch) ⌝ ∗ ⌜ p ≤ mostVariables ⌝ }
     ensures { λ r. ⌜ r ≡ solvedIf (allBelow (λ (k : ℕ). finiteOf (getD (now (scratch .entry)) (stepAt + k) nan)) p) ⌝ }
@@ -76,6 +78,7 @@ fn all_finite(scratch: &[f64], p: usize) -> Solved
 }
 
 // Solves the damped system of the product matrix and the gradient that stand in scratch; the step stands there too.
+// dls.rs: an attempt, as far as `dx`
 pub fn attempt_step(scratch: &mut [f64], p: usize, damping: Damping) -> Solved
     requires { ⌜ scratchLength ≤ length (now scratch) ⌝ ∗ ⌜ p ≤ mostVariables ⌝ }
     ensures { λ r. ⌜ Attempt p (damping .value) (now (scratch .entry)) (now (scratch .exit)) r ⌝ }

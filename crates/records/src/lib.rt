@@ -1,4 +1,5 @@
 // Requests in numbers alone, for callers in C: what they ask for, and lists of calls that have them.
+// Stands on `bench` and `kinds`; called by `benchcalls` (`admit_record`).
 mod requests;
 mod types;
 

@@ -1,4 +1,5 @@
 // The calls on one row: admission, a turn, fetch, release, listing, and what a turn would work out (01's bench).
+// Stands on `turns`, `helddamage` and `bench`; called by `benchcalls` and `finished`.
 mod began;
 mod calls;
 mod fetch;

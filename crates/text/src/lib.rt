@@ -1,4 +1,5 @@
 // Lines of text in and out: the input line by line, its words and numbers, and the output, gathered in a buffer.
+// Stands on `lists` and the system's calls; called by programs, `joblines` and `answers`, by no call of the bench.
 pub mod cursor;
 mod fields;
 pub mod input;

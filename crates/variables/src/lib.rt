@@ -1,4 +1,5 @@
 // What an optimisation may change: variables, their values read and stored, and check 4 (out of variables.rs).
+// Stands on `optics`; called by `jobs` (refusal 4), and by `held`, which applies them.
 mod quantities;
 mod sets;
 mod taken;
