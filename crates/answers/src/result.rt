@@ -1,5 +1,4 @@
 // A run's result, written.
-ghost use mathlib.Core.Path.{_≡_};
 ghost use Prim.Native.Nat.{_≤_, min};
 ghost use lib.ListN.{length};
 ghost use Rattle.text.specs.Output.{Put};

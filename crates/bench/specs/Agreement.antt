@@ -20,7 +20,8 @@ use Rattle.held.specs.declared.types.HeldRow.{HeldRow}
 use Rattle.bench.specs.declared.types.Bench.{Bench}
 use Rattle.bench.specs.Refusals.{noPlace, scratchShort, admitRefusals}
 use Rattle.bench.specs.Admission.{passed-request, admissible}
-use Rattle.bench.specs.Book.{Call, admit, turn, fetch, release, listing, number, fetched, listed, fetchedUnless, placesWhere, Entry, empty, holds, Book, entryAt, withEntry, isEmpty, isFinished, resultOf, countOf, counted, bookAnswer, bookStep}
+use Rattle.bench.specs.Book.{Call, admit, turn, fetch, release, listing, number, fetched, listed, fetchedUnless, placesWhere, Entry, empty, holds, Book}
+use Rattle.bench.specs.Book.{entryAt, withEntry, isEmpty, isFinished, resultOf, counted, bookAnswer, bookStep}
 use Rattle.bench.specs.Book as Book
 use Rattle.bench.specs.Benches.{zeroRow, noRow, heldAt, rowAt, withRow}
 use Rattle.runs.specs.Turn.{turned}

@@ -1,10 +1,10 @@
 -- For each number of each call a law: it is answered exactly when its cause holds and none in front of it in the call's list does. And what a refused call
 -- was lent stays. Assumes nothing.
-use mathlib.Core.Path.{_≡_, refl, sym, ap}
+use mathlib.Core.Path.{_≡_, ap}
 use mathlib.Core.Bool.{true, not}
 use mathlib.Core.List.{List, _++_}
 use mathlib.Core.Logic.{_↔_}
-use Prim.Native.Nat.{ℕ, zero, suc}
+use Prim.Native.Nat.{ℕ, suc}
 use lib.Ieee.{Float}
 use lib.ListN.{length, drop, replicate}
 use Rattle.floats.specs.Constants.{zero64}
@@ -17,11 +17,11 @@ use Rattle.jobs.specs.Filled.{filled}
 use Rattle.runs.specs.Damage.{damaged}
 use Rattle.runs.specs.JobRun.{Result}
 use Rattle.runs.specs.Rows.{isFinished, resultOf}
-use Rattle.runs.specs.declared.types.Row.{Row}
 use Rattle.bench.specs.declared.types.Bench.{Bench}
 use Rattle.bench.specs.Refusals.{noPlace, scratchShort, admitRefusals}
 use Rattle.bench.specs.Benches.{rowAt}
-use Rattle.bench.specs.Calls.{isVacant, admitNumber, turnRefusals, turnNumber, scratchAfter, fetchRefusals, fetchNumber, fetchedResult, releaseRefusals, releaseNumber}
+use Rattle.bench.specs.Calls.{isVacant, admitNumber, turnRefusals, turnNumber, scratchAfter, fetchRefusals, fetchNumber, fetchedResult, releaseRefusals}
+use Rattle.bench.specs.Calls.{releaseNumber}
 
 -- "nothing lent changes"
 pub stays : {A : Type 0} (m n : ℕ) (new old : A) → m ≡ suc n → unlessRefused m new old ≡ old

@@ -1,7 +1,7 @@
 -- What a listing has, on any bench whatever (request 10). Assumes nothing.
 use mathlib.Core.Path.{_≡_, refl, ap, _∙_}
 use mathlib.Core.Bool.{Bool, true, false, not, _&&_}
-use mathlib.Core.List.{List, List·Permᴰ}
+use mathlib.Core.List.{List·Permᴰ}
 use Prim.Native.Nat.{ℕ}
 use Rattle.runs.specs.Damage.{damaged}
 use Rattle.runs.specs.Rows.{isFinished}

@@ -46,7 +46,8 @@ use Rattle.held.specs.declared.types.HeldRow.{HeldRow}
 use Rattle.bench.specs.declared.types.Bench.{Bench}
 use Rattle.runs.specs.JobMerit.{lensWith, evaluateOf}
 use Rattle.runs.specs.Turn.{turned}
-use Rattle.bench.specs.Book.{Call, admit, turn, fetch, release, listing, Answer, number, fetched, listed, fetchedUnless, Entry, empty, holds, Book, emptyBook, entryAt, isEmpty, isFinished, resultOf, countOf, placesWhere}
+use Rattle.bench.specs.Book.{Call, admit, turn, fetch, release, listing, Answer, number, fetched, listed, fetchedUnless, Entry, empty, holds, Book}
+use Rattle.bench.specs.Book.{emptyBook, entryAt, isEmpty, isFinished, resultOf, countOf, placesWhere}
 use Rattle.bench.specs.Book.{runAfter, leftBy, answersBy, bookAnswer, bookStep, bookAfter}
 use Rattle.bench.specs.Book as Book
 use Rattle.bench.specs.Benches.{zeroRow, noRow, emptyBench, heldAt, rowAt, withRow}

@@ -14,7 +14,7 @@ use base.Logic.{SProp, ent, sep, wand, guard, via, comm∗, wandE, allE}
 use base.Fml.{Share, Fml, ftrue, fsep}
 use prog.Wp.{Heap}
 use ghost.Atoms.{Atoms, sem}
-use types.Kit.{Given, ‵, raw, _⊛_, _$_, _∵_, !, qed, move, drop, use1, use2, split, rewrite, check, fsplit, fjoin, fpick, fpack, done}
+use types.Kit.{Given, ‵, raw, _⊛_, _$_, _∵_, !, qed, move, drop, use1, use2, rewrite, check, fsplit, fjoin, fpick, fpack, done}
 use denote.RattleType.{RattleType, Denots}
 use denote.Laws.{Is, shows, Lawfuls}
 use denote.Memory.{cellAt, partAt, partOf}

@@ -1,5 +1,5 @@
 -- Admission by a record of numbers: what the call's contract cites, out of the row's answer. Assumes nothing.
-use mathlib.Core.Path.{_≡_, refl, sym, ap, _∙_}
+use mathlib.Core.Path.{_≡_, refl, ap, _∙_}
 use mathlib.Core.Bool.{Bool, true, false, cond}
 use Prim.Native.Nat.{ℕ, _≤_, _<_}
 use Rattle.lists.specs.Refusals.{firstRefusal}

@@ -25,7 +25,8 @@ use Rattle.held.specs.Written.{heldFrom}
 use Rattle.held.specs.declared.types.HeldRow.{HeldRow}
 use Rattle.bench.specs.Benches.{zeroRow, noRow, heldAt, withHeld, rowAt, withRow}
 use Rattle.bench.specs.Refusals.{noPlace, admitRefusals}
-use Rattle.bench.specs.Calls.{isVacant, rowReleaseRefusals, admitNumber, admittedBench, turnNumber, turnedBench, scratchAfter, fetchNumber, fetchedResult, releaseNumber, releasedBench}
+use Rattle.bench.specs.Calls.{isVacant, rowReleaseRefusals, admitNumber, admittedBench, turnNumber, turnedBench, scratchAfter, fetchNumber, fetchedResult}
+use Rattle.bench.specs.Calls.{releaseNumber, releasedBench}
 use Rattle.rows.specs.declared.types.Fetched.{Fetched}
 use Rattle.rows.specs.declared.types.RowAnswer.{RowAnswer}
 use Rattle.rows.specs.Calls.{answered, turnRowNumber, turnedRow, scratchOf, admitRowNumber, admitRowOf, fetchRowNumber, fetchRowOf, releaseRowOf}

@@ -1,7 +1,8 @@
 // The five calls, on a bench that is lent. No call asks anything of what it is handed: any bench whatever may be.
 ghost use mathlib.Core.Path.{_≡_};
 ghost use lib.ListN.{length};
-ghost use Rattle.bench.specs.Calls.{admitNumber, admittedBench, turnNumber, turnedBench, scratchAfter, fetchNumber, fetchedResult, releaseNumber, releasedBench, listingOf};
+ghost use Rattle.bench.specs.Calls.{admitNumber, admittedBench, turnNumber, turnedBench, scratchAfter, fetchNumber, fetchedResult, releaseNumber};
+ghost use Rattle.bench.specs.Calls.{releasedBench, listingOf};
 ghost use Rattle.records.specs.Exported.{admitRecordNumber, admittedRecordBench};
 use crate::admission;
 use bench::Bench;

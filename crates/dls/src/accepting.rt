@@ -45,7 +45,8 @@ fn rel_improvement(merit: f64, current: f64) -> f64
 }
 
 // The next iteration, where there is one: its Jacobian is zero, and its first column comes first.
-pub fn resume_iterations(
+// dls.rs: `while iteration < self.config.max_iterations`
+pub(crate) fn resume_iterations(
     h: Head,
     limit: u64,
     jacobian: &mut [f64; 96],

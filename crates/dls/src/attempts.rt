@@ -167,7 +167,8 @@ pub(crate) fn resume_stationary(
 }
 
 // A candidate was not accepted: its attempt is over, and the damping is raised.
-pub fn resume_rejected(
+// dls.rs: "step rejected .. increase damping"
+pub(crate) fn resume_rejected(
     h: Head,
     counts: &[u64; 57],
     numbers: &[f64],

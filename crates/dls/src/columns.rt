@@ -146,7 +146,8 @@ fn between(
 }
 
 // This column of the Jacobian written, out of the residuals on either side.
-pub fn with_differences(
+// dls.rs: `j_mat[(i, param_idx)] = d_res`
+pub(crate) fn with_differences(
     h: Head,
     config: DlsConfig,
     counts: &[u64; 57],

@@ -5,7 +5,8 @@ use Prim.Native.Nat.{ℕ, zero, suc, _<_, _≤_}
 use native.Mathlib.Omega.{arith}
 use Rattle.merit.specs.declared.types.Evaluated.{Evaluated}
 use Rattle.merit.specs.declared.types.MeritEvaluation.{MeritEvaluation}
-use Rattle.merit.specs.Calls.{unlessRefused, evaluateNumber, lensEvaluation, zeroEvaluation}
+use Rattle.merit.specs.OperandTable.{zeroEvaluation}
+use Rattle.merit.specs.Calls.{unlessRefused, evaluateNumber, lensEvaluation}
 use Rattle.lending.specs.Over.{evaluatedOver}
 use Rattle.jobs.specs.declared.types.JobRecord.{JobRecord}
 use Rattle.exports.specs.Lenses.{lensOf, functionOf, areOperands, evaluateRecordNumber, evaluatedRecord, recordEvaluated}

@@ -2,16 +2,15 @@
 -- Definitions only.
 use Prim.Native.Nat.{ℕ}
 use mathlib.Core.Bool.{Bool, not, cond, _&&_}
-use mathlib.Core.List.{List}
 use lib.Dec.{ltb}
 use Rattle.optics.specs.declared.types.OpticalPrescription.{OpticalPrescription}
-use Rattle.optics.specs.declared.types.ParaxialRay.{ParaxialRay}
 use Rattle.merit.specs.declared.types.Evaluated.{Evaluated}
 use Rattle.merit.specs.declared.types.MeritEvaluation.{MeritEvaluation}
 use Rattle.merit.specs.declared.types.MeritFunction.{MeritFunction}
 use Rattle.merit.specs.declared.types.Traced.{Traced}
 use Rattle.merit.specs.declared.types.Traced.the-variants.{Done, Failed, Refused}
-use Rattle.merit.specs.Calls.{unlessRefused, evaluateNumber, lensEvaluation, zeroEvaluation, traceAnswer}
+use Rattle.merit.specs.OperandTable.{zeroEvaluation}
+use Rattle.merit.specs.Calls.{unlessRefused, evaluateNumber, lensEvaluation, traceAnswer}
 use Rattle.jobs.specs.declared.types.JobRecord.{JobRecord}
 use Rattle.jobs.specs.Records.{jobOf, knownOperands}
 

@@ -6,7 +6,6 @@ use intervals::ThicknessLimits;
 use intervals::TracedLimits;
 use jobs::JobRecord;
 use merit::Evaluated;
-use merit::MeritEvaluation;
 use merit::Traced;
 use optics::OpticalPrescription;
 
@@ -34,13 +33,7 @@ fn are_operands(held: JobRecord) -> bool
 pub(crate) fn evaluated(held: JobRecord) -> Evaluated
     ensures { λ r. ⌜ r ≡ recordEvaluated held ⌝ }
 {
-    let values = [0.0; 12];
-    let residuals = [0.0; 12];
-    let none = MeritEvaluation {
-        values: values,
-        residuals: residuals,
-        total_merit: 0.0,
-    };
+    let none = merit::zero_evaluation();
     if !are_operands(held) {
         return Evaluated {
             evaluation: none,

@@ -7,7 +7,7 @@ use mathlib.Core.Bool.{Bool, true, false, not, _&&_, cond, false≢true}
 use lib.IntN.{ℤ, pos}
 use lib.Dec.{T, ltb, eqb, eqb→eq}
 use borrow.Author.Tests.{ltb-true}
-use lib.Ieee.{Float, nan, inf, fin, Format, binary64, neg, lt, le, eq, isNan, round, units, odd, size, prec, low, emax, div, up, down, unlike, ofBits}
+use lib.Ieee.{Float, nan, inf, fin, Format, lt, le, eq, isNan, round, units, odd, size, prec, low, emax, div, up, down, unlike, ofBits}
 use lib.Ieee.Fits.{round-is, up-pos, down-pos, and-l, and-r}
 use Rattle.floats.specs.Basic.{magnitude, clampOf, finiteOf}
 use Rattle.floats.specs.BasicLaws.{is-so, zero-is}
@@ -15,7 +15,7 @@ use Rattle.floats.specs.Constants.{zero64, one64}
 use Rattle.floats.specs.Sqrt.{rootAt, sqrtOf}
 use Rattle.floatlaws.specs.Fractions.{Finite}
 use Rattle.floatlaws.specs.Monotone.{no-zero}
-use Rattle.floatlaws.specs.Order.{Number, le-numbers, le-self, not-lt→le, le-trans, finite-between}
+use Rattle.floatlaws.specs.Order.{Number, le-numbers, le-self, not-lt→le}
 
 -- ---- the test for finite numbers
 pub finite-test : (x : Float) → T (finiteOf x) → Finite x
@@ -43,24 +43,6 @@ magnitude-number nan = refl
 magnitude-number (inf s) = refl
 magnitude-number (fin s m e) = refl
 
-pub magnitude-finite : (x : Float) → finiteOf (magnitude x) ≡ finiteOf x
-unfolding magnitude finiteOf
-magnitude-finite nan = refl
-magnitude-finite (inf s) = refl
-magnitude-finite (fin s m e) = refl
-
-pub magnitude-again : (x : Float) → magnitude (magnitude x) ≡ magnitude x
-unfolding magnitude
-magnitude-again nan = refl
-magnitude-again (inf s) = refl
-magnitude-again (fin s m e) = refl
-
-pub magnitude-neg : (x : Float) → magnitude (neg x) ≡ magnitude x
-unfolding magnitude neg
-magnitude-neg nan = refl
-magnitude-neg (inf s) = refl
-magnitude-neg (fin s m e) = refl
-
 -- ---- what clamp gives lies between its bounds, where they are not crossed and the number is no NaN
 module _ (x lo hi : Float) (number : Number x) (order : T (le lo hi)) where
   low-number : Number lo
@@ -84,9 +66,6 @@ module _ (x lo hi : Float) (number : Number x) (order : T (le lo hi)) where
       go true b h = order
       go false true h = le-self hi high-number
       go false false h = h tt
-
-  pub clamp-finite : Finite lo → Finite hi → Finite (clampOf x lo hi)
-  clamp-finite p q = finite-between lo (clampOf x lo hi) hi p q clamp-above clamp-below
 
 -- ---- what is rounded is a number, and so is the reciprocal of a finite number other than zero
 cond-number : (b : Bool) (x y : Float) → Number x → Number y → Number (cond b x y)

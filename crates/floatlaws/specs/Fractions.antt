@@ -1,5 +1,5 @@
 -- Finite floats as fractions of whole numbers, and `le` as the order of the fractions. Assumes nothing.
-use mathlib.Core.Path.{_≡_, refl, sym, ap, _∙_}
+use mathlib.Core.Path.{_≡_, sym, _∙_}
 use mathlib.Core.Logic.{_⊎_, inl, inr}
 use Prim.Native.Nat.{ℕ, zero, suc, _+_, _*_, _≤_, _<_}
 use native.Mathlib.Nat.{le-of-eq, le-of-lt, eq-or-lt-of-le}

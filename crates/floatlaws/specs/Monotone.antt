@@ -2,13 +2,13 @@
 -- divisor with the dividend. Assumes nothing.
 use mathlib.Core.Path.{_≡_, refl, sym, ap, ap₂, _∙_, subst}
 use mathlib.Core.Logic.{_⊎_, inl, inr}
-use Prim.Native.Nat.{ℕ, zero, suc, _+_, _-_, _*_, _≤_, _<_}
+use Prim.Native.Nat.{ℕ, _+_, _-_, _*_, _≤_, _<_}
 use native.Mathlib.Nat.{le-trans, le-of-eq, mul-pos, mul-comm, mul-le-mul-right, add-mul, zero-mul, mul-mul-mul-comm, mul-zero, add-zero, zero-add}
 use native.Mathlib.Omega.{arith}
 use mathlib.Core.Bool.{Bool, true, false, not, cond}
 use lib.Dec.{T, ltb, eqb, ltb→lt, nltb→le, eqb→eq}
 use lib.Ieee.{Float, nan, inf, fin, Format, up, down, neg, le, round, sum, add, sub, mul, div, unlike}
-use lib.Ieee.Fits.{up-pos, down-pos}
+use lib.Ieee.Fits.{up-pos}
 use Rattle.floatlaws.specs.Fractions.{Finite, plus, less, den, den-pos, le→under}
 use Rattle.floatlaws.specs.Rounding.{Rounded, rounded-mono, neg-anti}
 
@@ -23,12 +23,6 @@ onLess true a = a
 
 same : (a b : ℕ) → a + b ≡ 0 + 0 + (a + b)
 same a b = omega arith
-
-over : (a b : ℕ) → a < b → b ≡ a + (b - a)
-over a b h = omega arith
-
-rest : (a b : ℕ) → b ≤ a → a ≡ b + (a - b)
-rest a b h = omega arith
 
 sum-rounded : (f : Format) (s : Bool) (a : ℕ) (t : Bool) (b c : ℕ) → Rounded f (sum f s a t b c) (onPlus s a + onPlus t b) (onLess s a + onLess t b) c
 unfolding sum

@@ -1,7 +1,8 @@
 -- The square root of `floats` is the nearest `f64`: `nearest`. Assumes nothing.
 use mathlib.Core.Path.{_≡_, refl, sym, ap, _∙_, subst}
 use Prim.Native.Nat.{ℕ, zero, suc, _+_, _-_, _*_, _/_, _%_, _^_, _≤_, _<_}
-use native.Mathlib.Nat.{le-trans, le-of-eq, lt-of-lt-of-le, lt-irrefl, zero-lt-suc, zero-mul, mul-pos, mul-assoc, mul-comm, mul-right-comm, mul-le-mul, mul-le-mul-right, lt-of-mul-lt-mul-right, mul-lt-mul-of-pos-right}
+use native.Mathlib.Nat.{le-trans, le-of-eq, lt-of-lt-of-le, lt-irrefl, zero-lt-suc, zero-mul, mul-pos, mul-assoc, mul-comm, mul-right-comm, mul-le-mul}
+use native.Mathlib.Nat.{mul-le-mul-right, lt-of-mul-lt-mul-right, mul-lt-mul-of-pos-right}
 use native.Mathlib.Omega.{arith}
 use mathlib.Core.Bool.{Bool, true, false, not, true≢false}
 use lib.IntN.{ℤ}
@@ -15,7 +16,7 @@ use lib.Ieee.Positive.{num, den, positive, den-pos, value→cross}
 use Rattle.floats.specs.Sqrt.{nearestRoot, rootAt, sqrtOf}
 use Rattle.floats.specs.Steps.{Nears}
 use Rattle.floats.specs.RootLaws.{nearest-law, nears-most, nears-least}
-use Rattle.floats.specs.Patterns.{made-fits, root-at, spread, place, held, units, counted, Lead, lead}
+use Rattle.floats.specs.Patterns.{made-fits, root-at, spread, place, held, units, counted, lead}
 use Rattle.floats.specs.SqrtCases.{sqrt-finite}
 use Rattle.floatlaws.specs.Nearest.{Nearest, unsigned}
 use Rattle.floatlaws.specs.NearestUnits.{above-units, below-units, to-above, to-below}

@@ -1,8 +1,9 @@
 -- The nearest root over whole numbers: what the whole number nearest to a root says of multiples of powers of two, and the step from these to fractions. Assumes nothing.
-use mathlib.Core.Path.{_≡_, refl, sym, ap, _∙_, subst}
+use mathlib.Core.Path.{_≡_, sym, ap, _∙_, subst}
 use mathlib.Core.Logic.{_⊎_, inl, inr}
-use Prim.Native.Nat.{ℕ, zero, suc, _+_, _-_, _*_, _^_, _≤_, _<_}
-use native.Mathlib.Nat.{le-trans, le-of-eq, le-of-lt, lt-of-lt-of-le, lt-of-le-of-lt, lt-irrefl, eq-or-lt-of-le, add-mul, mul-pos, mul-assoc, mul-comm, mul-right-comm, mul-mul-mul-comm, mul-le-mul, mul-le-mul-right, lt-of-mul-lt-mul-right, mul-lt-mul-of-pos-right}
+use Prim.Native.Nat.{ℕ, _+_, _-_, _*_, _^_, _≤_, _<_}
+use native.Mathlib.Nat.{le-trans, le-of-eq, le-of-lt, lt-of-lt-of-le, lt-of-le-of-lt, lt-irrefl, eq-or-lt-of-le, add-mul, mul-pos, mul-assoc, mul-comm}
+use native.Mathlib.Nat.{mul-right-comm, mul-mul-mul-comm, mul-le-mul, mul-le-mul-right, lt-of-mul-lt-mul-right, mul-lt-mul-of-pos-right}
 use native.Mathlib.Omega.{arith}
 use mathlib.Core.Bool.{Bool, true, false, not}
 use lib.Dec.{T, ltb, leb, ltb→lt, nltb→le, leb→le, nleb→lt}

@@ -5,7 +5,7 @@ use native.Mathlib.Nat.{le-antisymm, lt-irrefl, lt-trans, add-comm, mul-comm, mu
 use mathlib.Core.Bool.{true, false}
 use lib.IntN.{ℤ}
 use lib.Dec.{T, ltb, nltb→le, not-T}
-use lib.Ieee.{Float, nan, inf, fin, binary64, up, down, size, lt, fits, ofBits, toBits}
+use lib.Ieee.{Float, nan, inf, fin, binary64, up, down, size, lt, ofBits, toBits}
 use lib.Ieee.Bits.{ofBits-toBits}
 use lib.Ieee.Fits.{down-pos}
 use lib.Ieee.Nearest.{div-same}

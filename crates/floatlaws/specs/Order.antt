@@ -1,11 +1,12 @@
 -- `lt` and `le` on floats: transitive, total where there is no NaN. Assumes nothing.
-use mathlib.Core.Path.{_≡_, refl, sym, ap, _∙_, subst}
+use mathlib.Core.Path.{sym}
 use mathlib.Core.Logic.{_⊎_, inl, inr}
-use mathlib.Core.Bool.{Bool, true, false, not, _&&_, _||_, Bool·beq, cond}
+use mathlib.Core.Bool.{Bool, true, false, not, _&&_, _||_, Bool·beq}
 use Prim.Native.Nat.{ℕ, zero, suc, _+_, _*_, _≤_, _<_}
-use native.Mathlib.Nat.{le-trans as nat-le-trans, le-of-eq, add-mul, le-of-mul-le-mul-right, mul-right-comm, lt-of-mul-lt-mul-right, mul-lt-mul-of-pos-right, mul-pos}
+use native.Mathlib.Nat.{le-trans as nat-le-trans, le-of-eq, add-mul, le-of-mul-le-mul-right, mul-right-comm, lt-of-mul-lt-mul-right, mul-lt-mul-of-pos-right}
+use native.Mathlib.Nat.{mul-pos}
 use native.Mathlib.Omega.{arith}
-use lib.Dec.{T, ltb, eqb, ltb→lt, lt→ltb, nltb→le}
+use lib.Dec.{T, ltb→lt, lt→ltb, nltb→le}
 use lib.Ieee.{Float, nan, inf, fin, up, down, lt, eq, le, below, isNan}
 use lib.Ieee.Fits.{down-pos}
 use Rattle.floatlaws.specs.Fractions.{Finite, plus, less, den, den-pos, Under, le→under, under→le}

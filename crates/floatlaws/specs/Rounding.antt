@@ -7,7 +7,7 @@ use mathlib.Core.Bool.{Bool, true, false, _&&_, _||_, cond, true≢false}
 use lib.Dec.{T, ltb, eqb, eqb→eq}
 use lib.Pow.{pow-pos}
 use lib.Ieee.{Float, nan, inf, fin, Format, up, down, neg, le, round, units, odd, prec, low, emax}
-use lib.Ieee.Fits.{round-is, eq→eqb, and-i, and-l, and-r}
+use lib.Ieee.Fits.{round-is, eq→eqb, and-i, and-l}
 use lib.Ieee.Exact.{HasValue, round-exact}
 use lib.Ieee.Order.{round-mono}
 use Rattle.floatlaws.specs.Fractions.{Under, under→le, both-zero, across}
@@ -31,14 +31,6 @@ units-neg f q k =
 
 pub round-neg : (f : Format) (a c : ℕ) → round f true a c ≡ neg (round f false a c)
 round-neg f a c = round-is f true a c ∙ units-neg f _ _ ∙ ap neg (sym (round-is f false a c))
-
-pub neg-neg : (x : Float) → neg (neg x) ≡ x
-unfolding neg
-neg-neg nan = refl
-neg-neg (inf true) = refl
-neg-neg (inf false) = refl
-neg-neg (fin true m e) = refl
-neg-neg (fin false m e) = refl
 
 flip-eq : (a b : ℕ) → T (eqb a b) → T (eqb b a)
 flip-eq a b t = eq→eqb (sym (eqb→eq a b t))

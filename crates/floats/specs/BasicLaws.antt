@@ -1,17 +1,15 @@
 -- What the tests that the code makes say of the functions of `Basic.antt`. Assumes nothing.
-use mathlib.Core.Path.{_≡_, refl, sym, ap, _∙_, subst}
-use Prim.Native.Nat.{ℕ, zero, suc, _+_, _-_, _*_, _^_, _≤_, _<_}
-use native.Mathlib.Nat.{mul-one, one-mul, zero-mul, mul-pos, lt-irrefl, zero-lt-suc, pow-succ'}
+use mathlib.Core.Path.{_≡_, refl, sym, ap, _∙_}
+use Prim.Native.Nat.{ℕ, suc, _*_, _<_}
+use native.Mathlib.Nat.{mul-pos, zero-lt-suc}
 use native.Mathlib.Omega.{arith}
-use mathlib.Core.Bool.{Bool, true, false, not, _&&_, _||_, Bool·beq, cond, true≢false, false≢true}
-use lib.IntN.{ℤ, pos, negsuc}
+use mathlib.Core.Bool.{Bool, true, false, not, _&&_, _||_, Bool·beq, true≢false, false≢true}
+use lib.IntN.{ℤ, pos}
 use lib.Dec.{T, ltb, eqb, ltb→lt, lt→ltb, eqb→eq, eqb-refl}
-use lib.Pow.{pow-pos}
-use lib.Ieee.{Float, nan, inf, fin, binary64, up, down, neg, lt, le, eq, ne, isNan, fits}
-use lib.Ieee.Fits.{up-pos, down-pos, and-l, and-r, eq→eqb}
-use lib.Ieee.Bits.{is-true, is-false}
-use lib.Ieee.Compare.{differs-from-itself}
-use Rattle.floats.specs.Basic.{magnitude, clampOf, maxOf, minOf, finiteOf}
+use lib.Ieee.{Float, nan, inf, fin, up, down, lt, eq, ne, isNan}
+use lib.Ieee.Fits.{up-pos, and-l, eq→eqb}
+use lib.Ieee.Bits.{is-true}
+use Rattle.floats.specs.Basic.{finiteOf}
 
 pub is-so : (b : Bool) → b ≡ true → T b
 is-so true e = tt

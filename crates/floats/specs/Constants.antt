@@ -11,6 +11,10 @@ zero64 = ofBits binary64 0x0
 abbrev pub one64 : Float
 one64 = ofBits binary64 0x3ff0_0000_0000_0000
 
+-- 0.5
+abbrev pub half64 : Float
+half64 = ofBits binary64 0x3fe0_0000_0000_0000
+
 pub nought : ofBits binary64 0 ≡ fin false 0 (pos 0)
 unfolding ofBits
 nought = refl

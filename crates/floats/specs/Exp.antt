@@ -9,8 +9,8 @@ use Rattle.floats.specs.Constants.{zero64, one64}
 abbrev pub sevenHundred : Float
 sevenHundred = ofBits binary64 0x4085_e000_0000_0000
 
-abbrev pub kilo : Float
-kilo = ofBits binary64 0x4090_0000_0000_0000
+abbrev pub twoToTen : Float
+twoToTen = ofBits binary64 0x4090_0000_0000_0000
 
 -- "for k = 16 down to 1 take s = 1 + (y × s) / k": for each k from the first argument down to 1
 unfoldable pub series : ℕ → Float → Float → Float
@@ -27,4 +27,4 @@ unfoldable pub expOf : Float → Float
 expOf x =
     cond (lt x (neg sevenHundred)) zero64
     (cond (isNan x || lt zero64 x) one64
-    (squares 10 (series 16 (div binary64 x kilo) one64)))
+    (squares 10 (series 16 (div binary64 x twoToTen) one64)))

@@ -1,20 +1,21 @@
 -- The bit pattern of an `f64` above zero, the number of units of 2 ^ -1074 that it stands for, and the root of such a number. Assumes nothing.
 use mathlib.Core.Path.{_≡_, refl, sym, ap, _∙_, subst}
-use mathlib.Core.Logic.{_⊎_, inl, inr}
+use mathlib.Core.Logic.{inl, inr}
 use Prim.Native.Nat.{ℕ, zero, suc, _+_, _-_, _*_, _/_, _%_, _^_, _≤_, _<_}
-use native.Mathlib.Nat.{le-trans, le-of-eq, le-antisymm, lt-of-not-le, lt-of-lt-of-le, lt-of-le-of-lt, lt-irrefl, eq-or-lt-of-le, zero-lt-suc, zero-add, mul-one, mul-pos, mul-assoc, mul-comm, mul-right-comm, mul-le-mul-right, mul-lt-mul-of-pos-right, lt-of-mul-lt-mul-right, mul-div-cancel, le-div-iff-mul-le, div-one, div-mul-le-self, pow-suc}
+use native.Mathlib.Nat.{le-trans, le-of-eq, le-antisymm, lt-of-not-le, lt-of-lt-of-le, lt-of-le-of-lt, lt-irrefl, eq-or-lt-of-le, zero-lt-suc, zero-add}
+use native.Mathlib.Nat.{mul-one, mul-pos, mul-assoc, mul-right-comm, mul-le-mul-right, mul-lt-mul-of-pos-right, lt-of-mul-lt-mul-right, mul-div-cancel}
+use native.Mathlib.Nat.{le-div-iff-mul-le, div-one, pow-suc}
 use native.Mathlib.Omega.{arith}
-use mathlib.Core.Bool.{Bool, true, false, not, _&&_, cond, true≢false, false≢true}
+use mathlib.Core.Bool.{Bool, true, false, not, _&&_, cond, true≢false}
 use lib.IntN.{ℤ, pos, negsuc}
-use lib.Dec.{T, ltb, leb, eqb, lt→ltb, ltb→lt, leb→le, eqb→eq, nltb→le, not-T}
+use lib.Dec.{T, ltb, leb, eqb, lt→ltb, ltb→lt, leb→le, nltb→le, not-T}
 use lib.Pow.{pow-add, pow-pos, pow-mono, pow-lt, shl-lt}
-use lib.Ieee.{Float, nan, inf, fin, binary64, prec, emax, low, up, down, size, odd, fits, ofBits, toBits, lt, eq}
+use lib.Ieee.{Float, fin, binary64, up, down, size, odd, fits, ofBits, toBits}
 use lib.Ieee.Digits.{size-lt, size-le, size-reaches, back}
 use lib.Ieee.Fits.{odd-fits, kept-lt, down-pos, and-l, and-r}
 use lib.Ieee.Exact.{HasValue, odd-sign}
 use lib.Ieee.Bits.{ofBits-toBits, is-true, is-false}
-use Rattle.floats.specs.BasicLaws.{is-so, not-zero, zero-is, above-zero}
-use Rattle.floats.specs.Sqrt.{nearestRoot, rootAt, sqrtOf}
+use Rattle.floats.specs.Sqrt.{nearestRoot, rootAt}
 use Rattle.floats.specs.Steps.{count}
 
 -- ---- how many digits a number has

@@ -33,6 +33,6 @@ pub record Closer (w q q′ : ℕ) : Type 0 where
   pub most : q′ ≤ 2 ^ 53
   pub less : apart q′ (nearestRoot w) < apart q (nearestRoot w)
 
-abbrev pub Aimed : ℕ → ℕ → ℕ → Bool → Type 0
-Aimed w q q′ true = Nears w q
-Aimed w q q′ false = Closer w q q′
+abbrev pub Mended : ℕ → ℕ → ℕ → Bool → Type 0
+Mended w q q′ true = Nears w q
+Mended w q q′ false = Closer w q q′

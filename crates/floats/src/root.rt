@@ -6,7 +6,7 @@ ghost use lib.Dec.{leb};
 ghost use lib.Ieee as Ieee;
 ghost use lib.Ieee.{binary64};
 ghost use Rattle.floats.specs.Sqrt.{sqrtOf, rootAt};
-ghost use Rattle.floats.specs.Steps.{count, Square, Whole, Nears, Aimed};
+ghost use Rattle.floats.specs.Steps.{count, Square, Whole, Nears, Mended};
 
 // hi * 2^54 + lo
 struct Wide {
@@ -29,8 +29,10 @@ fn number(bits: u64) -> f64
 }
 
 // A number near the root of d * 2^(52 + p). x is that number over 2^104, from 1 to 4, and m is x or
-// x / 2, from 1 to 2. A polynomial gives y, 1 / √x to 21 digits. t is the root's upper half, so that
-// x - t * t is exact, and one more step mends the lower half.
+// x / 2, from 1 to 2. The polynomial a + b * m^4, of degree 7, is the one through 1 / √m at the eight
+// Chebyshev nodes of [1, 2], 1.5 + 0.5 cos((2k + 1)π/16); off by at most 3.44e-7 of 1 / √m, at m = 1
+// (measured). c is 1 or 1 / √2, so that y is 1 / √x to 21 binary digits. t is the root's upper half, so
+// that x - t * t is exact, and one more step gives the lower half.
 fn guess(d: u64, p: u64) -> u64
     requires { ⌜ 2 ^ 52 ≤ d ⌝ ∗ ⌜ d < 2 ^ 53 ⌝ ∗ ⌜ p < 2 ⌝ }
     ensures { λ r. ⌜ 2 ^ 52 ≤ r ⌝ ∗ ⌜ r ≤ 2 ^ 53 ⌝ }
@@ -70,11 +72,11 @@ fn square(q: u64) -> Wide
     }
 }
 
-// q, if it is the whole number nearest to the root of hi * 2^54 + lo, and otherwise the next number
-// from q toward that. `have` less `want` is the number less q * q.
-fn aim(hi: u64, lo: u64, q: u64) -> Next
+// A guess mended by one: q, if it is the whole number nearest to the root of hi * 2^54 + lo, and
+// otherwise the next number from q toward that. `have` less `want` is the number less q * q.
+fn mend(hi: u64, lo: u64, q: u64) -> Next
     requires { ⌜ 2 ^ 50 ≤ hi ⌝ ∗ ⌜ hi < 2 ^ 52 ⌝ ∗ ⌜ lo < 2 ^ 54 ⌝ ∗ ⌜ 1 ≤ q ⌝ ∗ ⌜ q ≤ 2 ^ 53 ⌝ }
-    ensures { λ r. ⌜ Aimed (hi * 2 ^ 54 + lo) q (r .q) (r .done) ⌝ }
+    ensures { λ r. ⌜ Mended (hi * 2 ^ 54 + lo) q (r .q) (r .done) ⌝ }
 {
     let s = square(q);
     if hi > s.hi + 4 {
@@ -145,7 +147,7 @@ fn rounded_root(hi: u64, lo: u64) -> u64
     ensures { λ r. ⌜ Nears (hi * 2 ^ 54 + lo) r ⌝ }
 {
     let q = whole_root(hi, lo);
-    let n = aim(hi, lo, q);
+    let n = mend(hi, lo, q);
     if n.done {
         return q;
     }
@@ -161,7 +163,7 @@ fn nearest_root(hi: u64, lo: u64, first: u64) -> u64
     let mut q = first;
     let mut left = 4u32;
     while left > 0 {
-        let n = aim(hi, lo, q);
+        let n = mend(hi, lo, q);
         if n.done {
             return q;
         }

@@ -17,7 +17,8 @@ pub(crate) fn has_next(n: u64, limit: u64) -> bool
 }
 
 // Whether there is a first cycle with a step in it.
-pub fn is_first_cycle(config: SimulatedAnnealingConfig) -> bool
+// global.rs: `for cycle in 0..`, `for _step in 0..`
+pub(crate) fn is_first_cycle(config: SimulatedAnnealingConfig) -> bool
     ensures { λ r. ⌜ ((a : Annealer) → a .config ≡ config → r ≡ isCycle a 0) ⌝ }
 {
     if config.max_cooling_cycles == 0 {

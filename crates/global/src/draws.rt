@@ -45,7 +45,12 @@ pub(crate) fn random_params(generator: u64, counts: &[u64; 57], numbers: &[f64])
 }
 
 // Each param moved by up to a twentieth of its range either way, and clamped; what stands after them is kept.
-pub fn trial_params(generator: u64, counts: &[u64; 57], numbers: &[f64], params: [f64; 8]) -> Drawn
+pub(crate) fn trial_params(
+    generator: u64,
+    counts: &[u64; 57],
+    numbers: &[f64],
+    params: [f64; 8],
+) -> Drawn
     requires { ⌜ variableCountFrom (now counts) ≤ 8 ⌝ ∗ ⌜ 195 ≤ length (now numbers) ⌝ }
     ensures { λ r.
         ⌜ TriedBy (variablesFrom (now (counts .entry)) (now (numbers .entry))) params generator (r .params)

@@ -18,7 +18,8 @@ pub(crate) struct WalkHead {
 }
 
 // The walk before the first step, from the surfaces as they are.
-pub fn started(
+// global.rs: `optimize` up to its loops
+pub(crate) fn started(
     config: SimulatedAnnealingConfig,
     merit: f64,
     counts: &[u64; 57],
@@ -86,7 +87,8 @@ fn accepted(
 }
 
 // Metropolis acceptance: a draw only when the merit rose.
-pub fn judged(
+// global.rs: `accept`
+pub(crate) fn judged(
     w: WalkHead,
     merit: f64,
     counts: &[u64; 57],

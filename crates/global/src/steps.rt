@@ -16,7 +16,8 @@ use held::BestHead;
 use held::RowHead;
 
 // Step k of cycle c, with its draws made.
-pub fn at_step(
+// global.rs: `trial_params`
+pub(crate) fn at_step(
     w: WalkHead,
     initial_merit: f64,
     c: u64,
@@ -66,7 +67,8 @@ pub fn at_step(
 }
 
 // The polish begins, from the best surfaces.
-pub fn at_polish(
+// global.rs: `local_optimizer_polish`
+pub(crate) fn at_polish(
     initial_merit: f64,
     surfaces: &mut [f64; 64],
     jacobian: &mut [f64; 96],

@@ -14,7 +14,7 @@ use lib.Seq.{sets, length-sets, getD-set-same, getD-set-other, drop-set-lt, drop
 use Rattle.lists.specs.Tab.{tab, tab-same, length-tab}
 use Rattle.lists.specs.Parts.{getD-sets-in, getD-sets-out}
 use Rattle.optics.specs.Types.{noSurface, flatSurface}
-use Rattle.optics.specs.Flat.{numbersOf, laidFlat}
+use Rattle.optics.specs.Flat.{numbersOf}
 use Rattle.optics.specs.FlatLaws.{four-stored}
 use Rattle.optics.specs.declared.types.OpticalSurface.{OpticalSurface}
 use Rattle.variables.specs.declared.types.VariableType.{VariableType}

@@ -4,14 +4,15 @@ use mathlib.Core.List.{List}
 use Prim.Native.Nat.{ℕ, _-_, _≤_, _<_, min}
 use native.Mathlib.Omega.{arith}
 use lib.Ieee.{Float, nan}
-use lib.ListN.{length, getD, take, drop, length-take, length-drop}
+use lib.ListN.{length, take, drop, length-take, length-drop}
 use lib.Seq.{getD-take, getD-drop}
 use Rattle.lists.specs.Tab.{length-tab, getD-tab, tab-same}
 use Rattle.variables.specs.Active.{noVariable, variableAt}
 use Rattle.merit.specs.OperandTable.{noOperand, operandAt}
 use Rattle.jobs.specs.Entries.{variableOf, operandOf, noVariableRecord, noOperandRecord}
 use Rattle.jobs.specs.Records.{variableRecordAt, operandRecordAt}
-use Rattle.held.specs.JobFrom.{indicesFrom, variableRecordFrom, operandRecordFrom, variableRecordsFrom, operandRecordsFrom, jobRecordFrom, variablesFrom, operandsFrom}
+use Rattle.held.specs.JobFrom.{indicesFrom, variableRecordFrom, operandRecordFrom, variableRecordsFrom, operandRecordsFrom, jobRecordFrom, variablesFrom}
+use Rattle.held.specs.JobFrom.{operandsFrom}
 use Rattle.held.specs.Standing.{whole}
 
 module _ (counts : List ℕ) (numbers : List Float) where

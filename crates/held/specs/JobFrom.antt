@@ -15,9 +15,12 @@ use Rattle.jobs.specs.declared.types.OperandRecord.{OperandRecord}
 use Rattle.jobs.specs.declared.types.SettingsRecord.{SettingsRecord}
 use Rattle.jobs.specs.declared.types.VariableRecord.{VariableRecord}
 use Rattle.jobs.specs.Records.{jobOf}
-use Rattle.held.specs.Places.{surfaceCountAt, slotCountAt, variableCountAt, operandCountAt, maxIterationsAt, numTrialsAt, stepsPerTemperatureAt, maxCoolingCyclesAt, seedAt}
-use Rattle.held.specs.Places.{variableKindAt, variableSurfaceAt, enabledAt, minValueAt, maxValueAt, stepSizeAt, operandKindAt, slotOrSurfaceAt, limitAt, targetAt, weightAt}
-use Rattle.held.specs.Places.{indexAt, pupilAt, initialDampingAt, relativeMeritToleranceAt, gradientToleranceAt, relativeStepAt, initialTemperatureAt, coolingRateAt}
+use Rattle.held.specs.Places.{surfaceCountAt, slotCountAt, variableCountAt, operandCountAt, maxIterationsAt, numTrialsAt, stepsPerTemperatureAt}
+use Rattle.held.specs.Places.{maxCoolingCyclesAt, seedAt}
+use Rattle.held.specs.Places.{variableKindAt, variableSurfaceAt, enabledAt, minValueAt, maxValueAt, stepSizeAt, operandKindAt, slotOrSurfaceAt, limitAt}
+use Rattle.held.specs.Places.{targetAt, weightAt}
+use Rattle.held.specs.Places.{indexAt, pupilAt, initialDampingAt, relativeMeritToleranceAt, gradientToleranceAt, relativeStepAt, initialTemperatureAt}
+use Rattle.held.specs.Places.{coolingRateAt}
 
 -- the sixteen surfaces that stand in flat numbers
 unfoldable pub standing : List Float → List OpticalSurface

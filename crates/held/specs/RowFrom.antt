@@ -13,7 +13,8 @@ use Rattle.held.specs.declared.types.Head.{Head}
 use Rattle.held.specs.declared.types.HeldRow.{HeldRow}
 use Rattle.held.specs.declared.types.RowHead.{RowHead}
 use Rattle.held.specs.JobFrom.{standing, jobRecordFrom}
-use Rattle.held.specs.Places.{kindAt, turnsAt, phaseAt, iterationAt, columnAt, attemptAt, convergedAt, generatorAt, trialAt, cycleAt, stepAt, bestIterationsAt, bestConvergedAt}
+use Rattle.held.specs.Places.{kindAt, turnsAt, phaseAt, iterationAt, columnAt, attemptAt, convergedAt, generatorAt, trialAt, cycleAt, stepAt}
+use Rattle.held.specs.Places.{bestIterationsAt, bestConvergedAt}
 use Rattle.held.specs.Places.{initialMeritAt, dampingAt, temperatureAt, currentMeritAt, totalMeritAt, bestInitialMeritAt, bestFinalMeritAt}
 
 -- ---- the numbers that go by value

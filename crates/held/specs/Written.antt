@@ -7,7 +7,6 @@ use Rattle.lists.specs.Tab.{tab}
 use Rattle.optics.specs.Flat.{laidFlat}
 use Rattle.jobs.specs.declared.types.JobRecord.{JobRecord}
 use Rattle.jobs.specs.declared.types.OperandRecord.{OperandRecord}
-use Rattle.jobs.specs.declared.types.SettingsRecord.{SettingsRecord}
 use Rattle.jobs.specs.declared.types.VariableRecord.{VariableRecord}
 use Rattle.jobs.specs.Records.{variableRecordAt, operandRecordAt}
 use Rattle.runs.specs.declared.types.DampedState.{DampedState}

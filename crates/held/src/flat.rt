@@ -1,8 +1,7 @@
 // Sixteen surfaces as flat numbers, read and written whole.
 ghost use mathlib.Core.Path.{_≡_};
-ghost use mathlib.Core.List.{_++_};
 ghost use Prim.Native.Nat.{_*_, _≤_, _<_};
-ghost use lib.ListN.{length, drop, set};
+ghost use lib.ListN.{length, set};
 ghost use Rattle.optics.specs.Flat.{laidFlat};
 ghost use Rattle.held.specs.JobFrom.{standing};
 ghost use Rattle.held.specs.Standing.{Behind};

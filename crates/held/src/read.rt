@@ -2,7 +2,8 @@
 ghost use mathlib.Core.Path.{_≡_};
 ghost use Prim.Native.Nat.{_≤_, _<_};
 ghost use lib.ListN.{length};
-ghost use Rattle.held.specs.JobFrom.{indicesFrom, variableRecordFrom, operandRecordFrom, settingsFrom, variableRecordsFrom, operandRecordsFrom, jobRecordFrom};
+ghost use Rattle.held.specs.JobFrom.{indicesFrom, variableRecordFrom, operandRecordFrom, settingsFrom, variableRecordsFrom, operandRecordsFrom};
+ghost use Rattle.held.specs.JobFrom.{jobRecordFrom};
 use crate::entries;
 use crate::flat::stand;
 use crate::places;

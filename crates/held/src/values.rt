@@ -1,14 +1,11 @@
 // The values of a held job's enabled variables: read off surfaces, clamped, applied.
 ghost use mathlib.Core.Path.{_≡_};
-ghost use mathlib.Core.List.{_++_};
-ghost use Prim.Native.Nat.{_*_, _≤_};
-ghost use lib.ListN.{length, drop};
-ghost use Rattle.optics.specs.Flat.{laidFlat};
+ghost use Prim.Native.Nat.{_≤_};
+ghost use lib.ListN.{length};
 ghost use Rattle.variables.specs.Kinds.{valueOf, applyClamp, put};
 ghost use Rattle.variables.specs.Values.{extracted, clampedValues, applied};
-ghost use Rattle.held.specs.JobFrom.{standing, surfaceCountFrom, variableCountFrom, variablesFrom};
+ghost use Rattle.held.specs.JobFrom.{standing, variableCountFrom, variablesFrom};
 ghost use Rattle.held.specs.Standing.{Behind};
-use crate::entries::surface_count;
 use crate::entries::variable_at;
 use crate::entries::variable_count;
 use crate::flat::copy;

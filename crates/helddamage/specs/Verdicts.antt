@@ -14,14 +14,15 @@ use Rattle.variables.specs.Active.{numActive}
 use Rattle.variables.specs.Taken.{variablesTaken}
 use Rattle.merit.specs.Check.{operandsTaken}
 use Rattle.jobs.specs.declared.types.SettingsRecord.{SettingsRecord}
-use Rattle.jobs.specs.Checks.{settingsTaken, countsTaken, jobTaken, recordTaken}
+use Rattle.jobs.specs.Checks.{settingsTaken, countsTaken, recordTaken}
 use Rattle.jobs.specs.declared.types.Method.{Method}
 use Rattle.jobs.specs.declared.types.Method.the-variants.{Damped, MultiStart, Annealing}
 use Rattle.jobs.specs.Records.{dlsConfig, multiStartConfig, annealingConfig, method, knownVariables, knownOperands}
 use Rattle.runs.specs.Rows.{isFinished, finishedBy, bound}
 use Rattle.runs.specs.Damage.{isKind, stateSound, jobSound, turnsSound, damaged}
 use Rattle.kinds.specs.Limits.{CountsWithin}
-use Rattle.held.specs.JobFrom.{surfaceCountFrom, slotCountFrom, operandCountFrom, settingsFrom, jobRecordFrom, heldJob, prescriptionFrom, variablesFrom, operandsFrom}
+use Rattle.held.specs.JobFrom.{surfaceCountFrom, slotCountFrom, operandCountFrom, settingsFrom, jobRecordFrom, heldJob, prescriptionFrom, variablesFrom}
+use Rattle.held.specs.JobFrom.{operandsFrom}
 use Rattle.held.specs.RowFrom.{kindFrom, turnsFrom, rowFrom}
 use Rattle.helddamage.specs.Others.{Others, heldWith, stateWith}
 

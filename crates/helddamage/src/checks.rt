@@ -2,7 +2,7 @@
 ghost use mathlib.Core.Path.{_≡_};
 ghost use mathlib.Core.Bool.{true, _&&_};
 ghost use mathlib.Core.List.{List};
-ghost use Prim.Native.Nat.{ℕ, _*_, _≤_};
+ghost use Prim.Native.Nat.{ℕ, _≤_};
 ghost use lib.Ieee.{Float};
 ghost use lib.ListN.{length};
 ghost use Rattle.optics.specs.Check.{surfacesTaken, lensTaken};
@@ -11,7 +11,8 @@ ghost use Rattle.variables.specs.Taken.{variablesTaken};
 ghost use Rattle.merit.specs.Check.{operandsTaken};
 ghost use Rattle.jobs.specs.Checks.{multiStartTaken, settingsTaken, countsTaken, recordTaken};
 ghost use Rattle.jobs.specs.Records.{multiStartConfig, method, knownVariables, knownOperands};
-ghost use Rattle.held.specs.JobFrom.{standing, surfaceCountFrom, slotCountFrom, variableCountFrom, operandCountFrom, settingsFrom, jobRecordFrom, heldJob, prescriptionFrom, variablesFrom, operandsFrom};
+ghost use Rattle.held.specs.JobFrom.{standing, surfaceCountFrom, slotCountFrom, variableCountFrom, operandCountFrom, settingsFrom, jobRecordFrom, heldJob};
+ghost use Rattle.held.specs.JobFrom.{prescriptionFrom, variablesFrom, operandsFrom};
 
 pub(crate) fn counts_taken(counts: &[u64; 57]) -> bool
     ensures { λ r. ⌜ ((numbers : List Float) (kind : ℕ) → r ≡ countsTaken (heldJob (now (counts .entry)) numbers kind)) ⌝ }
@@ -121,8 +122,10 @@ fn settings_taken(kind: u64, counts: &[u64; 57], numbers: &[f64]) -> bool
 }
 
 // Whether the job would be admitted to an empty place and has no number that is no kind; its counts are taken, and p variables enabled.
-pub fn job_taken(kind: u64, counts: &[u64; 57], numbers: &[f64], p: usize) -> bool
-    requires { ⌜ (countsTaken (heldJob (now counts) (now numbers) kind) ≡ true) × (p ≡ numActive (variablesFrom (now counts) (now numbers))) × (195 ≤ length (now numbers)) ⌝ }
+pub(crate) fn job_taken(kind: u64, counts: &[u64; 57], numbers: &[f64], p: usize) -> bool
+    requires { ⌜ (countsTaken (heldJob (now counts) (now numbers) kind) ≡ true)
+        × (p ≡ numActive (variablesFrom (now counts) (now numbers)))
+        × (195 ≤ length (now numbers)) ⌝ }
     ensures { λ r. ⌜ r ≡ recordTaken kind (jobRecordFrom (now (counts .entry)) (now (numbers .entry))) ⌝ }
 {
     if !lens_taken(counts, numbers) {

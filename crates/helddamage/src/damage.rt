@@ -1,7 +1,7 @@
 // Whether a held row is damaged.
 ghost use mathlib.Core.Path.{_≡_};
 ghost use mathlib.Core.List.{List};
-ghost use Prim.Native.Nat.{ℕ, _≤_};
+ghost use Prim.Native.Nat.{_≤_};
 ghost use lib.Ieee.{Float};
 ghost use lib.ListN.{length};
 ghost use Rattle.jobs.specs.declared.types.SettingsRecord.{SettingsRecord};

@@ -3,14 +3,12 @@ use Prim.Native.Nat.{ℕ, _-_}
 use mathlib.Core.Bool.{Bool, not, _&&_}
 use mathlib.Core.List.{List, [], _∷_, _++_}
 use lib.Dec.{leb}
-use lib.Ieee.{Float}
 use lib.ListN.{getD, replicate}
 use Rattle.lists.specs.All.{allBelow}
 use Rattle.lists.specs.Refusals.{Refusal, refusal, firstRefusal}
 use Rattle.lists.specs.Tab.{tab}
 use Rattle.optics.specs.Types.{surfaceAt, slotIndex}
 use Rattle.optics.specs.declared.types.OpticalPrescription.{OpticalPrescription}
-use Rattle.optics.specs.declared.types.OpticalSurface.{OpticalSurface}
 use Rattle.merit.specs.Calls.{unlessRefused, traceRefusals}
 use Rattle.intervals.specs.Interval.{endsFinite, crossed, noInterval, zeroInterval}
 use Rattle.intervals.specs.Limits.{trackLimits, heightLimits, slopeLimits, surfaceFinite}

@@ -17,9 +17,11 @@ use Rattle.optics.specs.declared.types.ArrivingRay.{ArrivingRay}
 use Rattle.optics.specs.declared.types.OpticalSurface.{OpticalSurface}
 use Rattle.merit.specs.Operands.{track}
 use Rattle.intervals.specs.Interval.{Between, exactly, times, plus, minus, over, endsFinite}
-use Rattle.intervals.specs.IntervalLaws.{Bounds, bounds, exactly-holds, exactly-bounds, times-holds, plus-holds, minus-holds, over-holds, times-exactly, factor-finite}
+use Rattle.intervals.specs.IntervalLaws.{Bounds, bounds, exactly-holds, exactly-bounds, times-holds, plus-holds, minus-holds, over-holds, times-exactly}
+use Rattle.intervals.specs.IntervalLaws.{factor-finite}
 use Rattle.intervals.specs.Limits as Limits
-use Rattle.intervals.specs.Limits.{carried, bent, turned, transfer, heightBehind, onward, start, trackLimits, arriving, heightLimits, slopeLimits, refractionFinite, transferFinite, arrivalFinite, surfaceFinite}
+use Rattle.intervals.specs.Limits.{carried, bent, turned, transfer, heightBehind, onward, start, trackLimits, arriving, heightLimits, slopeLimits}
+use Rattle.intervals.specs.Limits.{refractionFinite, transferFinite, arrivalFinite, surfaceFinite}
 use Rattle.intervals.specs.declared.types.ArrivingLimits.{ArrivingLimits}
 use Rattle.intervals.specs.declared.types.Interval.{Interval}
 

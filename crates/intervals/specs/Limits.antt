@@ -3,9 +3,9 @@
 use mathlib.Core.Bool.{Bool, _&&_}
 use Prim.Native.Nat.{ℕ, zero, suc}
 use lib.Ieee.{Float, binary64, mul}
-use Rattle.floats.specs.Constants.{zero64, one64}
+use Rattle.floats.specs.Constants.{zero64, half64, one64}
 use Rattle.optics.specs.Curvature.{curvature}
-use Rattle.optics.specs.Trace.{half, power}
+use Rattle.optics.specs.Trace.{power}
 use Rattle.optics.specs.declared.types.OpticalSurface.{OpticalSurface}
 use Rattle.intervals.specs.Interval.{exactly, times, plus, minus, over, endsFinite}
 use Rattle.intervals.specs.declared.types.ArrivingLimits.{ArrivingLimits}
@@ -49,7 +49,7 @@ passedAs t radius n′ a = record { ray = onward t radius n′ a; refracted = re
 
 -- "The trace starts at height half the pupil diameter, slope 0, index 1"
 abbrev pub start : Float → ArrivingLimits
-start pupil = record { y = exactly (mul binary64 pupil half); u = exactly zero64; n = one64 }
+start pupil = record { y = exactly (mul binary64 pupil half64); u = exactly zero64; n = one64 }
 
 -- ---- the surfaces in turn: `thickness` gives the limits behind each
 -- the thicknesses added in rising order, from +0.0: least and greatest apart

@@ -5,10 +5,9 @@ use mathlib.Core.List.{List}
 use Prim.Native.Nat.{ℕ, zero, suc, _-_, _<_}
 use native.Mathlib.Omega.{arith}
 use native.Mathlib.Nat.{le-refl}
-use lib.Dec.{T}
 use lib.Ieee.{Float, binary64, add}
 use lib.Ieee.Fits.{and-r}
-use lib.ListN.{getD, replicate, List·getD-append}
+use lib.ListN.{replicate, List·getD-append}
 use Rattle.floatlaws.specs.Monotone.{Positive}
 use Rattle.lists.specs.Tab.{tab, length-tab, getD-tab}
 use Rattle.optics.specs.Check.{ten}
@@ -21,13 +20,13 @@ use Rattle.optics.specs.declared.types.OpticalSurface.{OpticalSurface}
 use Rattle.optics.specs.declared.types.ParaxialRay.{ParaxialRay}
 use Rattle.merit.specs.Calls.{unlessRefused, lensRay}
 use Rattle.merit.specs.Operands.{track}
-use Rattle.intervals.specs.Interval.{Between, exactly, endsFinite, crossed, noInterval, zeroInterval}
+use Rattle.intervals.specs.Interval.{Between, endsFinite, crossed, noInterval, zeroInterval}
 use Rattle.intervals.specs.IntervalLaws.{Bounds, bounds, crossed-empty, uncrossed-holds}
 use Rattle.intervals.specs.Calls.{thicknessAt, sixteen, heightAt, slopeAt, lensLimits, limitsNumber, limitsAs}
 use Rattle.intervals.specs.CallLaws.{stays, Limitable, limitable, limits-1, limits-3, limits-5, limits-19, limits-0}
 use Rattle.intervals.specs.Contained.{positive-above, height-between, slope-between, track-between, nominal-height, nominal-slope, nominal-track}
 use Rattle.intervals.specs.Limits.{trackLimits}
-use Rattle.intervals.specs.Within.{thicknessOf, Inside, Nominal, trackOf, entry, Request13}
+use Rattle.intervals.specs.Within.{thicknessOf, Inside, trackOf, entry, Request13}
 use Rattle.intervals.specs.declared.types.Interval.{Interval}
 use Rattle.intervals.specs.declared.types.ThicknessLimits.{ThicknessLimits}
 use Rattle.intervals.specs.declared.types.TraceLimits.{TraceLimits}

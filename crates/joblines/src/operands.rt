@@ -1,6 +1,5 @@
 // Operands.
 ghost use mathlib.Core.Path.{_≡_};
-ghost use Rattle.jobs.specs.Entries.{operandType};
 ghost use Rattle.joblines.specs.Operands.{operandFrom, operandsFrom};
 use merit::MeritOperand;
 use merit::OperandType;

@@ -1,6 +1,5 @@
 // Variables.
 ghost use mathlib.Core.Path.{_≡_};
-ghost use Rattle.jobs.specs.Entries.{variableType};
 ghost use Rattle.joblines.specs.Sets.{variableFrom, variablesFrom};
 use text::cursor;
 use text::cursor::Cursor;

@@ -1,12 +1,11 @@
 -- What stands in unused entries changes no answer: the job as kept is refused as the job as asked for. Assumes nothing.
 use mathlib.Core.Path.{_≡_, refl, sym, ap, _∙_}
-use mathlib.Core.Bool.{Bool, true, false, not, and-eq-true-iff}
+use mathlib.Core.Bool.{Bool, true, false, not}
 use mathlib.Core.List.{[], _∷_, _++_}
 use Prim.Native.Nat.{ℕ, zero, suc, _≤_, _<_}
 use native.Mathlib.Nat.{le-refl}
 use native.Mathlib.Omega.{arith}
 use lib.Dec.{eqb}
-use lib.Ieee.Bits.{is-true}
 use lib.ListN.{length}
 use borrow.Author.Tests.{lt-ltb}
 use Rattle.lists.specs.All.{all-same}
@@ -24,10 +23,7 @@ use Rattle.jobs.specs.declared.types.JobRequest.{JobRequest}
 use Rattle.jobs.specs.Filled.{filled}
 use Rattle.jobs.specs.Kept.{zeroVariable, zeroOperand, keptVariables, keptOperands, keptJob, jobFrom}
 use Rattle.jobs.specs.Counts.{Counts, counts}
-use Rattle.jobs.specs.Checks.{countsTaken, countsWrong, settingsRefused, noOperand, jobRefusals, admissionRefusals, jobTaken, recordTaken}
-use Rattle.jobs.specs.Records.{kindOf, recordOf, jobOf, knownKinds}
-use Rattle.jobs.specs.RecordLaws.{request-back, record-known}
-use Rattle.jobs.specs.Passed.{passed}
+use Rattle.jobs.specs.Checks.{countsTaken, countsWrong, settingsRefused, noOperand, jobRefusals, admissionRefusals, jobTaken}
 
 -- ---- variables and operands in use are those asked for
 variable-kept : (v : VariableSet) (i : ℕ) → v .«variable_count» ≤ 8 → i < v .«variable_count» → variableAt (keptVariables v) i ≡ variableAt v i
@@ -79,10 +75,3 @@ admitted-taken r e = rw (kept-refused (filled r), e)
 -- Requests that make one job are answered alike.
 pub one-answer : (a b : JobRequest) → jobFrom a ≡ jobFrom b → firstRefusal (admissionRefusals a) ≡ firstRefusal (admissionRefusals b)
 one-answer a b e = sym (kept-refused (filled a)) ∙ ap (λ (j : Job). firstRefusal (jobRefusals j)) e ∙ kept-refused (filled b)
-
--- Its row's record is taken too.
-pub admitted-record : (r : JobRequest) → firstRefusal (admissionRefusals r) ≡ 0 → recordTaken (kindOf (jobFrom r)) (recordOf (jobFrom r)) ≡ true
-admitted-record r e =
-    let n = passed (filled r) (rw e) .counted in
-    and-eq-true-iff (jobTaken (jobOf (kindOf (jobFrom r)) (recordOf (jobFrom r)))) (knownKinds (recordOf (jobFrom r))) .1
-    (ap jobTaken (request-back r) ∙ admitted-taken r e, is-true _ (record-known (jobFrom r) (n .variables) (n .operands)))

@@ -10,7 +10,8 @@ use Rattle.variables.specs.declared.types.VariableType.the-variants.{Curvature,
 use Rattle.variables.specs.Kinds.{surfaceIndex}
 use Rattle.merit.specs.declared.types.MeritOperand.{MeritOperand}
 use Rattle.merit.specs.declared.types.OperandType.{OperandType}
-use Rattle.merit.specs.declared.types.OperandType.the-variants.{EffectiveFocalLength, WorkingFNumber, TotalTrack, BackFocalLength, ParaxialMagnification, MinCenterThickness, MaxCenterThickness, MinEdgeThickness}
+use Rattle.merit.specs.declared.types.OperandType.the-variants.{EffectiveFocalLength, WorkingFNumber, TotalTrack, BackFocalLength, ParaxialMagnification}
+use Rattle.merit.specs.declared.types.OperandType.the-variants.{MinCenterThickness, MaxCenterThickness, MinEdgeThickness}
 use Rattle.jobs.specs.declared.types.OperandRecord.{OperandRecord}
 use Rattle.jobs.specs.declared.types.VariableRecord.{VariableRecord}
 

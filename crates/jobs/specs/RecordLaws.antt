@@ -7,10 +7,8 @@ use native.Mathlib.Omega.{arith}
 use lib.Dec.{T, ltb, eqb}
 use lib.Ieee.Fits.{and-i}
 use lib.ListN.{length, getD}
-use borrow.Author.Tests.{le-ltb}
 use Rattle.lists.specs.Tab.{tab, length-tab, getD-tab, tab-same, tab-self}
 use Rattle.lists.specs.All.{allBelow, all-from}
-use Rattle.lists.specs.Kept.{below, kept-unused}
 use Rattle.variables.specs.declared.types.VariableDef.{VariableDef}
 use Rattle.variables.specs.declared.types.VariableType.{VariableType}
 use Rattle.variables.specs.declared.types.VariableType.the-variants.{Curvature, Thickness, Conic, SemiDiameter}
@@ -18,15 +16,17 @@ use Rattle.variables.specs.Active.{noVariable, variableAt}
 use Rattle.variables.specs.Kinds.{surfaceIndex}
 use Rattle.merit.specs.declared.types.MeritOperand.{MeritOperand}
 use Rattle.merit.specs.declared.types.OperandType.{OperandType}
-use Rattle.merit.specs.declared.types.OperandType.the-variants.{EffectiveFocalLength, WorkingFNumber, TotalTrack, BackFocalLength, ParaxialMagnification, MinCenterThickness, MaxCenterThickness, MinEdgeThickness}
+use Rattle.merit.specs.declared.types.OperandType.the-variants.{EffectiveFocalLength, WorkingFNumber, TotalTrack, BackFocalLength, ParaxialMagnification}
+use Rattle.merit.specs.declared.types.OperandType.the-variants.{MinCenterThickness, MaxCenterThickness, MinEdgeThickness}
 use Rattle.merit.specs.OperandTable.{noOperand, operandAt}
 use Rattle.jobs.specs.declared.types.Job.{Job}
 use Rattle.jobs.specs.declared.types.JobRequest.{JobRequest}
 use Rattle.jobs.specs.declared.types.Method.{Method}
 use Rattle.jobs.specs.declared.types.Method.the-variants.{Damped, MultiStart, Annealing}
 use Rattle.jobs.specs.Filled.{filled}
-use Rattle.jobs.specs.Kept.{zeroVariable, zeroOperand, keptJob, jobFrom}
-use Rattle.jobs.specs.Entries.{variableKind, variableType, oneIf, variableRecord, variableOf, operandKind, slotOrSurface, limitOf, slotType, surfaceType, operandType, operandRecord, operandOf, noVariableRecord, noOperandRecord, variableKnown, operandKnown, zeroVariableRecord, zeroOperandRecord}
+use Rattle.jobs.specs.Kept.{keptJob, jobFrom}
+use Rattle.jobs.specs.Entries.{variableKind, variableType, oneIf, variableRecord, variableOf, operandKind, slotOrSurface, limitOf, slotType, surfaceType}
+use Rattle.jobs.specs.Entries.{operandType, operandRecord, operandOf, noVariableRecord, noOperandRecord, variableKnown, operandKnown}
 use Rattle.jobs.specs.Records.{methodKind, settingsRecord, method, kindOf, recordOf, variableRecordAt, operandRecordAt, jobOf, knownKinds}
 
 -- ---- one variable, one operand, the settings
@@ -142,22 +142,3 @@ module _ (j : Job) where
       (allBelow (λ (i : ℕ). operandKnown (operandRecordAt (recordOf j) i)) (j .«merit_function» .«operand_count»))
       (all-from _ _ (λ i h. rw (variable-at i (omega arith)) (variable-known (variableAt (j .variables) i))))
       (all-from _ _ (λ i h. rw (operand-at i (omega arith)) (operand-known (operandAt (j .«merit_function») i .«operand_type»))))
-
--- ---- "unused entries .. are zero", in the record too
-zero-variable : variableRecord zeroVariable ≡ zeroVariableRecord
-zero-variable = refl
-
-zero-operand : operandRecord zeroOperand ≡ zeroOperandRecord
-zero-operand = refl
-
-pub unused-variable : (j : Job) (i : ℕ) → j .variables .«variable_count» ≤ i → i < 8 → variableRecordAt (recordOf (keptJob j)) i ≡ zeroVariableRecord
-unused-variable j i h l =
-    variable-at (keptJob j) i l
-    ∙ ap variableRecord (kept-unused (below (j .variables .«variable_count»)) (variableAt (j .variables)) zeroVariable 8 i noVariable l (le-ltb i _ h))
-    ∙ zero-variable
-
-pub unused-operand : (j : Job) (i : ℕ) → j .«merit_function» .«operand_count» ≤ i → i < 12 → operandRecordAt (recordOf (keptJob j)) i ≡ zeroOperandRecord
-unused-operand j i h l =
-    operand-at (keptJob j) i l
-    ∙ ap operandRecord (kept-unused (below (j .«merit_function» .«operand_count»)) (operandAt (j .«merit_function»)) zeroOperand 12 i noOperand l (le-ltb i _ h))
-    ∙ zero-operand

@@ -10,7 +10,7 @@ use lib.ListN.{getD}
 use borrow.Author.Tests.{lt-ltb, ltb-true}
 use Rattle.lists.specs.Kept.{kept, below, kept-same, kept-agrees}
 use Rattle.optics.specs.Types.{surfaceAt, slotIndex}
-use Rattle.optics.specs.KeptLaws.{where-it-stands, index-used}
+use Rattle.optics.specs.KeptLaws.{index-used}
 use Rattle.optics.specs.Kept.{indexUsed, keptSurfaces, keptIndices, keptPrescription}
 use Rattle.optics.specs.declared.types.OpticalPrescription.{OpticalPrescription}
 use Rattle.variables.specs.Active.{variableAt}
@@ -49,7 +49,8 @@ module _ (a b : OpticalPrescription) where
       at : (k : ℕ) → indexUsed (a .«surface_count») (a .«slot_count») k ≡ true → getD (a .indices) k nan ≡ getD (b .indices) k nan
       at k u =
           let e : slotIndex (a .indices) (k % 4) (k / 4) ≡ slotIndex (b .indices) (k % 4) (k / 4) = s .index (k / 4) (k % 4) (ltb-true _ _ (and-eq-true-iff (ltb (k / 4) _) (ltb (k % 4) _) .0 u .0)) (ltb-true _ _ (and-eq-true-iff (ltb (k / 4) _) (ltb (k % 4) _) .0 u .1)) in
-          rw (where-it-stands k) at e
+          let same : (k / 4) * 4 + k % 4 ≡ k = omega arith in
+          rw same at e
 
       indices : keptIndices (a .«surface_count») (a .«slot_count») (a .indices) ≡ keptIndices (b .«surface_count») (b .«slot_count») (b .indices)
       indices =

@@ -2,7 +2,6 @@
 use mathlib.Core.Path.{_≡_}
 use mathlib.Core.Logic.{_⊎_, _≢_}
 use Prim.Native.Nat.{ℕ, _≤_, _<_}
-use lib.Ieee.{Float}
 use Rattle.floats.specs.Constants.{zero64}
 use Rattle.optics.specs.Types.{surfaceAt, zeroSurface, slotIndex}
 use Rattle.jobs.specs.declared.types.JobRecord.{JobRecord}

@@ -16,7 +16,8 @@ use Rattle.variables.specs.Active.{noVariable}
 use Rattle.merit.specs.OperandTable.{noOperand, operandAt}
 use Rattle.merit.specs.declared.types.MeritOperand.{MeritOperand}
 use Rattle.merit.specs.declared.types.OperandType.{OperandType}
-use Rattle.merit.specs.declared.types.OperandType.the-variants.{EffectiveFocalLength, WorkingFNumber, TotalTrack, BackFocalLength, ParaxialMagnification, MinCenterThickness, MaxCenterThickness, MinEdgeThickness}
+use Rattle.merit.specs.declared.types.OperandType.the-variants.{EffectiveFocalLength, WorkingFNumber, TotalTrack, BackFocalLength, ParaxialMagnification}
+use Rattle.merit.specs.declared.types.OperandType.the-variants.{MinCenterThickness, MaxCenterThickness, MinEdgeThickness}
 use Rattle.jobs.specs.declared.types.Job.{Job}
 use Rattle.jobs.specs.declared.types.Method.{Method}
 use Rattle.jobs.specs.declared.types.Method.the-variants.{Damped, MultiStart, Annealing}

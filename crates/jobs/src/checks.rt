@@ -2,13 +2,10 @@
 ghost use mathlib.Core.Path.{_≡_};
 ghost use mathlib.Core.Bool.{_&&_};
 ghost use Rattle.lists.specs.Refusals.{firstRefusal};
-ghost use Rattle.jobs.specs.Checks.{fromZeroTo, dlsTaken, multiStartTaken, annealingTaken, settingsTaken, countsTaken, jobRefusals, admissionRefusals, jobTaken};
-ghost use Rattle.jobs.specs.Records.{knownKinds};
+ghost use Rattle.jobs.specs.Checks.{fromZeroTo, dlsTaken, multiStartTaken, annealingTaken, settingsTaken, countsTaken, jobRefusals, admissionRefusals};
 use crate::filled;
-use crate::jobrecords;
 use crate::types::DlsConfig;
 use crate::types::Job;
-use crate::types::JobRecord;
 use crate::types::JobRequest;
 use crate::types::Method;
 use crate::types::MultiStartConfig;
@@ -125,21 +122,4 @@ pub fn refusal_of(request: JobRequest) -> u32
     ensures { λ r. ⌜ r ≡ firstRefusal (admissionRefusals request) ⌝ }
 {
     job_refusal(filled::filled_job(request))
-}
-
-fn job_taken(job: Job) -> bool
-    ensures { λ r. ⌜ r ≡ jobTaken job ⌝ }
-{
-    job_refusal(job) == 0
-}
-
-// Whether a row's job is taken: `job`, which `held` reads as, would be admitted to an empty place, and `held` has no number that is no kind.
-pub fn read_taken(job: Job, held: JobRecord) -> bool
-    requires { ⌜ (job .variables .«variable_count» ≡ held .«variable_count») × (job .«merit_function» .«operand_count» ≡ held .«operand_count») ⌝ }
-    ensures { λ r. ⌜ r ≡ jobTaken job && knownKinds held ⌝ }
-{
-    if !job_taken(job) {
-        return false;
-    }
-    jobrecords::known_kinds(held)
 }

@@ -1,6 +1,8 @@
 // One variable and one operand in numbers alone, and read back.
 ghost use mathlib.Core.Path.{_≡_};
-ghost use Rattle.jobs.specs.Entries.{variableKind, variableType, oneIf, variableRecord, variableOf, operandKind, slotOrSurface, limitOf, slotType, surfaceType, operandType, operandRecord, operandOf, zeroVariableRecord, zeroOperandRecord, variableKnown, operandKnown};
+ghost use Rattle.jobs.specs.Entries.{variableKind, variableType, oneIf, variableRecord, variableOf, operandKind, slotOrSurface, limitOf, slotType};
+ghost use Rattle.jobs.specs.Entries.{surfaceType, operandType, operandRecord, operandOf, zeroVariableRecord, zeroOperandRecord, variableKnown};
+ghost use Rattle.jobs.specs.Entries.{operandKnown};
 use crate::types::OperandRecord;
 use crate::types::VariableRecord;
 use merit::MeritOperand;

@@ -1,7 +1,8 @@
 // A job in numbers alone, as a row holds it, and read back.
 ghost use mathlib.Core.Path.{_≡_};
 ghost use Prim.Native.Nat.{_≤_};
-ghost use Rattle.jobs.specs.Records.{variableRecords, operandRecords, variablesOf, operandsOf, dlsSettings, annealingSettings, settingsRecord, dlsConfig, multiStartConfig, annealingConfig, method, recordOf, jobOf, knownVariables, knownOperands, knownKinds};
+ghost use Rattle.jobs.specs.Records.{variableRecords, operandRecords, variablesOf, operandsOf, dlsSettings, annealingSettings, settingsRecord, dlsConfig};
+ghost use Rattle.jobs.specs.Records.{multiStartConfig, annealingConfig, method, recordOf, jobOf, knownVariables, knownOperands, knownKinds};
 use crate::entries;
 use crate::kept;
 use crate::types::DlsConfig;

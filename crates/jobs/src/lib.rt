@@ -9,7 +9,6 @@ mod types;
 
 pub use checks::annealing_taken;
 pub use checks::dls_taken;
-pub use checks::read_taken;
 pub use checks::refusal_of;
 pub use entries::OPERAND_KINDS;
 pub use entries::operand_type;

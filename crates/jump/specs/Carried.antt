@@ -17,7 +17,7 @@ use Rattle.jump.specs.Jump.{row, tableAt}
 use Rattle.jump.specs.Lanes.{both, parity, total, widened, images, doubled}
 use Rattle.jump.specs.LaneLaws.{Words, applied}
 use Rattle.jump.specs.Computed.{rule}
-use Rattle.jump.specs.Linear.{each, doubled-twice, step-linear, words, is-applied}
+use Rattle.jump.specs.Linear.{each, doubled-twice, step-linear, is-applied}
 use Rattle.jump.specs.Inverse.{first-table}
 
 both-l : (a b : Bool) → T (both a b) → T a

@@ -1,6 +1,5 @@
 -- Sums in lanes and xors agree: a row's total, lane by lane to its parity, is the row applied. Assumes nothing.
 use mathlib.Core.Path.{_≡_, refl, sym, ap, ap₂, _∙_, subst}
-use mathlib.Core.Logic.{_⊎_, inl, inr}
 use mathlib.Core.List.{List, [], _∷_}
 use Prim.Native.Nat.{ℕ, zero, suc, _+_, _*_, _/_, _%_, _^_, _≤_, _<_}
 use native.Mathlib.Nat.{pow-suc, le-trans, le-suc}
@@ -21,11 +20,6 @@ carry a b p q h x y = omega arith
 
 lane-add : (a b p q : ℕ) → p + q < 128 → a % 128 ≤ p → b % 128 ≤ q → (a + b) % 128 ≤ p + q
 lane-add a b p q h x y = omega arith
-
-small : (x : ℕ) → x < 2 → (x ≡ 0) ⊎ (x ≡ 1)
-small zero h = inl refl
-small (suc zero) h = inr refl
-small (suc (suc x)) h = absurd (omega arith)
 
 odd-sum : (a b : ℕ) → (a + b) % 2 ≡ differ (a % 2) (b % 2)
 odd-sum a b = go (a % 2) (b % 2) (omega arith) (omega arith) (omega arith)

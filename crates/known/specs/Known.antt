@@ -38,7 +38,8 @@ use Rattle.runs.specs.DampedRun.{iterations}
 use Rattle.runs.specs.JobRun.{runBy}
 use Rattle.bench.specs.Benches.{zeroRow, emptyBench}
 use Rattle.bench.specs.Calls.{admitNumber}
-use Rattle.known.specs.Samples.{Settings, limitZero, n3, n10, n12, n13, n56, sevenEighths, tenthOfLeast, least, pastFive, pastOne, firstAlone, kinds, atLeastThree, halfBall, edgeAtLeast, curvature}
+use Rattle.known.specs.Samples.{Settings, limitZero, n3, n10, n12, n13, n56, sevenEighths, tenthOfLeast, least, pastFive, pastOne, firstAlone, kinds}
+use Rattle.known.specs.Samples.{atLeastThree, halfBall, edgeAtLeast, curvature}
 
 -- `evaluate` takes the lens and the operands, and its answer has a property
 abbrev pub Evaluates : OpticalPrescription → MeritFunction → (MeritEvaluation → Type 0) → Type 0
@@ -63,7 +64,7 @@ pub record Known : Type 0 where
   -- "Focal length 64, back focus 56, f-number 8, track 16, magnification 0.875."
   pub values : (u : Unused) → Evaluates (lens u n64 n16) (kinds u) (λ e. e .values ≡ n64 ∷ n56 ∷ n8 ∷ n16 ∷ sevenEighths ∷ pastFive)
   -- "Focal length target 60, weight 4: residual 8, merit 64."
-  pub weighed : (u : Unused) → Evaluates (lens u n64 n16) (sixty u) (λ e. (e .residuals ≡ n8 ∷ pastOne) × (e .«total_merit» ≡ n64))
+  pub weighted : (u : Unused) → Evaluates (lens u n64 n16) (sixty u) (λ e. (e .residuals ≡ n8 ∷ pastOne) × (e .«total_merit» ≡ n64))
   -- "First surface flat too: 10,000, 10,000, 100; magnification 100,000, since infinity over infinity."
   pub flat : (u : Unused) → Evaluates (lens u (inf false) n16) (kinds u) (λ e. e .values ≡ tenThousand ∷ tenThousand ∷ hundred ∷ n16 ∷ penalty ∷ pastFive)
   -- "Only the first surface: magnification 0."
@@ -96,7 +97,7 @@ pub known : Known
 unfolding stepOf seeded stepTimes radiusOf lt magnitude finiteOf ofBits neg div tab allBelow Curvature.curvature arriving paraxialOf within aboveZeroUpTo surfaceTaken lensTaken finiteOr isFocalLength isMagnified track shortfall sagOf valueOf difference residual term total countedTotal kindTaken weightTaken operandTaken evaluateNumber sqrtOf le sub mul isNan enabledOf appliedTo applied runBy DampedRun.damped iterations bind afterMerits afterMerit isDone value variableTaken variablesTaken fromZeroTo dlsTaken multiStartTaken annealingTaken zeroRow admitNumber
 known = record {
   values = λ u. (refl, refl);
-  weighed = λ u. (refl, (refl, refl));
+  weighted = λ u. (refl, (refl, refl));
   flat = λ u. (refl, refl);
   alone = λ u. (refl, refl);
   first-draw = refl;

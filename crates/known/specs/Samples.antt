@@ -9,7 +9,8 @@ use Rattle.optics.specs.declared.types.OpticalSurface.{OpticalSurface}
 use Rattle.variables.specs.declared.types.VariableSet.{VariableSet}
 use Rattle.variables.specs.declared.types.VariableType.the-variants.{Curvature}
 use Rattle.merit.specs.declared.types.MeritFunction.{MeritFunction}
-use Rattle.merit.specs.declared.types.OperandType.the-variants.{EffectiveFocalLength, WorkingFNumber, TotalTrack, BackFocalLength, ParaxialMagnification, MinCenterThickness, MinEdgeThickness}
+use Rattle.merit.specs.declared.types.OperandType.the-variants.{EffectiveFocalLength, WorkingFNumber, TotalTrack, BackFocalLength, ParaxialMagnification}
+use Rattle.merit.specs.declared.types.OperandType.the-variants.{MinCenterThickness, MinEdgeThickness}
 use Rattle.jobs.specs.declared.types.DlsConfig.{DlsConfig}
 use Rattle.jobs.specs.Sample.{Unused, surface, operand, n1, n2, n8, n16, n64}
 

@@ -18,7 +18,8 @@ use Rattle.optics.specs.Types.{surfaceAt, flatSurface, slotIndex}
 use Rattle.optics.specs.declared.types.OpticalPrescription.{OpticalPrescription}
 use Rattle.optics.specs.declared.types.OpticalSurface.{OpticalSurface}
 use Rattle.optics.specs.declared.types.ParaxialRay.{ParaxialRay}
-use Rattle.merit.specs.Calls.{unlessRefused, evaluateNumber, lensEvaluation, zeroEvaluation, evaluatedAs, evaluatedOf, lensRay, lensTrace, sixteen, traceNumber, answerOf, nothingTraced, heightsOf, tracedHeights, traceAnswer, tracedRow, tracedRays}
+use Rattle.merit.specs.OperandTable.{zeroEvaluation}
+use Rattle.merit.specs.Calls.{unlessRefused, evaluateNumber, lensEvaluation, evaluatedAs, evaluatedOf, lensRay, lensTrace, sixteen, traceNumber, answerOf, nothingTraced, heightsOf, tracedHeights, traceAnswer, tracedRow, tracedRays}
 use Rattle.merit.specs.CallLaws.{Traceable, done-traceable}
 use Rattle.merit.specs.Evaluation.{evaluationOf}
 use Rattle.merit.specs.EvaluationLaws.{evaluation-same}

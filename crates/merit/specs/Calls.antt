@@ -1,6 +1,6 @@
 -- The two calls that stand alone: what refuses them and what they answer. Definitions only.
 use Prim.Native.Nat.{ℕ, zero, suc, _-_}
-use mathlib.Core.Bool.{Bool, true, false, not, cond, _&&_}
+use mathlib.Core.Bool.{true, false, not, cond, _&&_}
 use mathlib.Core.List.{List, [], _∷_, _++_}
 use lib.Dec.{leb, ltb, eqb}
 use lib.Ieee.{Float}
@@ -15,6 +15,7 @@ use Rattle.optics.specs.Types.{surfaceAt, slotIndex}
 use Rattle.optics.specs.declared.types.OpticalPrescription.{OpticalPrescription}
 use Rattle.optics.specs.declared.types.ParaxialRay.{ParaxialRay}
 use Rattle.merit.specs.Check.{operandsTaken}
+use Rattle.merit.specs.OperandTable.{zeroEvaluation}
 use Rattle.merit.specs.Evaluation.{evaluationOf}
 use Rattle.merit.specs.declared.types.Evaluated.{Evaluated}
 use Rattle.merit.specs.declared.types.MeritEvaluation.{MeritEvaluation}
@@ -48,9 +49,6 @@ module _ (p : OpticalPrescription) (f : MeritFunction) where
 -- what is lent, at exit
 abbrev pub evaluatedAs : (old : MeritEvaluation) → OpticalPrescription → MeritFunction → MeritEvaluation
 evaluatedAs old p f = unlessRefused (evaluateNumber p f) (lensEvaluation p f) old
-
-abbrev pub zeroEvaluation : MeritEvaluation
-zeroEvaluation = record { values = replicate 12 zero64; residuals = replicate 12 zero64; «total_merit» = zero64 }
 
 -- by value: where it is refused the evaluation is zero
 unfoldable pub evaluatedOf : OpticalPrescription → MeritFunction → Evaluated

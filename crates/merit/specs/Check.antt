@@ -11,7 +11,8 @@ use Rattle.merit.specs.OperandTable.{operandAt}
 use Rattle.merit.specs.declared.types.MeritFunction.{MeritFunction}
 use Rattle.merit.specs.declared.types.MeritOperand.{MeritOperand}
 use Rattle.merit.specs.declared.types.OperandType.{OperandType}
-use Rattle.merit.specs.declared.types.OperandType.the-variants.{EffectiveFocalLength, WorkingFNumber, TotalTrack, BackFocalLength, ParaxialMagnification, MinCenterThickness, MaxCenterThickness, MinEdgeThickness}
+use Rattle.merit.specs.declared.types.OperandType.the-variants.{EffectiveFocalLength, WorkingFNumber, TotalTrack, BackFocalLength, ParaxialMagnification}
+use Rattle.merit.specs.declared.types.OperandType.the-variants.{MinCenterThickness, MaxCenterThickness, MinEdgeThickness}
 
 -- its slot is one of those that there are, or its limit is within; a surface or successor that is absent is taken
 unfoldable pub kindTaken : (slots : ℕ) → OperandType → Bool

@@ -13,7 +13,8 @@ use Rattle.merit.specs.Operands.{slotNamed}
 use Rattle.merit.specs.Steps.{slotKnown, SlotsKnown}
 use Rattle.merit.specs.declared.types.MeritFunction.{MeritFunction}
 use Rattle.merit.specs.declared.types.OperandType.{OperandType}
-use Rattle.merit.specs.declared.types.OperandType.the-variants.{EffectiveFocalLength, WorkingFNumber, TotalTrack, BackFocalLength, ParaxialMagnification, MinCenterThickness, MaxCenterThickness, MinEdgeThickness}
+use Rattle.merit.specs.declared.types.OperandType.the-variants.{EffectiveFocalLength, WorkingFNumber, TotalTrack, BackFocalLength, ParaxialMagnification}
+use Rattle.merit.specs.declared.types.OperandType.the-variants.{MinCenterThickness, MaxCenterThickness, MinEdgeThickness}
 
 module _ (slots : ℕ) (f : MeritFunction) (taken : T (operandsTaken slots f)) (n : ℕ) (h : n < f .«operand_count») where
   -- an operand in use that is taken has a kind that is

@@ -2,17 +2,17 @@
 use mathlib.Core.Path.{_≡_, refl, ap, _∙_}
 use mathlib.Core.Bool.{Bool, true, false, cond}
 use mathlib.Core.List.{List, _++_}
-use Prim.Native.Nat.{ℕ, zero, suc, _+_, _-_, _≤_, _<_}
+use Prim.Native.Nat.{ℕ, zero, suc, _-_, _≤_, _<_}
 use native.Mathlib.Omega.{arith}
 use native.Mathlib.Numerals.{add-one}
 use lib.Dec.{T}
 use lib.Ieee.{Float, nan, ofBits, binary64, add}
-use lib.ListN.{length, replicate, set, drop, length-append, length-replicate}
+use lib.ListN.{replicate, set, drop, length-replicate}
 use Rattle.floats.specs.Basic.{finiteOf}
 use Rattle.floats.specs.Constants.{zero64}
 use Rattle.floatlaws.specs.CallerLaws.{finite-test}
 use Rattle.floatlaws.specs.Fractions.{Finite}
-use Rattle.lists.specs.Tab.{tab, length-tab, tab-same, tab-step, drop-replicate}
+use Rattle.lists.specs.Tab.{tab, tab-same, tab-step, drop-replicate}
 use Rattle.optics.specs.Properties.{paraxialOf}
 use Rattle.optics.specs.TraceLaws.{paraxial-same}
 use Rattle.optics.specs.declared.types.OpticalSurface.{OpticalSurface}
@@ -37,22 +37,9 @@ counted-finite x = go (finiteOf x) (finite-test x)
     go true h = h tt
     go false h = overflow-finite
 
--- ---- values and residuals are twelve each
-pub entries-long : (f : ℕ → Float) (n : ℕ) → n ≤ 12 → length (entries f n) ≡ 12
-entries-long f n h = length-append (tab f n) (replicate (12 - n) zero64) ∙ rw (length-tab f n, length-replicate) (whole n h)
-  where
-    whole : (n : ℕ) → n ≤ 12 → n + (12 - n) ≡ 12
-    whole n h = omega arith
-
 module _ (surface : ℕ → OpticalSurface) (index : ℕ → ℕ → Float) (pupil : Float) (count : ℕ) (f : MeritFunction) where
   pub total-finite : Finite (evaluationOf surface index pupil count f .«total_merit»)
   total-finite = counted-finite (total surface index pupil count f (f .«operand_count»))
-
-  pub values-long : f .«operand_count» ≤ 12 → length (evaluationOf surface index pupil count f .values) ≡ 12
-  values-long h = entries-long (valueAt surface index pupil count f) (f .«operand_count») h
-
-  pub residuals-long : f .«operand_count» ≤ 12 → length (evaluationOf surface index pupil count f .residuals) ≡ 12
-  residuals-long h = entries-long (residualAt surface index pupil count f) (f .«operand_count») h
 
   -- the values after n operands are those of the n, and zero
   values-are : (n : ℕ) → n ≤ 12 → valuesAfter surface index pupil count f n ≡ tab (valueAt surface index pupil count f) n ++ drop n (replicate 12 zero64)

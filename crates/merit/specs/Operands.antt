@@ -12,7 +12,8 @@ use Rattle.optics.specs.declared.types.Paraxial.the-variants.{Failed, Traced}
 use Rattle.optics.specs.declared.types.ParaxialProperties.{ParaxialProperties}
 use Rattle.merit.specs.Edges.{edgeOf}
 use Rattle.merit.specs.declared.types.OperandType.{OperandType}
-use Rattle.merit.specs.declared.types.OperandType.the-variants.{EffectiveFocalLength, WorkingFNumber, TotalTrack, BackFocalLength, ParaxialMagnification, MinCenterThickness, MaxCenterThickness, MinEdgeThickness}
+use Rattle.merit.specs.declared.types.OperandType.the-variants.{EffectiveFocalLength, WorkingFNumber, TotalTrack, BackFocalLength, ParaxialMagnification}
+use Rattle.merit.specs.declared.types.OperandType.the-variants.{MinCenterThickness, MaxCenterThickness, MinEdgeThickness}
 use Rattle.merit.specs.declared.types.Sag.{Sag}
 use Rattle.merit.specs.declared.types.Sag.the-variants.{Is, Missing}
 

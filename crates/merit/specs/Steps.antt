@@ -8,7 +8,8 @@ use Rattle.merit.specs.Operands.{slotNamed}
 use Rattle.merit.specs.OperandTable.{operandAt}
 use Rattle.merit.specs.declared.types.MeritFunction.{MeritFunction}
 use Rattle.merit.specs.declared.types.OperandType.{OperandType}
-use Rattle.merit.specs.declared.types.OperandType.the-variants.{EffectiveFocalLength, WorkingFNumber, TotalTrack, BackFocalLength, ParaxialMagnification, MinCenterThickness, MaxCenterThickness, MinEdgeThickness}
+use Rattle.merit.specs.declared.types.OperandType.the-variants.{EffectiveFocalLength, WorkingFNumber, TotalTrack, BackFocalLength, ParaxialMagnification}
+use Rattle.merit.specs.declared.types.OperandType.the-variants.{MinCenterThickness, MaxCenterThickness, MinEdgeThickness}
 use Rattle.merit.specs.declared.types.WeightRoot.{WeightRoot}
 
 -- the slot that operand n names

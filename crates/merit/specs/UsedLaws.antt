@@ -19,7 +19,8 @@ use Rattle.merit.specs.CheckLaws.{kind-taken, slot-below, slots-known}
 use Rattle.merit.specs.Evaluation.{evaluationOf}
 use Rattle.merit.specs.OperandTable.{operandAt}
 use Rattle.merit.specs.EvaluationLaws.{evaluation-same}
-use Rattle.merit.specs.Calls.{unlessRefused, evaluateNumber, lensEvaluation, evaluatedAs, lensTrace, traceNumber, answerOf, traceAnswer, tracedRow, tracedRays}
+use Rattle.merit.specs.Calls.{unlessRefused, evaluateNumber, lensEvaluation, evaluatedAs, lensTrace, traceNumber, answerOf, traceAnswer, tracedRow}
+use Rattle.merit.specs.Calls.{tracedRays}
 use Rattle.merit.specs.CallLaws.{evaluable, done-traceable}
 use Rattle.merit.specs.declared.types.MeritEvaluation.{MeritEvaluation}
 use Rattle.merit.specs.declared.types.MeritFunction.{MeritFunction}

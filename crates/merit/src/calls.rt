@@ -6,7 +6,9 @@ ghost use lib.ListN.{length, replicate};
 ghost use Rattle.floats.specs.Constants.{zero64};
 ghost use Rattle.optics.specs.Flat.{laidFlat};
 ghost use Rattle.merit.specs.CallLaws.{Evaluable};
-ghost use Rattle.merit.specs.Calls.{evaluateNumber, lensEvaluation, evaluatedAs, evaluatedOf, traceNumber, traceAnswer, tracedRays, nothingTraced, heightsOf, tracedHeights};
+ghost use Rattle.merit.specs.OperandTable.{zeroEvaluation};
+ghost use Rattle.merit.specs.Calls.{evaluateNumber, lensEvaluation, evaluatedAs, evaluatedOf, traceNumber, traceAnswer, tracedRays, nothingTraced};
+ghost use Rattle.merit.specs.Calls.{heightsOf, tracedHeights};
 ghost use Rattle.merit.specs.declared.types.Traced.the-variants.{Done};
 use crate::checks::operands_taken;
 use crate::evaluation::evaluate_flat;
@@ -66,21 +68,26 @@ fn lens_evaluation(prescription: OpticalPrescription, function: MeritFunction) -
     )
 }
 
+// What a refused evaluation by value is, and that of a run before its first merit.
+pub fn zero_evaluation() -> MeritEvaluation
+    ensures { λ r. ⌜ r ≡ zeroEvaluation ⌝ }
+{
+    MeritEvaluation {
+        values: [0.0; 12],
+        residuals: [0.0; 12],
+        total_merit: 0.0,
+    }
+}
+
 // The evaluation of a lens under its operands, by value.
 fn evaluated(prescription: OpticalPrescription, function: MeritFunction) -> Evaluated
     ensures { λ r. ⌜ r ≡ evaluatedOf prescription function ⌝ }
 {
     let number = evaluate_number(prescription, function);
     if number > 0 {
-        let values = [0.0; 12];
-        let residuals = [0.0; 12];
-        let none = MeritEvaluation {
-            values: values,
-            residuals: residuals,
-            total_merit: 0.0,
-        };
+        let zero = zero_evaluation();
         return Evaluated {
-            evaluation: none,
+            evaluation: zero,
             number: number,
         };
     }

@@ -10,6 +10,7 @@ mod types;
 pub use calls::evaluate;
 pub use calls::trace;
 pub use calls::trace_number;
+pub use calls::zero_evaluation;
 pub use checks::operand_taken;
 pub use checks::operands_taken;
 pub use evaluation::counted_total;

@@ -12,7 +12,8 @@ use Rattle.floatlaws.specs.Fractions.{Finite}
 use Rattle.floatlaws.specs.Order.{Number, lt→le, finite-between}
 use Rattle.lists.specs.All.{all-at, all-from}
 use Rattle.optics.specs.Types.{surfaceAt, slotIndex}
-use Rattle.optics.specs.Check.{billion, ten, within, aboveZeroUpTo, pupilTaken, indexTaken, surfaceTaken, surfacesTaken, rowTaken, indicesTaken, lensTaken}
+use Rattle.optics.specs.Check.{billion, ten, within, aboveZeroUpTo, pupilTaken, indexTaken, surfaceTaken, surfacesTaken, rowTaken, indicesTaken}
+use Rattle.optics.specs.Check.{lensTaken}
 use Rattle.optics.specs.declared.types.OpticalPrescription.{OpticalPrescription}
 use Rattle.optics.specs.declared.types.OpticalSurface.{OpticalSurface}
 
@@ -59,10 +60,6 @@ zero-finite = tt
 
 pub above-finite : (top x : Float) → Finite top → T (aboveZeroUpTo top x) → Finite x
 above-finite top x f t = let p = above-parts top x t in finite-between zero64 x top zero-finite f (lt→le zero64 x (p .above)) (p .upTo)
-
-pub billion-finite : Finite billion
-unfolding ofBits
-billion-finite = tt
 
 pub ten-finite : Finite ten
 unfolding ofBits

@@ -11,9 +11,6 @@ use lib.ListN.{length, getD, set, take, drop, length-append, length-drop}
 use lib.Seq.{getD-append-add, drop-append-add, drop-drop, take-at, sets, sets-eq}
 use Rattle.optics.specs.Types.{surfaceAt, flatSurface}
 use Rattle.optics.specs.Flat.{numbersOf, laidFlat}
-use Rattle.optics.specs.Trace.{traceOf}
-use Rattle.optics.specs.Properties.{paraxialOf}
-use Rattle.optics.specs.TraceLaws.{trace-same, paraxial-same}
 use Rattle.optics.specs.declared.types.OpticalSurface.{OpticalSurface}
 
 pub length-laid : (surfaces : List OpticalSurface) (n : ℕ) → length (laidFlat surfaces n) ≡ 4 * n
@@ -45,14 +42,6 @@ flat-laid surfaces (suc n) rest i h =
       | inl e ↦ rw e (flat-at (laidFlat surfaces n) rest n (surfaceAt surfaces n) (length-laid surfaces n))
       | inr l ↦ flat-laid surfaces n (numbersOf (surfaceAt surfaces n) ++ rest) i l
     ]
-
--- so the trace and the properties are those of the surfaces
-module _ (surfaces : List OpticalSurface) (index : ℕ → Float) (pupil : Float) (n : ℕ) (rest : List Float) where
-  pub trace-flat : traceOf (flatSurface (laidFlat surfaces n ++ rest)) index pupil n ≡ traceOf (surfaceAt surfaces) index pupil n
-  trace-flat = trace-same (flatSurface (laidFlat surfaces n ++ rest)) (surfaceAt surfaces) index index pupil n (flat-laid surfaces n rest) (λ i h. refl)
-
-  pub paraxial-flat : paraxialOf (flatSurface (laidFlat surfaces n ++ rest)) index pupil n ≡ paraxialOf (surfaceAt surfaces) index pupil n
-  paraxial-flat = paraxial-same (flatSurface (laidFlat surfaces n ++ rest)) (surfaceAt surfaces) index index pupil n (flat-laid surfaces n rest) (λ i h. refl)
 
 -- four stores write the numbers of a surface
 pub four-stored : (l : List Float) (i : ℕ) (s : OpticalSurface)

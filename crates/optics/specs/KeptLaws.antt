@@ -17,9 +17,6 @@ use Rattle.optics.specs.Kept.{indexUsed, keptPrescription}
 use Rattle.optics.specs.declared.types.OpticalPrescription.{OpticalPrescription}
 
 -- entry k of the indices is that of surface k / 4 in slot k % 4
-pub where-it-stands : (k : ℕ) → (k / 4) * 4 + k % 4 ≡ k
-where-it-stands k = omega arith
-
 surface-at : (i w : ℕ) → w < 4 → (i * 4 + w) / 4 ≡ i
 surface-at i w h = omega arith
 

@@ -2,17 +2,13 @@
 use Prim.Native.Nat.{ℕ, zero, suc}
 use mathlib.Core.List.{List}
 use lib.ListN.{getD}
-use lib.Ieee.{Float, nan, binary64, add, sub, mul, div, ofBits}
-use Rattle.floats.specs.Constants.{zero64, one64}
+use lib.Ieee.{Float, nan, binary64, add, sub, mul, div}
+use Rattle.floats.specs.Constants.{zero64, half64, one64}
 use Rattle.lists.specs.Tab.{tab}
 use Rattle.optics.specs.Curvature.{curvature}
 use Rattle.optics.specs.declared.types.ArrivingRay.{ArrivingRay}
 use Rattle.optics.specs.declared.types.OpticalSurface.{OpticalSurface}
 use Rattle.optics.specs.declared.types.ParaxialRay.{ParaxialRay}
-
--- 0.5
-abbrev pub half : Float
-half = ofBits binary64 0x3fe0_0000_0000_0000
 
 -- "power = (n' - n) × c": n is the index in front of the surface, n′ the one behind it
 abbrev pub power : (n n′ c : Float) → Float
@@ -40,7 +36,7 @@ onward s n′ a = rayBehind (curvature (s .«radius_mm»)) (s .«thickness_mm»)
 
 -- "The trace starts at height half the pupil diameter, slope 0, index 1"
 abbrev pub start : Float → ArrivingRay
-start pupil = record { y = mul binary64 pupil half; u = zero64; n = one64 }
+start pupil = record { y = mul binary64 pupil half64; u = zero64; n = one64 }
 
 -- the ray as it arrives at surface k, where `surface` gives the surfaces and `index` the slot's indices behind them
 unfoldable pub arriving : (surface : ℕ → OpticalSurface) (index : ℕ → Float) (pupil : Float) → ℕ → ArrivingRay

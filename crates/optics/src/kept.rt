@@ -15,7 +15,7 @@ pub fn lens_counts_taken(surfaces: usize, slots: usize) -> bool
     1 <= slots && slots <= 4
 }
 
-fn zero_surface() -> OpticalSurface
+pub fn zero_surface() -> OpticalSurface
     ensures { λ r. ⌜ r ≡ zeroSurface ⌝ }
 {
     OpticalSurface {

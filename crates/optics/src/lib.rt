@@ -19,6 +19,7 @@ pub use flat::lay_flat;
 pub use flat::surface_at;
 pub use kept::kept_prescription;
 pub use kept::lens_counts_taken;
+pub use kept::zero_surface;
 pub use properties::paraxial;
 pub use properties::paraxial_slots;
 pub use rays::fill_rays;

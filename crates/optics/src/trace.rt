@@ -35,7 +35,12 @@ pub fn start_of(pupil: f64) -> ArrivingRay
 }
 
 // Refraction at a surface with `index` behind it, then transfer to the next.
-pub fn ray_behind(ray: ArrivingRay, curvature: f64, thickness: f64, index: f64) -> ArrivingRay
+pub(crate) fn ray_behind(
+    ray: ArrivingRay,
+    curvature: f64,
+    thickness: f64,
+    index: f64,
+) -> ArrivingRay
     ensures { λ r. ⌜ r ≡ rayBehind curvature thickness index ray ⌝ }
 {
     let power = (index - ray.n) * curvature;

@@ -17,7 +17,8 @@ use Rattle.bench.specs.Calls.{isVacant, admitNumber, admittedBench, benchAnswer
 use Rattle.records.specs.declared.types.RequestRecord.{RequestRecord}
 use Rattle.records.specs.Requests.{requestOf, isRequest}
 use Rattle.records.specs.Exported.{admitRecordNumber, admittedRecordBench, ExportedCall, admitRecord, turn, fetch, release, listing, recordFor}
-use Rattle.records.specs.Exported.{exportedAnswer, exportedStep, exportedFrom, exportedAnswersFrom, asCalls, allAsCalls, isCall, toCalls, ExportedAreCalls}
+use Rattle.records.specs.Exported.{exportedAnswer, exportedStep, exportedFrom, exportedAnswersFrom, asCalls, allAsCalls, isCall, toCalls}
+use Rattle.records.specs.Exported.{ExportedAreCalls}
 use Rattle.records.specs.Asked.{same-job-asked, is-asked, answered-alike}
 
 -- ---- one exported call, and 01's calls after it

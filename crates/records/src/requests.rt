@@ -1,6 +1,6 @@
 // A job as it is asked for, in numbers alone: what a caller in C has, who knows no enum.
 ghost use mathlib.Core.Path.{_≡_};
-ghost use Prim.Native.Nat.{ℕ, _<_};
+ghost use Prim.Native.Nat.{_<_};
 ghost use Rattle.records.specs.Requests.{isGiven, countSetting, numberSetting, dlsRequest, multiStartRequest, annealingRequest};
 ghost use Rattle.records.specs.Requests.{methodRequest, requestOf, isRequest};
 use crate::types::RequestRecord;

@@ -9,7 +9,6 @@ use crate::zeros::zero_result;
 use jobs::Job;
 use jobs::JobRecord;
 use jobs::Method;
-use merit::MeritEvaluation;
 use optics::OpticalSurface;
 use runs::DampedState;
 use runs::Row;
@@ -18,14 +17,11 @@ use runs::Row;
 fn beginning(phase: u64, surfaces: [OpticalSurface; 16]) -> DampedState
     ensures { λ r. ⌜ r ≡ holding phase surfaces zeroParams zeroParams ⌝ }
 {
+    let evaluation = merit::zero_evaluation();
     DampedState {
         surfaces: surfaces,
         jacobian: [0.0; 96],
-        evaluation: MeritEvaluation {
-            values: [0.0; 12],
-            residuals: [0.0; 12],
-            total_merit: 0.0,
-        },
+        evaluation: evaluation,
         plus_residuals: [0.0; 12],
         params: [0.0; 8],
         candidate: [0.0; 8],

@@ -9,9 +9,9 @@ use crate::zeros;
 use held::HeldRow;
 use jobs::JobRequest;
 
-// What refuses an admission: 1, 2, 3 to 8, and 10 where the place is taken.
-pub fn admit_number(place: usize, taken: bool, request: JobRequest) -> u32
-    ensures { λ r. ⌜ r ≡ firstRefusal (admitRefusals place request taken) ⌝ }
+// What refuses an admission: 1, 2, 3 to 8, and 10 where the place is occupied.
+pub fn admit_number(place: usize, occupied: bool, request: JobRequest) -> u32
+    ensures { λ r. ⌜ r ≡ firstRefusal (admitRefusals place request occupied) ⌝ }
 {
     let number = jobs::refusal_of(request);
     if number == 1 {
@@ -23,7 +23,7 @@ pub fn admit_number(place: usize, taken: bool, request: JobRequest) -> u32
     if number > 0 {
         return number;
     }
-    if taken {
+    if occupied {
         return 10;
     }
     0

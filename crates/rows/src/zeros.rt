@@ -10,12 +10,7 @@ use runs::OptimizationResult;
 pub(crate) fn zero_surfaces() -> [OpticalSurface; 16]
     ensures { λ r. ⌜ r ≡ zeroSurfaces ⌝ }
 {
-    let zero = OpticalSurface {
-        radius_mm: 0.0,
-        conic_constant: 0.0,
-        thickness_mm: 0.0,
-        semi_diameter_mm: 0.0,
-    };
+    let zero = optics::zero_surface();
     let surfaces = [zero; 16];
     surfaces
 }

@@ -11,14 +11,16 @@ use Rattle.merit.specs.declared.types.MeritEvaluation.{MeritEvaluation}
 use Rattle.runs.specs.declared.types.DampedState.{DampedState}
 use Rattle.runs.specs.declared.types.OptimizationResult.{OptimizationResult}
 use Rattle.runs.specs.Run.{Surfaces, Run, done, ask, bind, bind-assoc}
-use Rattle.runs.specs.AnnealingRun.{Annealer, Walk, cooled, trialParams, afterDraws, trialPresc, judged, tried, steps, cycles, started, polisher, withPrior, polish, annealing}
+use Rattle.runs.specs.AnnealingRun.{Annealer, Walk, cooled, trialParams, afterDraws, trialPresc, judged, tried, steps, cycles, started, polisher}
+use Rattle.runs.specs.AnnealingRun.{withPrior, polish, annealing}
 use Rattle.runs.specs.DampedRow.{atFirst}
 use Rattle.runs.specs.DampedRow as Damped
 use Rattle.runs.specs.DampedResumption as Damped′
 use Rattle.runs.specs.DampedLaws as DampedLaws
 use Rattle.runs.specs.DampedInvariant.{advanced-is}
 use Rattle.runs.specs.State.{State, withDamped}
-use Rattle.runs.specs.AnnealingRow.{Phase, walkFirst, walk, polishing, phaseOf, walkOf, atWalkFirst, atPolish, atStep, isCycle, resumeCycles, resumeSteps, pendingAt, advanceAt, pending, advance, polished, resultOf, resumptionAt, resumption, finishedAt, isFinished}
+use Rattle.runs.specs.AnnealingRow.{Phase, walkFirst, walk, polishing, phaseOf, walkOf, atWalkFirst, atPolish, atStep, isCycle, resumeCycles, resumeSteps}
+use Rattle.runs.specs.AnnealingRow.{pendingAt, advanceAt, pending, advance, polished, resultOf, resumptionAt, resumption, finishedAt, isFinished}
 
 module _ (a : Annealer) where
   abbrev cycleCount : ℕ

@@ -10,7 +10,8 @@ use Rattle.runs.specs.declared.types.DampedState.{DampedState}
 use Rattle.runs.specs.declared.types.OptimizationResult.{OptimizationResult}
 use Rattle.runs.specs.Run.{Surfaces, Run, done, ask, _>>=_}
 use Rattle.runs.specs.Zeros.{zeroSurfaces, zeroOperands, zeroParams}
-use Rattle.runs.specs.AnnealingRun.{Annealer, Walk, cooled, trialParams, afterDraws, trialPresc, judged, steps, cycles, started, polisher, withPrior, polish}
+use Rattle.runs.specs.AnnealingRun.{Annealer, Walk, cooled, trialParams, afterDraws, trialPresc, judged, steps, cycles, started, polisher, withPrior}
+use Rattle.runs.specs.AnnealingRun.{polish}
 use Rattle.runs.specs.DampedRow.{holding, atFirst}
 use Rattle.runs.specs.DampedRow as Damped
 use Rattle.runs.specs.DampedResumption as Damped′

@@ -5,7 +5,7 @@ use mathlib.Core.List.{List}
 use lib.ListN.{getD}
 use lib.Ieee.{Float, nan, binary64, add, sub, mul, div, neg, lt, le, ofBits}
 use Rattle.floats.specs.Basic.{clampOf, maxOf}
-use Rattle.floats.specs.Constants.{zero64}
+use Rattle.floats.specs.Constants.{zero64, half64}
 use Rattle.floats.specs.Exp.{expOf}
 use Rattle.xorshift.specs.Xorshift.{seeded, stepOf, stepTimes}
 use Rattle.xorshift.specs.Draws.{unitOf}
@@ -20,10 +20,7 @@ use Rattle.runs.specs.declared.types.OptimizationResult.{OptimizationRes
 use Rattle.runs.specs.Run.{Surfaces, Run, done, evaluate, _>>=_}
 use Rattle.runs.specs.DampedRun.{Optimizer, damped}
 
--- 0.5, 0.1 and 1e-12
-abbrev pub half : Float
-half = ofBits binary64 0x3fe0_0000_0000_0000
-
+-- 0.1 and 1e-12
 abbrev pub tenth : Float
 tenth = ofBits binary64 0x3fb9_9999_9999_999a
 
@@ -72,7 +69,7 @@ module _ (a : Annealer) where
   range q = sub binary64 (var q .«max_value») (var q .«min_value»)
 
   abbrev perturb : (rng q : ℕ) → Float
-  perturb rng q = mul binary64 (mul binary64 (sub binary64 (unitOf (stepTimes (suc q) rng)) half) tenth) (range q)
+  perturb rng q = mul binary64 (mul binary64 (sub binary64 (unitOf (stepTimes (suc q) rng)) half64) tenth) (range q)
 
   abbrev perturbed : List Float → (rng q : ℕ) → Float
   perturbed params rng q = clampOf (add binary64 (getD params q nan) (perturb rng q)) (var q .«min_value») (var q .«max_value»)

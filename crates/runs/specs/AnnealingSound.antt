@@ -22,7 +22,8 @@ use Rattle.runs.specs.AnnealingEnds.{sound-judged}
 use Rattle.runs.specs.JobRun.{annealerOf}
 use Rattle.runs.specs.State.{State}
 use Rattle.runs.specs.DampedRow as DampedRow
-use Rattle.runs.specs.AnnealingRow.{Phase, walkFirst, walk, polishing, phaseOf, walkOf, atStep, isCycle, resumeCycles, resumeSteps, advanceAt, advance, finishedAt, isFinished}
+use Rattle.runs.specs.AnnealingRow.{Phase, walkFirst, walk, polishing, phaseOf, walkOf, atStep, isCycle, resumeCycles, resumeSteps, advanceAt, advance}
+use Rattle.runs.specs.AnnealingRow.{finishedAt, isFinished}
 use Rattle.runs.specs.Rows.{advanceBy, finishedBy}
 use Rattle.runs.specs.DampedSound as DampedSound
 use Rattle.runs.specs.StateSound.{Sound}

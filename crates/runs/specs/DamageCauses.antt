@@ -14,7 +14,8 @@ use Rattle.jobs.specs.Checks.{jobTaken, recordTaken}
 use Rattle.runs.specs.declared.types.Row.{Row}
 use Rattle.runs.specs.State.{State, stateOf}
 use Rattle.runs.specs.Rows.{jobOfRow, isFinished, bound}
-use Rattle.runs.specs.Damage.{isKind, lastPhase, isPhase, usesCurrent, usesBest, takenIf, upTo, surfacesSound, countersSound, iterationLimit, trialLimit, cycleLimit, stepLimit, stateSound, jobSound, turnsSound, damaged}
+use Rattle.runs.specs.Damage.{isKind, lastPhase, isPhase, usesCurrent, usesBest, takenIf, upTo, surfacesSound, countersSound, iterationLimit, trialLimit}
+use Rattle.runs.specs.Damage.{cycleLimit, stepLimit, stateSound, jobSound, turnsSound, damaged}
 use Rattle.runs.specs.StateSound.{Sound, sound-from}
 use Rattle.runs.specs.DamageLaws.{parts, turns-part}
 

@@ -12,7 +12,9 @@ use Rattle.runs.specs.declared.types.OptimizationResult.{OptimizationRes
 use Rattle.runs.specs.Run.{Surfaces, Run, bind}
 use Rattle.runs.specs.Ends.{Ends, now, later, Any, Ends-more, Ends-bind}
 use Rattle.runs.specs.Zeros.{zeroJacobian}
-use Rattle.runs.specs.DampedRun.{Optimizer, Current, After, on, over, stateOf, resultOf, counted, raised, settled, started, prescPlus, prescMinus, withDifferences, columns, isStationary, ifStationary, isSolved, candidateParams, testPresc, isReduction, relImprovement, moved, accepted, ifReduced, ifSolved, attempts, iteration, goingOn, iterations, damped}
+use Rattle.runs.specs.DampedRun.{Optimizer, Current, After, on, over, stateOf, resultOf, counted, raised, settled, started, prescPlus, prescMinus}
+use Rattle.runs.specs.DampedRun.{withDifferences, columns, isStationary, ifStationary, isSolved, candidateParams, testPresc, isReduction, relImprovement}
+use Rattle.runs.specs.DampedRun.{moved, accepted, ifReduced, ifSolved, attempts, iteration, goingOn, iterations, damped}
 
 module _ (o : Optimizer) (Q : Surfaces → MeritEvaluation → Type 0) (Holds : Current → Type 0)
     (raises : (s : Current) → Holds s → Holds (raised s))

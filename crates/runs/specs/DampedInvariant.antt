@@ -11,8 +11,11 @@ use Rattle.merit.specs.declared.types.MeritEvaluation.{MeritEvaluation}
 use Rattle.runs.specs.declared.types.DampedState.{DampedState}
 use Rattle.runs.specs.Run.{Surfaces}
 use Rattle.runs.specs.Zeros.{zeroJacobian}
-use Rattle.runs.specs.DampedRun.{Optimizer, Current, After, on, over, stateOf, counted, raised, settled, started, withDifferences, isStationary, isSolved, candidateParams, isReduction, relImprovement, moved, accepted}
-use Rattle.runs.specs.DampedRow.{Phase, first, plus, minus, candidate, finished, phaseOf, currentOf, atPlus, atMinus, atCandidate, ended, resumeSolved, resumeAttempts, resumeStationary, resumeColumns, resumeIterations, resumeAfter, resumeReduced, advanceAt, advance, finishedAt, isFinished}
+use Rattle.runs.specs.DampedRun.{Optimizer, Current, After, on, over, stateOf, counted, raised, settled, started, withDifferences, isStationary, isSolved}
+use Rattle.runs.specs.DampedRun.{candidateParams, isReduction, relImprovement, moved, accepted}
+use Rattle.runs.specs.DampedRow.{Phase, first, plus, minus, candidate, finished, phaseOf, currentOf, atPlus, atMinus, atCandidate, ended, resumeSolved}
+use Rattle.runs.specs.DampedRow.{resumeAttempts, resumeStationary, resumeColumns, resumeIterations, resumeAfter, resumeReduced, advanceAt, advance}
+use Rattle.runs.specs.DampedRow.{finishedAt, isFinished}
 
 -- What is to hold of the parts that the loops hold, and of a state (State); each step of the loops keeps it.
 pub record Invariant (o : Optimizer) : Type 1 where

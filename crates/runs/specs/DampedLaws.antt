@@ -15,8 +15,12 @@ use Rattle.runs.specs.declared.types.DampedState.{DampedState}
 use Rattle.runs.specs.declared.types.OptimizationResult.{OptimizationResult}
 use Rattle.runs.specs.Run.{Surfaces, Run, done, ask, bind, bind-assoc}
 use Rattle.runs.specs.Zeros.{zeroJacobian}
-use Rattle.runs.specs.DampedRun.{Optimizer, Current, After, on, over, stateOf, counted, raised, settled, started, prescMinus, withDifferences, columns, isStationary, ifStationary, isSolved, candidateParams, testPresc, isReduction, ifReduced, ifSolved, attempts, relImprovement, moved, accepted, iteration, goingOn, iterations, damped}
-use Rattle.runs.specs.DampedRow.{Phase, first, plus, minus, candidate, finished, phaseOf, currentOf, atFirst, resumeSolved, resumeAttempts, resumeStationary, resumeColumns, resumeIterations, resumeAfter, resumeReduced, pendingAt, advanceAt, pending, advance, finishedAt, isFinished, resultOf}
+use Rattle.runs.specs.DampedRun.{Optimizer, Current, After, on, over, stateOf, counted, raised, settled, started, prescMinus, withDifferences, columns}
+use Rattle.runs.specs.DampedRun.{isStationary, ifStationary, isSolved, candidateParams, testPresc, isReduction, ifReduced, ifSolved, attempts}
+use Rattle.runs.specs.DampedRun.{relImprovement, moved, accepted, iteration, goingOn, iterations, damped}
+use Rattle.runs.specs.DampedRow.{Phase, first, plus, minus, candidate, finished, phaseOf, currentOf, atFirst, resumeSolved, resumeAttempts}
+use Rattle.runs.specs.DampedRow.{resumeStationary, resumeColumns, resumeIterations, resumeAfter, resumeReduced, pendingAt, advanceAt, pending, advance}
+use Rattle.runs.specs.DampedRow.{finishedAt, isFinished, resultOf}
 use Rattle.runs.specs.DampedResumption.{rest, resumptionAt, resumption}
 
 module _ (o : Optimizer) where

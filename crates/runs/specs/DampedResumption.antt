@@ -4,7 +4,8 @@ use Rattle.variables.specs.Active.{numActive}
 use Rattle.runs.specs.declared.types.DampedState.{DampedState}
 use Rattle.runs.specs.declared.types.OptimizationResult.{OptimizationResult}
 use Rattle.runs.specs.Run.{Run, done, ask, evaluate, _>>=_}
-use Rattle.runs.specs.DampedRun.{Optimizer, After, on, raised, started, prescPlus, prescMinus, withDifferences, columns, isStationary, ifStationary, testPresc, isReduction, ifReduced, attempts, goingOn, iterations}
+use Rattle.runs.specs.DampedRun.{Optimizer, After, on, raised, started, prescPlus, prescMinus, withDifferences, columns, isStationary, ifStationary}
+use Rattle.runs.specs.DampedRun.{testPresc, isReduction, ifReduced, attempts, goingOn, iterations}
 use Rattle.runs.specs.DampedRun as Reference
 use Rattle.runs.specs.DampedRow.{Phase, first, plus, minus, candidate, finished, phaseOf, currentOf, resultOf}
 

@@ -7,12 +7,14 @@ use lib.Dec.{ltb}
 use lib.Ieee.{Float}
 use Rattle.floats.specs.Constants.{zero64}
 use Rattle.variables.specs.Active.{numActive}
+use Rattle.merit.specs.OperandTable.{zeroEvaluation}
 use Rattle.merit.specs.declared.types.MeritEvaluation.{MeritEvaluation}
 use Rattle.runs.specs.declared.types.DampedState.{DampedState}
 use Rattle.runs.specs.declared.types.OptimizationResult.{OptimizationResult}
 use Rattle.runs.specs.Run.{Surfaces}
-use Rattle.runs.specs.Zeros.{zeroSurfaces, zeroOperands, zeroParams, zeroJacobian, zeroEvaluation}
-use Rattle.runs.specs.DampedRun.{Optimizer, Current, After, on, over, mark, counted, raised, started, prescPlus, prescMinus, withDifferences, isStationary, isSolved, candidateParams, testPresc, isReduction, accepted}
+use Rattle.runs.specs.Zeros.{zeroSurfaces, zeroOperands, zeroParams, zeroJacobian}
+use Rattle.runs.specs.DampedRun.{Optimizer, Current, After, on, over, mark, counted, raised, started, prescPlus, prescMinus, withDifferences}
+use Rattle.runs.specs.DampedRun.{isStationary, isSolved, candidateParams, testPresc, isReduction, accepted}
 
 -- Just before the first merit, one on either side for the Jacobian, a candidate's; or at the end. Any other number is the end too.
 pub data Phase : Type 0 where

@@ -13,7 +13,7 @@ use Rattle.merit.specs.declared.types.MeritEvaluation.{MeritEvaluation}
 use Rattle.runs.specs.declared.types.DampedState.{DampedState}
 use Rattle.runs.specs.Run.{Surfaces}
 use Rattle.runs.specs.DampedRun.{Optimizer, Current, prescPlus, prescMinus, testPresc}
-use Rattle.runs.specs.DampedRow.{Phase, first, plus, minus, candidate, finished, phaseOf, atFirst, pendingAt, pending, advance, isFinished}
+use Rattle.runs.specs.DampedRow.{Phase, first, plus, minus, candidate, finished, phaseOf, pendingAt, pending, advance, isFinished}
 use Rattle.runs.specs.DampedInvariant.{Invariant, Before, keeps}
 
 module _ (o : Optimizer) (Taken : Surfaces → Type 0) (applies : (values : List Float) (x : Surfaces) → Taken x → Taken (applied (o .variables) values x)) where
@@ -83,9 +83,6 @@ module _ (o : Optimizer) (Taken : Surfaces → Type 0) (applies : (values : List
   pub pending-taken : (d : DampedState) → Taken (d .surfaces) → Taken (pending o d)
   unfolding pending
   pending-taken d h = pending-at (phaseOf (d .phase)) d h
-
-  pub sound-first : (x : Surfaces) → Taken x → 0 < p → Sound (atFirst x)
-  sound-first x h pos = record { isPhase = omega arith; taken = h; columnBelow = pos; attemptUpTo = omega arith; iterationUpTo = omega arith }
 
   pub sound-advance : (d : DampedState) (e : MeritEvaluation) → isFinished d ≡ false → Sound d → Sound (advance o d e)
   unfolding sound

@@ -1,6 +1,6 @@
 -- Every state that a run comes to has sixteen surfaces, and so has its best result. Assumes nothing.
 use mathlib.Core.Path.{_≡_, refl, ap, _∙_}
-use mathlib.Core.Bool.{Bool, true, false, cond, _&&_, true≢false}
+use mathlib.Core.Bool.{Bool, true, false, cond}
 use mathlib.Core.List.{List}
 use Prim.Native.Nat.{ℕ, zero, suc}
 use lib.Dec.{ltb}
@@ -19,11 +19,11 @@ use Rattle.runs.specs.declared.types.Row.{Row}
 use Rattle.runs.specs.Run.{Surfaces}
 use Rattle.runs.specs.JobRun.{baseOf, optimizerOf, annealerOf}
 use Rattle.runs.specs.State.{State, stateOf}
-use Rattle.runs.specs.DampedRun.{Optimizer, Current, testPresc}
+use Rattle.runs.specs.DampedRun.{Optimizer, testPresc}
 use Rattle.runs.specs.DampedRow.{Phase, first, plus, minus, candidate, finished, phaseOf}
 use Rattle.runs.specs.DampedRow as DampedRow
 use Rattle.runs.specs.DampedInvariant.{Invariant, Before, keeps}
-use Rattle.runs.specs.MultiStartRun.{Best, none, some, merged, isLower, trialPresc}
+use Rattle.runs.specs.MultiStartRun.{merged, isLower, trialPresc}
 use Rattle.runs.specs.MultiStartRow as MultiStartRow
 use Rattle.runs.specs.AnnealingRun.{Annealer, Walk, afterDraws, judged, accepted, moved, ifBest, ifDrawn, ifNotRisen, polisher, cooled, withRng}
 use Rattle.runs.specs.AnnealingRun as AnnealingRun

@@ -1,10 +1,7 @@
 -- The surfaces that an undamaged, unfinished row asks the merit of pass check 3. Assumes nothing.
-use mathlib.Core.Path.{_≡_, refl, sym, subst}
+use mathlib.Core.Path.{_≡_, sym, subst}
 use mathlib.Core.Bool.{Bool, false, not}
-use mathlib.Core.List.{List}
 use lib.Dec.{T}
-use lib.Ieee.{Float}
-use Rattle.variables.specs.Values.{applied}
 use Rattle.optics.specs.Check.{surfacesTaken}
 use Rattle.jobs.specs.declared.types.DlsConfig.{DlsConfig}
 use Rattle.jobs.specs.declared.types.Job.{Job}
@@ -23,7 +20,7 @@ use Rattle.runs.specs.State.{State, stateOf}
 use Rattle.runs.specs.Rows.{jobOfRow, pendingBy, pendingSurfaces, finishedBy, isFinished}
 use Rattle.runs.specs.Damage.{damaged, usesCurrent}
 use Rattle.runs.specs.DampedSound.{pending-taken}
-use Rattle.runs.specs.StateSound.{Sound, sound-from}
+use Rattle.runs.specs.StateSound.{sound-from}
 use Rattle.runs.specs.Usable.{Usable}
 use Rattle.runs.specs.DamageLaws.{parts, undamaged-usable}
 

@@ -71,14 +71,6 @@ pub kind-advance : (r : Row) (e : MeritEvaluation) → (advance r e) .kind ≡ r
 unfolding advance
 kind-advance r e = refl
 
-pub record-admitted : (job : Job) → (admitted job) .job ≡ recordOf job
-unfolding admitted
-record-admitted job = refl
-
-pub record-advance : (r : Row) (e : MeritEvaluation) → (advance r e) .job ≡ r .job
-unfolding advance
-record-advance r e = refl
-
 pub turns-admitted : (job : Job) → (admitted job) .turns ≡ 0
 unfolding admitted
 turns-admitted job = refl

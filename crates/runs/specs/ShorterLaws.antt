@@ -15,7 +15,9 @@ use Rattle.jobs.specs.declared.types.Method.{Method}
 use Rattle.jobs.specs.declared.types.Method.the-variants.{Damped}
 use Rattle.runs.specs.Run.{Run, done, ask, bind, value, value-bind}
 use Rattle.runs.specs.Zeros.{zeroJacobian}
-use Rattle.runs.specs.DampedRun.{Optimizer, Current, After, on, resultOf, counted, raised, pPlus, pMinus, prescPlus, prescMinus, denom, withDifferences, columns, isStationary, ifStationary, isSolved, candidateParams, testPresc, isReduction, relImprovement, accepted, ifReduced, ifSolved, attempts, iteration, goingOn, iterations, damped}
+use Rattle.runs.specs.DampedRun.{Optimizer, Current, After, on, resultOf, counted, raised, pPlus, pMinus, prescPlus, prescMinus, denom, withDifferences}
+use Rattle.runs.specs.DampedRun.{columns, isStationary, ifStationary, isSolved, candidateParams, testPresc, isReduction, relImprovement, accepted}
+use Rattle.runs.specs.DampedRun.{ifReduced, ifSolved, attempts, iteration, goingOn, iterations, damped}
 use Rattle.runs.specs.JobRun.{Result, baseOf, run, runBy}
 use Rattle.runs.specs.JobMerit.{evaluateOf}
 use Rattle.runs.specs.TurnLaws.{merit-finite}

@@ -17,7 +17,9 @@ use Rattle.merit.specs.declared.types.MeritEvaluation.{MeritEvaluation}
 use Rattle.runs.specs.Run.{Surfaces, Run, bind, value, value-bind}
 use Rattle.runs.specs.Zeros.{zeroJacobian}
 use Rattle.runs.specs.Ends.{Ends-value}
-use Rattle.runs.specs.DampedRun.{Optimizer, Current, After, on, over, stateOf, currentMerit, counted, raised, settled, columns, isStationary, ifStationary, isSolved, candidateParams, testPresc, isReduction, moved, accepted, ifReduced, ifSolved, attempts, iteration, goingOn, iterations}
+use Rattle.runs.specs.DampedRun.{Optimizer, Current, After, on, over, stateOf, currentMerit, counted, raised, settled, columns, isStationary}
+use Rattle.runs.specs.DampedRun.{ifStationary, isSolved, candidateParams, testPresc, isReduction, moved, accepted, ifReduced, ifSolved, attempts}
+use Rattle.runs.specs.DampedRun.{iteration, goingOn, iterations}
 use Rattle.runs.specs.DampedEnds.{ends-iterations}
 use Rattle.runs.specs.RunEnds.{FiniteAnswer}
 use Rattle.runs.specs.Prefix.{iterations-add}

@@ -9,7 +9,8 @@ use Rattle.jobs.specs.declared.types.Job.{Job}
 use Rattle.jobs.specs.declared.types.Method.{Method}
 use Rattle.optics.specs.Check.{surfacesTaken}
 use Rattle.runs.specs.State.{State}
-use Rattle.runs.specs.Damage.{lastPhase, isPhase, usesCurrent, usesBest, takenIf, surfacesSound, iterationLimit, trialLimit, cycleLimit, stepLimit, upTo, countersSound, stateSound}
+use Rattle.runs.specs.Damage.{lastPhase, isPhase, usesCurrent, usesBest, takenIf, surfacesSound, iterationLimit, trialLimit, cycleLimit, stepLimit, upTo}
+use Rattle.runs.specs.Damage.{countersSound, stateSound}
 
 -- ---- tests joined
 if-used : (used taken : Bool) → T (not used || taken) → T used → T taken

@@ -24,7 +24,8 @@ use Rattle.runs.specs.Zeros.{zeroJacobian}
 use Rattle.runs.specs.DampedRun.{Optimizer, Current, testPresc, denom, withDifferences, candidateParams}
 use Rattle.runs.specs.DampedRow.{phaseOf, advance, isFinished}
 use Rattle.runs.specs.DampedInvariant.{Invariant, Before, keeps}
-use Rattle.runs.specs.Unused.{ZeroFrom, ZeroSurfaces, ZeroJacobian, CleanEvaluation, CleanCurrent, CleanDamped, isFirst, isPlus, isMinus, isCandidate, isEnded}
+use Rattle.runs.specs.Unused.{ZeroFrom, ZeroSurfaces, ZeroJacobian, CleanEvaluation, CleanCurrent, CleanDamped, isFirst, isPlus, isMinus, isCandidate}
+use Rattle.runs.specs.Unused.{isEnded}
 
 -- eight numbers, of which those past p are zero where the other rule's are
 pub eight-zero : (v : VariableSet) (f rest : ℕ → Float) → ((i : ℕ) → numActive v ≤ i → i < 8 → rest i ≡ zero64) → ZeroFrom (numActive v) 8 (eight v f rest)

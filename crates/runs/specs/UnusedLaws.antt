@@ -23,7 +23,8 @@ use Rattle.runs.specs.declared.types.Row.{Row}
 use Rattle.runs.specs.Run.{Surfaces}
 use Rattle.runs.specs.MultiStartRun.{some, isLower, merged, trialPresc, afterDraws}
 use Rattle.runs.specs.Zeros.{zeroResult}
-use Rattle.runs.specs.AnnealingRun.{Annealer, Walk, withRng, cooled, ifBest, prob, moved, accepted, ifDrawn, ifNotRisen, judged, trialParams, started, polisher}
+use Rattle.runs.specs.AnnealingRun.{Annealer, Walk, withRng, cooled, ifBest, prob, moved, accepted, ifDrawn, ifNotRisen, judged, trialParams, started}
+use Rattle.runs.specs.AnnealingRun.{polisher}
 use Rattle.runs.specs.AnnealingRun as AnnealingRun
 use Rattle.runs.specs.JobRun.{baseOf, operandCountOf, optimizerOf, annealerOf}
 use Rattle.runs.specs.State.{State, stateOf}
@@ -35,7 +36,8 @@ use Rattle.runs.specs.AnnealingRow as AnnealingRow
 use Rattle.runs.specs.Rows.{jobOfRow, began, admitted, pendingSurfaces, advanceBy, advance, finishedBy, isFinished, resultBy, resultOf}
 use Rattle.runs.specs.RowLaws.{ReadBack, job-admitted, job-advance}
 use Rattle.runs.specs.Turned.{rowAfter, reached}
-use Rattle.runs.specs.Unused.{ZeroFrom, ZeroSurfaces, CleanEvaluation, CleanResult, CleanWalk, CleanDamped, isFirst, isPlus, isMinus, isCandidate, isEnded, CleanState, inDamped, inBase, inTrials, atEnd, isWalkFirst, isWalk, inPolish, Clean}
+use Rattle.runs.specs.Unused.{ZeroFrom, ZeroSurfaces, CleanEvaluation, CleanResult, CleanWalk, CleanDamped, isFirst, isPlus, isMinus, isCandidate}
+use Rattle.runs.specs.Unused.{isEnded, CleanState, inDamped, inBase, inTrials, atEnd, isWalkFirst, isWalk, inPolish, Clean}
 use Rattle.runs.specs.UnusedDamped.{eight-zero, zero-extracted, clean-advance}
 
 -- what a job as kept has: nothing past its surfaces, to which applying its variables keeps to, and no more operands than there is room for

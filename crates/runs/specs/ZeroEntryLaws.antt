@@ -30,10 +30,12 @@ use Rattle.runs.specs.State.{State, stateOf, withBest}
 use Rattle.runs.specs.Turned.{rowAfter}
 use Rattle.runs.specs.Zeros.{zeroSurfaces, zeroOperands, zeroParams, zeroResult}
 use Rattle.runs.specs.Damage.{usesCurrent, usesBest}
-use Rattle.runs.specs.Unused.{ZeroFrom, ZeroSurfaces, ZeroJacobian, CleanCurrent, CleanResult, CleanDamped, isFirst, isPlus, isMinus, isCandidate, isEnded, CleanState, inDamped, inBase, inTrials, atEnd, isWalkFirst, isWalk, inPolish, Clean}
+use Rattle.runs.specs.Unused.{ZeroFrom, ZeroSurfaces, ZeroJacobian, CleanCurrent, CleanResult, CleanDamped, isFirst, isPlus, isMinus, isCandidate}
+use Rattle.runs.specs.Unused.{isEnded, CleanState, inDamped, inBase, inTrials, atEnd, isWalkFirst, isWalk, inPolish}
 use Rattle.runs.specs.UnusedDamped.{zero-jacobian}
 use Rattle.runs.specs.UnusedLaws.{Kept, CleanAnswer, unused-zero}
-use Rattle.runs.specs.ZeroEntries.{inUse, ZeroUnless, NoneUnless, inLoops, hasMerit, filledColumns, ZeroDamped, ZeroBest, keepsResult, keepsFirst, ZeroState, ZeroEntries}
+use Rattle.runs.specs.ZeroEntries.{inUse, ZeroUnless, NoneUnless, inLoops, hasMerit, filledColumns, ZeroDamped, ZeroBest, keepsResult, keepsFirst}
+use Rattle.runs.specs.ZeroEntries.{ZeroState, ZeroEntries}
 
 -- ---- arrays that are all zero
 no-surfaces : (k : ℕ) → ZeroSurfaces k zeroSurfaces

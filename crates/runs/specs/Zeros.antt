@@ -5,7 +5,6 @@ use lib.Ieee.{Float}
 use Rattle.floats.specs.Constants.{zero64}
 use Rattle.optics.specs.Types.{zeroSurface}
 use Rattle.optics.specs.declared.types.OpticalSurface.{OpticalSurface}
-use Rattle.merit.specs.declared.types.MeritEvaluation.{MeritEvaluation}
 use Rattle.runs.specs.declared.types.OptimizationResult.{OptimizationResult}
 
 abbrev pub zeroSurfaces : List OpticalSurface
@@ -20,9 +19,6 @@ zeroParams = replicate 8 zero64
 
 abbrev pub zeroJacobian : List Float
 zeroJacobian = replicate 96 zero64
-
-abbrev pub zeroEvaluation : MeritEvaluation
-zeroEvaluation = record { values = zeroOperands; residuals = zeroOperands; «total_merit» = zero64 }
 
 abbrev pub zeroResult : OptimizationResult
 zeroResult = record {

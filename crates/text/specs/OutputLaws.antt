@@ -9,7 +9,7 @@ use lib.ListN.{length, take, getD, length-append}
 use lib.Seq.{take-suc}
 use borrow.Author.Tests.{le-leb}
 use Rattle.text.specs.declared.output.Waiting.{Waiting}
-use Rattle.text.specs.Output.{withBytes, clipped, added, addedAll, after, total, Onward, Put, blank, floatText, floatTexts}
+use Rattle.text.specs.Output.{withBytes, clipped, added, addedAll, total, Onward, Put, blank, floatText, floatTexts}
 
 pub added-append : (room : ℕ) (held : List ℕ) (ts us : List (List ℕ)) → addedAll room held (ts ++ us) ≡ addedAll room (addedAll room held ts) us
 unfolding addedAll

@@ -1,7 +1,7 @@
 // One variable and one value: the quantity that it names, read and stored.
 ghost use mathlib.Core.Path.{_≡_};
 ghost use Rattle.optics.specs.Types.{noSurface};
-ghost use Rattle.variables.specs.Kinds.{surfaceIndex, quantityOf, valueOf, applyClamp, radiusOf, withValue};
+ghost use Rattle.variables.specs.Kinds.{surfaceIndex, quantityOf, applyClamp, radiusOf, withValue};
 use crate::types::VariableType;
 use optics::OpticalSurface;
 

@@ -1,6 +1,6 @@
 -- `benchcalls::admission::admit_record_row` meets its contract. Assumes nothing.
 use borrow.Author.Tests.{not-true, not-false}
-use mathlib.Core.Path.{_≡_, sym, ap, _∙_}
+use mathlib.Core.Path.{sym, _∙_}
 use Rattle.benchcalls.specs.Admission.{recordRowOf}
 use borrow.Author.Needs.{needs}
 use Rattle.benchcalls.proofs.admission.admit_record_row.Statement.{statement}

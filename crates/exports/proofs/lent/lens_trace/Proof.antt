@@ -56,7 +56,7 @@ use Rattle.jobs.proofs.types.JobRecord as J
 use Rattle.jobs.proofs.types.JobRecord.Laws as J′
 use Rattle.lists.proofs.Answered.{Callee, answered, shown, named}
 use Rattle.lists.proofs.Proved.{proved}
-use Rattle.exports.specs.Lenses.{lensOf, numberOf, traceRecordNumber}
+use Rattle.exports.specs.Lenses.{lensOf, numberOf}
 use Rattle.exports.proofs.lenses.lens_of as reading
 use Rattle.exports.proofs.lenses.lens_of.Symbol as reading-def
 use Rattle.exports.proofs.lenses.lens_of.Symbol.{name as #reading}

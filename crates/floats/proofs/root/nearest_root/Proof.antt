@@ -2,7 +2,7 @@
 use Prim.Native.Nat.{_≤_, _^_}
 use native.Mathlib.Omega.{arith}
 use borrow.Author.Needs.{needs}
-use Rattle.floats.proofs.Aims.{reached, nearer}
+use Rattle.floats.proofs.Mends.{reached, nearer}
 use Rattle.floats.proofs.root.nearest_root.Statement.{statement}
 use Rattle.floats.proofs.root.nearest_root.Tie as tie
 
@@ -15,11 +15,11 @@ abbrev μ-loop : tie.MeasureT-loop
 loop-holds : tie.Need-loop-holds Inv-loop μ-loop
 loop-holds c = omega arith
 
-aim-requires : tie.Need-aim-requires Inv-loop μ-loop
-aim-requires c κs = search needs
+mend-requires : tie.Need-mend-requires Inv-loop μ-loop
+mend-requires c κs = search needs
 
 returns : tie.Need-returns Inv-loop μ-loop
-returns c = let n = c .before .aim .result in reached _ _ (n .q) (n .done) (c .if1 .taken) (c .before .aim .ensures)
+returns c = let n = c .before .mend .result in reached _ _ (n .q) (n .done) (c .if1 .taken) (c .before .mend .ensures)
 
 sub-left : tie.Need-sub-left Inv-loop μ-loop
 sub-left c = search needs
@@ -29,8 +29,8 @@ loop-less c = search needs
 
 loop-again : tie.Need-loop-again Inv-loop μ-loop
 loop-again c =
-    let n = c .before .aim .result in
-    let k = nearer _ _ (n .q) (n .done) (c .if1 .left) (c .before .aim .ensures) in
+    let n = c .before .mend .result in
+    let k = nearer _ _ (n .q) (n .done) (c .if1 .left) (c .before .mend .ensures) in
     (k .some, k .most)
 
 rounded-root-requires : tie.Need-rounded-root-requires Inv-loop μ-loop
@@ -46,7 +46,7 @@ nearest-root-spec =
     Inv-loop
     μ-loop
     loop-holds
-    aim-requires
+    mend-requires
     returns
     sub-left
     loop-less

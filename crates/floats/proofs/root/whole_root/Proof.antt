@@ -1,13 +1,12 @@
 -- `floats::root::whole_root` meets its contract. The loop's invariant: q * q is at most the number, and (q + 2 ^ k) ^ 2 is above it. Assumes nothing.
-use mathlib.Core.Path.{_≡_, refl, sym, ap, _∙_, subst}
+use mathlib.Core.Path.{_≡_, sym, ap, _∙_, subst}
 use Prim.Native.Nat.{ℕ, zero, suc, _+_, _-_, _*_, _%_, _^_, _≤_, _<_}
 use native.Mathlib.Nat.{pow-succ'}
 use native.Mathlib.Omega.{arith}
-use borrow.Author.Needs.{needs}
 use borrow.Author.Tests.{leb-true, leb-false}
 use lib.Dec.{leb}
 use lib.Pow.{pow-mono}
-use mathlib.Core.Bool.{Bool, true, false}
+use mathlib.Core.Bool.{true, false}
 use Rattle.floats.specs.Steps.{Whole}
 use Rattle.floats.proofs.root.whole_root.Statement.{statement}
 use Rattle.floats.proofs.root.whole_root.Tie as tie

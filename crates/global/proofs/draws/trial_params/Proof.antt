@@ -6,7 +6,8 @@ use native.Mathlib.Omega.{arith}
 use lib.ListN.{getD}
 use lib.Ieee.{Float, nan, binary64, add, sub, mul}
 use Rattle.floats.specs.Basic.{clampOf}
-use Rattle.runs.specs.AnnealingRun.{trialParams, half, tenth}
+use Rattle.floats.specs.Constants.{half64}
+use Rattle.runs.specs.AnnealingRun.{trialParams, tenth}
 use borrow.Author.Needs.{needs}
 use Rattle.lists.specs.Tab.{tab}
 use Rattle.xorshift.specs.Xorshift.{stepTimes}
@@ -19,7 +20,7 @@ use Rattle.global.proofs.draws.trial_params.Statement.{statement}
 use Rattle.global.proofs.draws.trial_params.Tie as tie
 
 abbrev Inv-loop : tie.InvT-loop
-Inv-loop generator counts numbers params count x₀ rng₀ q₀ i₀ x rng q i = Drawing (variablesFrom counts numbers) (λ (d : VariableDef) (k : ℕ) (unit : Float). clampOf (add binary64 (getD params k nan) (mul binary64 (mul binary64 (sub binary64 unit half) tenth) (sub binary64 (d .«max_value») (d .«min_value»)))) (d .«min_value») (d .«max_value»)) rng₀ x₀ x rng q i × (count ≡ variableCountFrom counts)
+Inv-loop generator counts numbers params count x₀ rng₀ q₀ i₀ x rng q i = Drawing (variablesFrom counts numbers) (λ (d : VariableDef) (k : ℕ) (unit : Float). clampOf (add binary64 (getD params k nan) (mul binary64 (mul binary64 (sub binary64 unit half64) tenth) (sub binary64 (d .«max_value») (d .«min_value»)))) (d .«min_value») (d .«max_value»)) rng₀ x₀ x rng q i × (count ≡ variableCountFrom counts)
 
 abbrev μ-loop : tie.MeasureT-loop
 μ-loop generator counts numbers params count x₀ rng₀ q₀ i₀ x rng q i = count - i
@@ -68,7 +69,7 @@ loop-again c =
     let e = ap (λ (d : VariableDef). d .enabled) (c .before .variable-at .ensures) in
     let h : c .before .before .before .loop .i < variableCountFrom (x .counts .now) = omega (arith, c .before .before .loop-test .taken, c .before .before .before .loop .inv .1) in
     ⊎-elim
-    (λ w. (draw-more (c .before .before .before .loop .inv .0) _ _ _ _ _ (search needs) (search needs) h (sym e ∙ w .0 .taken) (w .1 .ensures) (w .4 .ensures ∙ ap (λ (d : VariableDef). clampOf (add binary64 (getD (x .t4) (c .before .before .before .loop .q) nan) (mul binary64 (mul binary64 (sub binary64 (w .1 .result .unit) half) tenth) (sub binary64 (d .«max_value») (d .«min_value»)))) (d .«min_value») (d .«max_value»)) (c .before .variable-at .ensures)) (w .5) (w .6) (w .7), c .before .before .before .loop .inv .1))
+    (λ w. (draw-more (c .before .before .before .loop .inv .0) _ _ _ _ _ (search needs) (search needs) h (sym e ∙ w .0 .taken) (w .1 .ensures) (w .4 .ensures ∙ ap (λ (d : VariableDef). clampOf (add binary64 (getD (x .t4) (c .before .before .before .loop .q) nan) (mul binary64 (mul binary64 (sub binary64 (w .1 .result .unit) half64) tenth) (sub binary64 (d .«max_value») (d .«min_value»)))) (d .«min_value») (d .«max_value»)) (c .before .variable-at .ensures)) (w .5) (w .6) (w .7), c .before .before .before .loop .inv .1))
     (λ w. (draw-past (c .before .before .before .loop .inv .0) _ _ _ h (sym e ∙ w .0 .left) (w .1) (w .2) (w .3), c .before .before .before .loop .inv .1))
     (c .if1 .came)
 

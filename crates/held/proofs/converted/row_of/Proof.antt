@@ -1,7 +1,5 @@
 -- `held::converted::row_of` meets its contract. Assumes nothing.
-use mathlib.Core.Path.{_≡_, ap, _∙_}
-use native.Mathlib.Omega.{arith}
-use lib.ListN.{length}
+use mathlib.Core.Path.{_∙_}
 use Rattle.held.specs.RowFrom.{dampedFrom, resultFrom}
 use borrow.Author.Needs.{needs}
 use Rattle.held.proofs.converted.row_of.Statement.{statement}

@@ -1,9 +1,8 @@
 -- `held::read::all_indices` meets its contract: the loop's invariant: the indices passed stand. Assumes nothing.
-use mathlib.Core.Path.{_≡_, refl, sym, ap, _∙_}
-use mathlib.Core.List.{List, [], _∷_, _++_}
-use Prim.Native.Nat.{ℕ, _+_, _*_, _-_, _≤_}
+use mathlib.Core.Path.{_≡_, refl}
+use mathlib.Core.List.{_++_}
+use Prim.Native.Nat.{ℕ, _-_, _≤_}
 use native.Mathlib.Omega.{arith}
-use borrow.Author.Needs.{needs}
 use lib.Ieee.{nan}
 use lib.ListN.{getD, drop}
 use Rattle.lists.specs.Tab.{tab, tab-step, tab-full}

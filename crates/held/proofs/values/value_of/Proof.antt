@@ -1,7 +1,6 @@
 -- `held::values::value_of` meets its contract. Assumes nothing.
 use mathlib.Core.Path.{sym, ap, _∙_}
 use lib.ListN.{List·getD-eq-default}
-use native.Mathlib.Omega.{arith}
 use Rattle.optics.specs.Types.{noSurface, surfaceAt}
 use Rattle.optics.specs.declared.types.OpticalSurface.{OpticalSurface}
 use Rattle.variables.specs.Kinds.{quantityOf, surfaceIndex}

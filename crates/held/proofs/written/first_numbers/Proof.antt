@@ -1,6 +1,5 @@
 -- `held::written::first_numbers` meets its contract. Assumes nothing.
 use mathlib.Core.Path.{refl}
-use native.Mathlib.Omega.{arith}
 use Rattle.held.specs.Places.{pupilAt, minValueAt}
 use Rattle.held.specs.Written.{pupilAndSettings}
 use Rattle.held.specs.WrittenLaws.{front-more}

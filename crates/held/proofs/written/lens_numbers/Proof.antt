@@ -3,12 +3,11 @@ use mathlib.Core.List.{append-nil}
 use lib.Seq.{take-at, take-set-le}
 use Rattle.held.specs.WrittenLaws.{entry-more}
 use mathlib.Core.Path.{_≡_, refl, sym, ap, _∙_}
-use mathlib.Core.List.{List, [], _∷_, _++_}
-use Prim.Native.Nat.{ℕ, _+_, _*_, _-_, _≤_}
+use mathlib.Core.List.{List, _++_}
+use Prim.Native.Nat.{ℕ, _+_, _-_, _≤_}
 use native.Mathlib.Omega.{arith}
 use borrow.Author.Needs.{needs}
-use mathlib.Core.List.{append-assoc, append-nil}
-use native.Mathlib.Numerals.{add-one}
+use mathlib.Core.List.{append-nil}
 use lib.Ieee.{Float, nan}
 use lib.ListN.{length, getD, take, length-set}
 use lib.Seq.{take-at}
@@ -16,7 +15,6 @@ use Rattle.lists.specs.Tab.{tab}
 use Rattle.optics.specs.Flat.{laidFlat}
 use Rattle.optics.specs.FlatLaws.{length-laid}
 use Rattle.held.specs.Places.{indexAt}
-use Rattle.held.specs.WrittenLaws.{front-more}
 use Rattle.held.proofs.written.lens_numbers.Statement.{statement}
 use Rattle.held.proofs.written.lens_numbers.Tie as tie
 

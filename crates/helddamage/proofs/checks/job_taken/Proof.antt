@@ -1,19 +1,17 @@
 -- `helddamage::checks::job_taken` meets its contract: each arm returns what the tests that led there make of `recordTaken`. Assumes nothing.
-use mathlib.Core.Path.{_≡_, refl, sym, ap, _∙_}
-use mathlib.Core.Bool.{Bool, true, false, not, _&&_, _||_}
+use mathlib.Core.Path.{sym, ap, _∙_}
+use mathlib.Core.Bool.{not, _&&_}
 use Prim.Native.Nat.{ℕ}
-use native.Mathlib.Omega.{arith}
 use borrow.Author.Tests.{not-true, not-false}
 use lib.Dec.{eqb}
 use borrow.Author.Tests.{eq-eqb, ne-eqb}
-use Rattle.optics.specs.Check.{lensTaken}
 use Rattle.variables.specs.Active.{numActive}
 use Rattle.variables.specs.Taken.{variablesTaken}
 use Rattle.merit.specs.Check.{operandsTaken}
 use Rattle.jobs.specs.Checks.{settingsTaken}
 use Rattle.jobs.specs.Counts.{counts}
 use Rattle.jobs.specs.Records.{method, knownVariables, knownOperands}
-use Rattle.held.specs.JobFrom.{surfaceCountFrom, slotCountFrom, operandCountFrom, settingsFrom, jobRecordFrom, heldJob, prescriptionFrom, variablesFrom, operandsFrom}
+use Rattle.held.specs.JobFrom.{surfaceCountFrom, slotCountFrom, operandCountFrom, settingsFrom, jobRecordFrom, heldJob, variablesFrom, operandsFrom}
 use Rattle.helddamage.specs.Verdicts.{record-is, above-zero}
 use borrow.Author.Needs.{needs}
 use Rattle.helddamage.proofs.checks.job_taken.Statement.{statement}

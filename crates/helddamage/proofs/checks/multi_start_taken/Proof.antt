@@ -4,7 +4,6 @@ use mathlib.Core.Path.{sym, ap, _∙_}
 use mathlib.Core.Bool.{Bool, _&&_}
 use lib.Dec.{leb}
 use borrow.Author.Tests.{not-true, not-false}
-use Rattle.jobs.specs.declared.types.DlsConfig.{DlsConfig}
 use Rattle.jobs.specs.Checks.{dlsTaken, multiStartTaken, countTaken}
 use Rattle.held.specs.JobFrom.{numTrialsFrom}
 use borrow.Author.Needs.{needs}

@@ -2,14 +2,13 @@
 use mathlib.Core.Path.{sym, ap, _∙_}
 use mathlib.Core.Path.{_≡_, refl}
 use Prim.Native.Nat.{ℕ, _<_, _≤_, _-_}
-use mathlib.Core.Bool.{Bool, true, false, _&&_}
+use mathlib.Core.Bool.{true, _&&_}
 use native.Mathlib.Omega.{arith}
 use borrow.Author.Needs.{needs}
 use borrow.Author.Tests.{not-true, not-false}
 use Rattle.lists.specs.All.{allBelow, all-more, not-all}
 use Rattle.merit.specs.OperandTable.{operandAt}
 use Rattle.merit.specs.Check.{operandTaken}
-use Rattle.merit.specs.declared.types.MeritOperand.{MeritOperand}
 use Rattle.jobs.specs.Entries.{operandKnown}
 use Rattle.jobs.specs.Records.{operandRecordAt}
 use Rattle.held.specs.EntryLaws.{operand-record}

@@ -1,8 +1,8 @@
 -- `helddamage::checks::surfaces_taken` meets its contract: the loop's invariant: every surface passed is taken. Assumes nothing.
 use mathlib.Core.Path.{sym, ap, _∙_}
 use mathlib.Core.Path.{_≡_, refl}
-use Prim.Native.Nat.{ℕ, _<_, _≤_, _-_}
-use mathlib.Core.Bool.{Bool, true, false, _&&_}
+use Prim.Native.Nat.{ℕ, _≤_, _-_}
+use mathlib.Core.Bool.{true}
 use native.Mathlib.Omega.{arith}
 use borrow.Author.Needs.{needs}
 use borrow.Author.Tests.{not-true, not-false}

@@ -2,14 +2,13 @@
 use mathlib.Core.Path.{sym, ap, _∙_}
 use mathlib.Core.Path.{_≡_, refl}
 use Prim.Native.Nat.{ℕ, _<_, _≤_, _-_}
-use mathlib.Core.Bool.{Bool, true, false, _&&_}
+use mathlib.Core.Bool.{true, _&&_}
 use native.Mathlib.Omega.{arith}
 use borrow.Author.Needs.{needs}
 use borrow.Author.Tests.{not-true, not-false}
 use Rattle.lists.specs.All.{allBelow, all-more, not-all}
 use Rattle.variables.specs.Active.{variableAt}
 use Rattle.variables.specs.Taken.{variableTaken, variablesTaken}
-use Rattle.variables.specs.declared.types.VariableDef.{VariableDef}
 use Rattle.jobs.specs.Entries.{variableKnown}
 use Rattle.jobs.specs.Records.{variableRecordAt}
 use Rattle.held.specs.EntryLaws.{variable-record}

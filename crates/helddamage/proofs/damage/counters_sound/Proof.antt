@@ -1,16 +1,14 @@
 -- `helddamage::damage::counters_sound` meets its contract: each arm returns what the tests that led there make of `countersSound`. Assumes nothing.
-use mathlib.Core.Path.{_≡_, refl, sym, ap, _∙_}
-use mathlib.Core.Bool.{Bool, true, false, not, _&&_, _||_}
+use mathlib.Core.Path.{sym, ap, _∙_}
+use mathlib.Core.Bool.{not, _&&_}
 use Prim.Native.Nat.{ℕ}
-use native.Mathlib.Omega.{arith}
-use borrow.Author.Tests.{not-true, not-false}
 use Prim.Native.Nat.{max}
 use lib.Dec.{ltb}
 use borrow.Author.Tests.{lt-ltb, le-ltb}
 use Rattle.jobs.specs.Records.{method}
 use Rattle.runs.specs.Damage.{iterationLimit, trialLimit, cycleLimit, stepLimit, countersSound}
 use Rattle.held.specs.JobFrom.{settingsFrom}
-use Rattle.held.specs.RowFrom.{kindFrom, iterationFrom, columnFrom, attemptFrom, trialFrom, cycleFrom, stepFrom}
+use Rattle.held.specs.RowFrom.{kindFrom, iterationFrom, attemptFrom, trialFrom, cycleFrom, stepFrom}
 use borrow.Author.Needs.{needs}
 use Rattle.helddamage.proofs.damage.counters_sound.Statement.{statement}
 use Rattle.helddamage.proofs.damage.counters_sound.Tie as tie

@@ -1,15 +1,11 @@
 -- `helddamage::damage::is_damaged` meets its contract: each arm returns what the tests that led there make of `damaged`. Assumes nothing.
-use mathlib.Core.Path.{_≡_, refl, sym, ap, _∙_}
-use mathlib.Core.Bool.{Bool, true, false, not, _&&_, _||_}
+use mathlib.Core.Path.{sym, ap, _∙_}
+use mathlib.Core.Bool.{not}
 use Prim.Native.Nat.{ℕ}
 use native.Mathlib.Omega.{arith}
 use borrow.Author.Tests.{not-true, not-false}
 use mathlib.Core.Bool.{and-eq-true-iff}
-use mathlib.Core.Path.{subst}
-use Prim.Native.Nat.{_≤_}
 use lib.Dec.{ltb}
-use lib.Ieee.{Float}
-use mathlib.Core.List.{List}
 use borrow.Author.Tests.{lt-ltb, le-ltb}
 use Rattle.variables.specs.ActiveLaws.{count-le}
 use Rattle.jobs.specs.Checks.{jobTaken, recordTaken}
@@ -18,9 +14,9 @@ use Rattle.jobs.specs.Records.{method, knownKinds}
 use Rattle.runs.specs.Rows.{finishedBy, boundBy}
 use Rattle.runs.specs.Rows as Rows
 use Rattle.runs.specs.Damage.{isKind}
-use Rattle.kinds.specs.Limits.{CountsWithin, taken-within}
+use Rattle.kinds.specs.Limits.{taken-within}
 use Rattle.held.specs.JobFrom.{variableCountFrom, settingsFrom, jobRecordFrom, heldJob, variablesFrom}
-use Rattle.held.specs.RowFrom.{kindFrom, turnsFrom}
+use Rattle.held.specs.RowFrom.{kindFrom}
 use Rattle.helddamage.specs.Others.{stateWith}
 use Rattle.helddamage.specs.Verdicts.{counts-refused, within-any, no-kind, no-job, no-state, at-end, before-end}
 use borrow.Author.Needs.{needs}

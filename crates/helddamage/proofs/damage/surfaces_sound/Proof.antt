@@ -1,8 +1,7 @@
 -- `helddamage::damage::surfaces_sound` meets its contract. Assumes nothing.
-use mathlib.Core.Path.{_≡_, refl, sym, ap, _∙_}
-use mathlib.Core.Bool.{Bool, true, false, not, _&&_, _||_}
+use mathlib.Core.Path.{sym, ap, _∙_}
+use mathlib.Core.Bool.{Bool, _&&_}
 use Prim.Native.Nat.{ℕ}
-use native.Mathlib.Omega.{arith}
 use borrow.Author.Tests.{not-true, not-false}
 use Rattle.jobs.specs.Records.{method}
 use Rattle.runs.specs.Damage.{usesCurrent, usesBest, takenIf, surfacesSound}

@@ -1,9 +1,6 @@
 -- `helddamage::damage::taken_if` meets its contract. Assumes nothing.
-use mathlib.Core.Path.{_≡_, refl, sym, ap, _∙_}
-use mathlib.Core.Bool.{Bool, true, false, not, _&&_, _||_}
-use Prim.Native.Nat.{ℕ}
-use native.Mathlib.Omega.{arith}
-use borrow.Author.Tests.{not-true, not-false}
+use mathlib.Core.Path.{sym, ap, _∙_}
+use mathlib.Core.Bool.{Bool, _||_}
 use Rattle.optics.specs.Check.{surfacesTaken}
 use Rattle.held.specs.JobFrom.{standing}
 use borrow.Author.Needs.{needs}

@@ -2,9 +2,9 @@
 use mathlib.Core.Path.{sym, ap, _∙_}
 use Rattle.kinds.specs.Methods.{is-damped, is-multi-start, is-annealing}
 use Rattle.jobs.specs.declared.types.Method.{Method}
-use mathlib.Core.Path.{_≡_, subst}
+use mathlib.Core.Path.{subst}
 use mathlib.Core.List.{[]}
-use Prim.Native.Nat.{ℕ, _+_, _*_, _≤_}
+use Prim.Native.Nat.{ℕ, _+_, _*_}
 use native.Mathlib.Omega.{arith}
 use Rattle.runs.specs.Rows.{dampedBound, boundBy}
 use Rattle.kinds.specs.Limits.{CountsWithin}

@@ -1,5 +1,5 @@
 -- `helddamage::limits::last_phase` meets its contract: an arm for each kind. Assumes nothing.
-use mathlib.Core.Path.{sym, ap, _∙_}
+use mathlib.Core.Path.{sym, ap}
 use Rattle.kinds.specs.Methods.{is-damped, is-multi-start, is-annealing}
 use Rattle.runs.specs.Damage.{lastPhase}
 use Rattle.helddamage.proofs.limits.last_phase.Statement.{statement}

@@ -1,16 +1,13 @@
 -- `heldmerit::evaluation::merit_of` meets its contract: the loop's invariant: the terms of the values passed are added. Assumes nothing.
-use mathlib.Core.Path.{_≡_, refl, sym, ap, _∙_}
-use mathlib.Core.List.{List, _++_}
+use mathlib.Core.Path.{_≡_, refl, ap, _∙_}
 use native.Mathlib.Omega.{arith}
-use Prim.Native.Nat.{ℕ, _<_, _≤_, _-_}
-use lib.Ieee.{Float, nan}
-use lib.ListN.{getD, drop}
+use Prim.Native.Nat.{_≤_, _-_}
+use lib.Ieee.{nan}
+use lib.ListN.{getD}
 use borrow.Author.Needs.{needs}
 use Rattle.merit.specs.declared.types.MeritOperand.{MeritOperand}
-use Rattle.merit.specs.OperandTable.{operandAt}
 use Rattle.optics.specs.Types.{surfaceAt, slotIndex}
 use Rattle.runs.specs.JobMerit.{evaluateOf}
-use Rattle.runs.specs.Run.{Surfaces}
 use Rattle.held.specs.JobFrom.{surfaceCountFrom, operandCountFrom, pupilFrom, indicesFrom, operandsFrom}
 use Rattle.merit.specs.Evaluation.{term, countedTotal}
 use Rattle.merit.proofs.Evaluating.{term-is}

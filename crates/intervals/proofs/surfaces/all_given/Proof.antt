@@ -1,12 +1,11 @@
 -- `intervals::surfaces::all_given` meets its contract. Assumes nothing.
-use mathlib.Core.Path.{_≡_, sym, ap, _∙_}
+use mathlib.Core.Path.{_≡_, sym, _∙_}
 use Prim.Native.Nat.{ℕ, _≤_, _-_}
-use mathlib.Core.Bool.{Bool, true, not, _&&_}
+use mathlib.Core.Bool.{Bool, true}
 use borrow.Author.Tests.{not-true, not-false}
 use borrow.Author.Needs.{needs}
 use native.Mathlib.Omega.{arith}
 use Rattle.lists.specs.All.{allBelow, all-more, not-all}
-use Rattle.intervals.specs.Interval.{endsFinite}
 use Rattle.intervals.specs.Calls.{thicknessAt, givenTaken, allGiven}
 use Rattle.intervals.proofs.surfaces.all_given.Statement.{statement}
 use Rattle.intervals.proofs.surfaces.all_given.Tie as tie

@@ -9,8 +9,11 @@ use Rattle.merit.proofs.calls.evaluated.Tie as tie
 evaluate-number-requires : tie.Need-evaluate-number-requires
 evaluate-number-requires c κs = search needs
 
+zero-evaluation-requires : tie.Need-zero-evaluation-requires
+zero-evaluation-requires c κs = search needs
+
 returns : tie.Need-returns
-returns c = evaluated-refused _ _ _ (c .before .evaluate-number .ensures) (c .if1 .taken)
+returns c = rw (c .zero-evaluation .ensures) (evaluated-refused _ _ _ (c .before .before .evaluate-number .ensures) (c .before .if1 .taken))
 
 lens-evaluation-requires : tie.Need-lens-evaluation-requires
 lens-evaluation-requires c κs = evaluable _ _ (sym (c .before .evaluate-number .ensures) ∙ none _ (c .if1 .left))
@@ -20,4 +23,4 @@ returns-2 c = evaluated-done _ _ _ (c .before .before .evaluate-number .ensures)
 
 pub evaluated-spec : {M : Type 1} → statement M
 evaluated-spec =
-    tie.close (tie.spec evaluate-number-requires returns lens-evaluation-requires returns-2)
+    tie.close (tie.spec evaluate-number-requires zero-evaluation-requires returns lens-evaluation-requires returns-2)

@@ -6,7 +6,6 @@ use Rattle.floats.specs.BasicLaws.{differs}
 use Rattle.floats.specs.Constants.{zero64, one64}
 use Rattle.floats.specs.Sqrt.{sqrtOf}
 use Rattle.merit.specs.Edges.{sagOf}
-use Rattle.merit.specs.declared.types.Sag.{Sag}
 use Rattle.merit.specs.declared.types.Sag.the-variants.{Is, Missing}
 use borrow.Author.Needs.{needs}
 use Rattle.merit.proofs.edges.sag_of.Statement.{statement}

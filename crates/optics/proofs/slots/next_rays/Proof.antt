@@ -1,5 +1,5 @@
 -- `optics::slots::next_rays` meets its contract. The loop's invariant: the rays of the slots passed are those behind the surface, and the others are as they came. Assumes nothing.
-use mathlib.Core.Path.{_≡_, _∙_, ap}
+use mathlib.Core.Path.{_≡_}
 use mathlib.Core.List.{_++_}
 use Prim.Native.Nat.{ℕ, _≤_, _-_}
 use lib.ListN.{length, getD, drop}

@@ -1,6 +1,5 @@
 -- `records::requests::request_of` meets its contract. Assumes nothing.
 use Rattle.records.specs.Requests.{requestOf}
-use Rattle.jobs.specs.declared.types.Job.{Job}
 use borrow.Author.Needs.{needs}
 use Rattle.records.proofs.requests.request_of.Statement.{statement}
 use Rattle.records.proofs.requests.request_of.Tie as tie

@@ -3,7 +3,6 @@ use mathlib.Core.Path.{_≡_, refl}
 use mathlib.Core.Bool.{not}
 use lib.Dec.{T}
 use lib.Ieee.{Float, nan, inf, fin, binary64, isNan, toBits}
-use borrow.Author.Needs.{needs}
 use Rattle.text.specs.Numbers.{bitsOf}
 use Rattle.text.proofs.Nan.{is-nan, is-number}
 use Rattle.text.proofs.numbers.bits_of.Statement.{statement}

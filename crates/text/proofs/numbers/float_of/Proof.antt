@@ -1,7 +1,7 @@
 -- `text::numbers::float_of` meets its contract: the patterns above the infinity's, the sign's bit taken off, are the NaN's, and `ofBits` reads each as `nan`.
 -- Assumes nothing.
 use mathlib.Core.Path.{_≡_, refl, sym, _∙_, subst}
-use mathlib.Core.Bool.{Bool, true, false, not, false≢true}
+use mathlib.Core.Bool.{Bool, true, not, false≢true}
 use lib.Dec.{T}
 use lib.Ieee.{Float, nan, inf, fin, binary64, isNan, ofBits, div}
 use lib.Ieee.Bits.{nanBits-above, nanBits-is}

@@ -11,7 +11,6 @@ use Rattle.turns.proofs.Laid.{operands-known, lies, behind-kept}
 use Rattle.held.specs.JobFrom.{standing, surfaceCountFrom, heldJob}
 use Rattle.held.specs.RowFrom.{stateFrom}
 use Rattle.runs.specs.JobMerit.{evaluateOf}
-use borrow.Author.Needs.{needs}
 use Rattle.turns.proofs.turn.turned.Statement.{statement}
 use Rattle.turns.proofs.turn.turned.Tie as tie
 

@@ -1,11 +1,11 @@
--- A step of `aim` goes toward the number that is sought. Assumes nothing.
+-- A step of `mend` goes toward the number that is sought. Assumes nothing.
 use mathlib.Core.Path.{_≡_, subst}
 use Prim.Native.Nat.{ℕ, _+_, _-_, _*_, _^_, _≤_, _<_, suc}
 use native.Mathlib.Nat.{lt-of-not-le}
 use native.Mathlib.Omega.{arith}
 use mathlib.Core.Bool.{Bool, true, false, true≢false, false≢true}
 use Rattle.floats.specs.Sqrt.{nearestRoot}
-use Rattle.floats.specs.Steps.{Whole, Nears, apart, Closer, Aimed}
+use Rattle.floats.specs.Steps.{Whole, Nears, apart, Closer, Mended}
 use Rattle.floats.specs.RootLaws.{step-le, nearest-law, too-low, too-high, nears-most, nears-least}
 
 module _ (w q : ℕ) (least : 2 ^ 104 ≤ w) (most : w < 2 ^ 106) where
@@ -45,11 +45,11 @@ rounds w q r least most some whole c = subst (λ (x : ℕ). Nears w x) (let n = 
         let b : Q < suc (q + 1) = lt-of-not-le (λ (l : suc (q + 1) ≤ Q). no-more Q (n .over) (step-le (q + 1) Q l) (whole .high)) in
         (omega arith, omega arith)
 
--- ---- what `aim` says, by its flag
-pub reached : (w q r : ℕ) (b : Bool) → b ≡ true → Aimed w q r b → Nears w q
+-- ---- what `mend` says, by its flag
+pub reached : (w q r : ℕ) (b : Bool) → b ≡ true → Mended w q r b → Nears w q
 reached w q r true e a = a
 reached w q r false e a = absurd (false≢true e)
 
-pub nearer : (w q r : ℕ) (b : Bool) → b ≡ false → Aimed w q r b → Closer w q r
+pub nearer : (w q r : ℕ) (b : Bool) → b ≡ false → Mended w q r b → Closer w q r
 nearer w q r true e a = absurd (true≢false e)
 nearer w q r false e a = a
