@@ -40,7 +40,7 @@ pub(crate) fn answer_call(
             bench,
             line,
             number,
-            cursor::spoilt(Cursor::new(0), Why::Kind),
+            cursor::out_of_form(Cursor::new(0), Why::Kind),
         ),
     }
 }

@@ -8,7 +8,7 @@ use Rattle.jobs.specs.declared.types.NumberSetting as number-setting
 use Rattle.jobs.specs.declared.types.MethodRequest.the-variants.{Damped, MultiStart, Annealing}
 use Rattle.text.specs.declared.cursor.Cursor.{Cursor}
 use Rattle.text.specs.declared.cursor.Why.the-variants.{Kind}
-use Rattle.text.specs.Cursor.{numberFrom, floatFrom, pastTag, spoiltBy}
+use Rattle.text.specs.Cursor.{numberFrom, floatFrom, pastTag, outOfForm}
 use Rattle.joblines.specs.declared.settings.CountRead.{CountRead}
 use Rattle.joblines.specs.declared.settings.NumberSettingRead.{NumberSettingRead}
 use Rattle.joblines.specs.declared.settings.DlsRead.{DlsRead}
@@ -91,4 +91,4 @@ unfoldable pub methodFrom : List ℕ → Cursor → (kind : ℕ) → MethodRead
 methodFrom line c kind =
     cond (eqb kind 1) (dampedMethodFrom line c)
     (cond (eqb kind 2) (multiStartFrom line c)
-    (cond (eqb kind 3) (annealingFrom line c) (dampedMethodFrom line (spoiltBy Kind c))))
+    (cond (eqb kind 3) (annealingFrom line c) (dampedMethodFrom line (outOfForm Kind c))))

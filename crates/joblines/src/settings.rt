@@ -184,6 +184,6 @@ pub(crate) fn read_method(line: &[u8], c: Cursor, kind: u64) -> MethodRead
         1 => read_damped_method(line, c),
         2 => read_multi_start(line, c),
         3 => read_annealing(line, c),
-        _ => read_damped_method(line, cursor::spoilt(c, Why::Kind)),
+        _ => read_damped_method(line, cursor::out_of_form(c, Why::Kind)),
     }
 }

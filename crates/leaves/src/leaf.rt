@@ -48,7 +48,7 @@ fn reply_to(line: &[u8], w: Word) -> Reply
     if check::same(name, b"CLAMP") {
         return clamp(line, c);
     }
-    Reply::Unknown(cursor::spoilt(Cursor::new(0), Why::Kind))
+    Reply::Unknown(cursor::out_of_form(Cursor::new(0), Why::Kind))
 }
 
 // E x
@@ -136,7 +136,7 @@ fn clamp(line: &[u8], c: Cursor) -> Reply {
             apply_clamp(x.value, lo.value, hi.value),
         )
     } else {
-        Reply::Unknown(cursor::spoilt(lo.next, Why::Range))
+        Reply::Unknown(cursor::out_of_form(lo.next, Why::Range))
     }
 }
 

@@ -23,17 +23,17 @@ abbrev pub movedTo : ℕ → Cursor → Cursor
 movedTo to c = cond (c .«is_good») (record { at = to; «is_good» = true; why = c .why }) c
 
 -- left for good before the first field that is out of form, with what is wrong there
-abbrev pub spoiltBy : Why → Cursor → Cursor
-spoiltBy why c = cond (c .«is_good») (record { at = c .at; «is_good» = false; why = why }) c
+abbrev pub outOfForm : Why → Cursor → Cursor
+outOfForm why c = cond (c .«is_good») (record { at = c .at; «is_good» = false; why = why }) c
 
 -- what a field gives to a cursor that stands before it
 abbrev pub numberRead : Why → Cursor → number-field.NumberField → NumberRead
 numberRead why c (number-field.the-variants.Is x to) = record { value = x; next = movedTo to c }
-numberRead why c number-field.the-variants.Bad = record { value = 0; next = spoiltBy why c }
+numberRead why c number-field.the-variants.Bad = record { value = 0; next = outOfForm why c }
 
 abbrev pub floatRead : Cursor → float-field.FloatField → FloatRead
 floatRead c (float-field.the-variants.Is x to) = record { value = x; next = movedTo to c }
-floatRead c float-field.the-variants.Bad = record { value = ofBits binary64 0; next = spoiltBy NoHex c }
+floatRead c float-field.the-variants.Bad = record { value = ofBits binary64 0; next = outOfForm NoHex c }
 
 -- a number in a base from where a cursor stands, and one in decimal
 abbrev pub numberFrom : (base : ℕ) → List ℕ → Cursor → NumberRead
@@ -46,7 +46,7 @@ decimalFrom line c = numberFrom 10 line c
 abbrev pub withinFrom : (low high : ℕ) → Why → List ℕ → Cursor → NumberRead
 withinFrom low high why line c =
     let r = decimalFrom line c in
-    cond (r .next .«is_good») (cond (between low high (r .value)) r (record { value = r .value; next = spoiltBy why c })) r
+    cond (r .next .«is_good») (cond (between low high (r .value)) r (record { value = r .value; next = outOfForm why c })) r
 
 -- a float, by its bits in hexadecimal, from where a cursor stands
 abbrev pub floatFrom : List ℕ → Cursor → FloatRead
@@ -65,7 +65,7 @@ floatAt line c i = floatFrom line (pastFloats line c i) .value
 abbrev pub pastTag : List ℕ → Cursor → List ℕ → Cursor
 pastTag line c name =
     let w = wordFrom line (c .at) in
-    cond (sameText (textOf line w) name) (movedTo (w .to) c) (spoiltBy Another c)
+    cond (sameText (textOf line w) name) (movedTo (w .to) c) (outOfForm Another c)
 
 -- past the next word, whatever it is
 abbrev pub pastWord : List ℕ → Cursor → Cursor

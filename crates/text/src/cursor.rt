@@ -6,7 +6,8 @@ ghost use mathlib.Core.List.{_++_};
 ghost use lib.ListN.{length, drop};
 ghost use Rattle.lists.specs.Tab.{tab};
 ghost use Rattle.text.specs.Words.{between};
-ghost use Rattle.text.specs.Cursor.{newCursor, movedTo, spoiltBy, numberRead, numberFrom, decimalFrom, withinFrom, floatRead, floatFrom, pastFloats, floatAt, pastTag, pastWord, doneWith};
+ghost use Rattle.text.specs.Cursor.{newCursor, movedTo, outOfForm, numberRead, numberFrom, decimalFrom, withinFrom, floatRead, floatFrom, pastFloats};
+ghost use Rattle.text.specs.Cursor.{floatAt, pastTag, pastWord, doneWith};
 use crate::fields;
 use crate::fields::FloatField;
 use crate::fields::NumberField;
@@ -62,8 +63,8 @@ pub struct FloatRead {
 }
 
 // A cursor that stays before the field that is out of form.
-pub fn spoilt(c: Cursor, why: Why) -> Cursor
-    ensures { λ r. ⌜ r ≡ spoiltBy why c ⌝ }
+pub fn out_of_form(c: Cursor, why: Why) -> Cursor
+    ensures { λ r. ⌜ r ≡ outOfForm why c ⌝ }
 {
     if c.is_good {
         return Cursor {
@@ -99,7 +100,7 @@ fn number_read(f: NumberField, c: Cursor, why: Why) -> NumberRead
         },
         NumberField::Bad => NumberRead {
             value: 0,
-            next: spoilt(c, why),
+            next: out_of_form(c, why),
         },
     }
 }
@@ -114,7 +115,7 @@ fn float_read(f: FloatField, c: Cursor) -> FloatRead
         },
         FloatField::Bad => FloatRead {
             value: 0.0,
-            next: spoilt(c, Why::NoHex),
+            next: out_of_form(c, Why::NoHex),
         },
     }
 }
@@ -145,7 +146,7 @@ pub fn within(line: &[u8], c: Cursor, low: u64, high: u64, why: Why) -> NumberRe
     }
     NumberRead {
         value: r.value,
-        next: spoilt(c, why),
+        next: out_of_form(c, why),
     }
 }
 
@@ -190,7 +191,7 @@ pub fn tag(line: &[u8], c: Cursor, name: &[u8]) -> Cursor
     if check::same(&line[from..to], name) {
         return moved(c, to);
     }
-    spoilt(c, Why::Another)
+    out_of_form(c, Why::Another)
 }
 
 // Past a word that may be any.

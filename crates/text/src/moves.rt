@@ -54,18 +54,18 @@ pub(crate) fn read_some(room: &mut [u8]) -> Moved
     failed(b"standard input")
 }
 
-// One write: as much as is taken at the moment.
+// One write: as much as the system takes at the moment.
 fn write_some(text: &[u8]) -> Moved
     ensures { λ r. ⌜ r .bytes ≤ length (now (text .entry)) ⌝ }
 {
-    let taken = libc::write(STDOUT_FILENO, text);
-    if taken > 0 {
+    let sent = libc::write(STDOUT_FILENO, text);
+    if sent > 0 {
         return Moved {
-            bytes: io::count(taken, text),
+            bytes: io::count(sent, text),
             is_good: true,
         };
     }
-    if taken < 0 && is_passing() {
+    if sent < 0 && is_passing() {
         pause();
         return Moved {
             bytes: 0,

@@ -15,8 +15,8 @@ read-multi-start-requires c κs = search needs
 read-annealing-requires : tie.Need-read-annealing-requires
 read-annealing-requires c κs = search needs
 
-spoilt-requires : tie.Need-spoilt-requires
-spoilt-requires c κs = search needs
+out-of-form-requires : tie.Need-out-of-form-requires
+out-of-form-requires c κs = search needs
 
 read-damped-method-requires-2 : tie.Need-read-damped-method-requires-2
 read-damped-method-requires-2 c κs = search needs
@@ -37,7 +37,7 @@ returns-4 : tie.Need-returns-4
 unfolding methodFrom
 returns-4 c =
     let r = c .before .before .match .rest in
-    simp (ne-eqb _ _ (r .0 .0 .1), ne-eqb _ _ (r .0 .1), ne-eqb _ _ (r .1)) (c .read-damped-method2 .ensures ∙ ap (dampedMethodFrom (c .before .before .before .before .args .line .now)) (c .before .spoilt .ensures))
+    simp (ne-eqb _ _ (r .0 .0 .1), ne-eqb _ _ (r .0 .1), ne-eqb _ _ (r .1)) (c .read-damped-method2 .ensures ∙ ap (dampedMethodFrom (c .before .before .before .before .args .line .now)) (c .before .out-of-form .ensures))
 
 pub read-method-spec : {M : Type 1} → statement M
 read-method-spec =
@@ -46,7 +46,7 @@ read-method-spec =
     read-damped-method-requires
     read-multi-start-requires
     read-annealing-requires
-    spoilt-requires
+    out-of-form-requires
     read-damped-method-requires-2
     returns
     returns-2

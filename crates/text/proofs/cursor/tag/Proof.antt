@@ -11,7 +11,7 @@ use Rattle.text.specs.declared.cursor.Why.the-variants.{Another}
 use Rattle.text.specs.declared.words.Word.{Word}
 use Rattle.text.specs.Fields.{textOf}
 use Rattle.text.specs.Words.{wordFrom, sameText}
-use Rattle.text.specs.Cursor.{movedTo, spoiltBy, pastTag}
+use Rattle.text.specs.Cursor.{movedTo, outOfForm, pastTag}
 use Rattle.text.proofs.cursor.tag.Statement.{statement}
 use Rattle.text.proofs.cursor.tag.Tie as tie
 
@@ -42,12 +42,12 @@ module _ (line : List ℕ) (from : Cursor) (name : List ℕ) {w : Word} (is : w 
   past : textOf line w ≡ name → r ≡ movedTo (w .to) from → r ≡ pastTag line from name
   past e m =
       let same : sameText (textOf line w) name ≡ true = ap (λ (t : List ℕ). sameText t name) e ∙ same-self name in
-      subst (λ (v : Word). r ≡ cond (sameText (textOf line v) name) (movedTo (v .to) from) (spoiltBy Another from)) is (simp same m)
+      subst (λ (v : Word). r ≡ cond (sameText (textOf line v) name) (movedTo (v .to) from) (outOfForm Another from)) is (simp same m)
 
-  not-past : (textOf line w ≡ name → ⊥) → r ≡ spoiltBy Another from → r ≡ pastTag line from name
+  not-past : (textOf line w ≡ name → ⊥) → r ≡ outOfForm Another from → r ≡ pastTag line from name
   not-past n s =
       let other : sameText (textOf line w) name ≡ false = differ (textOf line w) name n in
-      subst (λ (v : Word). r ≡ cond (sameText (textOf line v) name) (movedTo (v .to) from) (spoiltBy Another from)) is (simp other s)
+      subst (λ (v : Word). r ≡ cond (sameText (textOf line v) name) (movedTo (v .to) from) (outOfForm Another from)) is (simp other s)
 
 next-word-requires : tie.Need-next-word-requires
 next-word-requires c κs = search needs
@@ -70,11 +70,11 @@ moved-requires c κs = search needs
 returns : tie.Need-returns
 returns c = past (c .before .before .before .before .before .before .before .args .line .now) (c .before .before .before .before .before .before .before .args .c) (c .before .before .before .before .before .before .before .args .name .now) (c .before .before .before .before .next-word .ensures .1 .1) (c .before .before .same .ensures .0 (c .before .if1 .taken)) (c .moved .ensures)
 
-spoilt-requires : tie.Need-spoilt-requires
-spoilt-requires c κs = search needs
+out-of-form-requires : tie.Need-out-of-form-requires
+out-of-form-requires c κs = search needs
 
 returns-2 : tie.Need-returns-2
-returns-2 c = not-past (c .before .before .before .before .before .before .before .args .line .now) (c .before .before .before .before .before .before .before .args .c) (c .before .before .before .before .before .before .before .args .name .now) (c .before .before .before .before .next-word .ensures .1 .1) (λ e. true≢false (sym (c .before .before .same .ensures .1 e) ∙ c .before .if1 .left)) (c .spoilt .ensures)
+returns-2 c = not-past (c .before .before .before .before .before .before .before .args .line .now) (c .before .before .before .before .before .before .before .args .c) (c .before .before .before .before .before .before .before .args .name .now) (c .before .before .before .before .next-word .ensures .1 .1) (λ e. true≢false (sym (c .before .before .same .ensures .1 e) ∙ c .before .if1 .left)) (c .out-of-form .ensures)
 
 pub tag-spec : {M : Type 1} → statement M
 tag-spec =
@@ -87,5 +87,5 @@ tag-spec =
     same-requires
     moved-requires
     returns
-    spoilt-requires
+    out-of-form-requires
     returns-2)
