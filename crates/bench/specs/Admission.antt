@@ -33,18 +33,26 @@ pub record Admissible (job : Job) : Type 0 where
   pub full : FullJob (recordOf job)
 
 -- admit's list is the job's, with the place behind the counts, and whether it is taken at the end
-pub admit-list : (place : ℕ) (r : JobRequest) (b : Bool) → admitRefusals place r b ≡ refusal 1 (countsWrong (filled r)) ∷ refusal 2 (noPlace place) ∷ (behind 1 (admissionRefusals r) ++ (refusal 10 b ∷ []))
+pub admit-list : (place : ℕ) (r : JobRequest) (b : Bool)
+    → admitRefusals place r b ≡ refusal 1 (countsWrong (filled r)) ∷ refusal 2 (noPlace place) ∷ (behind 1 (admissionRefusals r) ++ (refusal 10 b ∷ []))
 admit-list place r b = refl
 
 pub passed-request : (place : ℕ) (r : JobRequest) (b : Bool) → NoneOf (admitRefusals place r b) → firstRefusal (admissionRefusals r) ≡ 0
-passed-request place r b n = not-refused (filled r) .1 (none-of (admitRefusals place r b) 1 n, none-front (behind 1 (admissionRefusals r)) (refusal 10 b ∷ []) (subst NoneOf (admit-list place r b) n .1 .1))
+passed-request place r b n =
+    not-refused (filled r) .1 (none-of (admitRefusals place r b) 1 n, none-front (behind 1 (admissionRefusals r)) (refusal 10 b ∷ []) (subst NoneOf (admit-list place r b) n .1 .1))
 
 -- a job as kept has every entry
 full-record : (j : Job) → FullJob (recordOf (keptJob j))
 full-record j = record { surfaces = length-tab _ 16; indices = length-tab _ 64; variables = length-tab _ 8; operands = length-tab _ 12 }
 
 pub admissible : (r : JobRequest) → firstRefusal (admissionRefusals r) ≡ 0 → Admissible (jobFrom r)
-admissible r e = record { back = request-back r; taken = admitted-taken r e; kept = request-kept r e; clean = record-clean (filled r); full = full-record (filled r) }
+admissible r e = record {
+  back = request-back r;
+  taken = admitted-taken r e;
+  kept = request-kept r e;
+  clean = record-clean (filled r);
+  full = full-record (filled r);
+}
 
 -- its record holds known kinds
 pub kinds-known : (job : Job) → Admissible job → T (knownKinds (recordOf job))

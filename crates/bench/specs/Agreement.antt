@@ -38,11 +38,13 @@ pub record Agree (b : Bench) (k : Book) : Type 0 where
 -- ---- numbers: what is asked of the state, on either side
 state-number : (v w d f g : Bool) (n : ℕ) → v ≡ w → (w ≡ false → d ≡ false) → (w ≡ false → f ≡ g) → cond v 11 (cond d 12 (cond f n 0)) ≡ cond w 11 (cond g n 0)
 state-number v true d f g n e s h = ap (λ (b : Bool). cond b 11 (cond d 12 (cond f n 0))) e
-state-number v false d f g n e s h = ap (λ (b : Bool). cond b 11 (cond d 12 (cond f n 0))) e ∙ ap (λ (b : Bool). cond b 12 (cond f n 0)) (s refl) ∙ ap (λ (b : Bool). cond b n 0) (h refl)
+state-number v false d f g n e s h =
+    ap (λ (b : Bool). cond b 11 (cond d 12 (cond f n 0))) e ∙ ap (λ (b : Bool). cond b 12 (cond f n 0)) (s refl) ∙ ap (λ (b : Bool). cond b n 0) (h refl)
 
 module _ (b : Bench) (k : Book) (a : Agree b k) where
   pub alike-at : (place : ℕ) → Alike (rowAt b place) (entryAt k place)
-  alike-at place = pair-getD {R = λ (h : HeldRow) (e : Entry). Alike (rowFrom h) e} noRow empty (pair-map (λ h e k. alike (rowFrom h) e (k .row)) (a .places)) alike-past place
+  alike-at place =
+      pair-getD {R = λ (h : HeldRow) (e : Entry). Alike (rowFrom h) e} noRow empty (pair-map (λ h e k. alike (rowFrom h) e (k .row)) (a .places)) alike-past place
 
   pub kept-at : (place : ℕ) → place < 4 → Kept (heldAt b place) (entryAt k place)
   kept-at place h = pair-at noRow empty (a .places) place (subst (λ (n : ℕ). place < n) (sym (a .four)) h)
@@ -75,7 +77,8 @@ module _ (b : Bench) (k : Book) (a : Agree b k) where
   fetched-same m zero r s e h = ap (λ (m : ℕ). fetchedUnless m r) e ∙ ap fetched (h refl)
   fetched-same m (suc n) r s e h = ap (λ (m : ℕ). fetchedUnless m r) e
 
-  fetch-answer : (place : ℕ) → fetchedUnless (Calls.fetchNumber b place) (Rows.resultOf (rowAt b place)) ≡ fetchedUnless (Book.fetchNumber k place) (resultOf (entryAt k place))
+  fetch-answer : (place : ℕ)
+      → fetchedUnless (Calls.fetchNumber b place) (Rows.resultOf (rowAt b place)) ≡ fetchedUnless (Book.fetchNumber k place) (resultOf (entryAt k place))
   fetch-answer place = fetched-same _ _ _ _ (fetch-number place) done
     where
       done : Book.fetchNumber k place ≡ 0 → Rows.resultOf (rowAt b place) ≡ resultOf (entryAt k place)
@@ -86,7 +89,8 @@ module _ (b : Bench) (k : Book) (a : Agree b k) where
           h .result there (h .finished there ∙ not-false (isFinished (entryAt k place)) (none-of (Book.fetchRefusals k place) 14 n))
 
   -- ---- the places listed
-  listed-by : (v d f : Bool) (e : Entry) → v ≡ isEmpty e → (isEmpty e ≡ false → d ≡ false) → (isEmpty e ≡ false → f ≡ isFinished e) → not v && not d && f ≡ isFinished e
+  listed-by : (v d f : Bool) (e : Entry) → v ≡ isEmpty e → (isEmpty e ≡ false → d ≡ false) → (isEmpty e ≡ false → f ≡ isFinished e)
+      → not v && not d && f ≡ isFinished e
   listed-by v d f empty e s h = ap (λ (b : Bool). not b && not d && f) e
   listed-by v d f (holds job count) e s h = ap (λ (b : Bool). not b && not d && f) e ∙ ap (λ (b : Bool). not b && f) (s refl) ∙ h refl
 

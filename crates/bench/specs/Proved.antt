@@ -85,7 +85,8 @@ record-after : (job : Job) → Admissible job → (count : ℕ) → CleanRecord 
 unfolding Rows.admitted Rows.advance
 record-after job a count = reached (evaluateOf job) (λ (r : Row). CleanRecord (r .kind) (r .job)) job (a .clean) (λ r u h. h) count
 
-pending-evaluable : (job : Job) → Admissible job → (count : ℕ) → Rows.isFinished (rowAfter (evaluateOf job) count job) ≡ false → evaluateNumber (lensWith job (pendingSurfaces (rowAfter (evaluateOf job) count job))) (job .«merit_function») ≡ 0
+pending-evaluable : (job : Job) → Admissible job → (count : ℕ) → Rows.isFinished (rowAfter (evaluateOf job) count job) ≡ false
+    → evaluateNumber (lensWith job (pendingSurfaces (rowAfter (evaluateOf job) count job))) (job .«merit_function») ≡ 0
 pending-evaluable job a count u =
     let r = rowAfter (evaluateOf job) count job in
     evaluable job a (pendingSurfaces r) (subst (λ (j : Job). T (surfacesTaken (pendingSurfaces r) (j .prescription .«surface_count»))) (job-after (evaluateOf job) job (a .back) count) (pending-checked r (undamaged job a count) u))
@@ -120,11 +121,13 @@ entry-said : (r s : Row) (d e : Entry) → r ≡ s → SamePlace r d → SamePla
 entry-said r s empty empty p h g = refl
 entry-said r s empty (holds job count) p h g = absurd (vacant-not r s job count p h g)
 entry-said r s (holds job count) empty p h g = absurd (vacant-not s r job count (sym p) g h)
-entry-said r s (holds i m) (holds j n) p h g = λ t. holds ((sym (h .sameJob) ∙ ap jobOfRow p ∙ g .sameJob) t) ((sym (h .turns) ∙ ap (λ (r : Row). r .turns) p ∙ g .turns) t)
+entry-said r s (holds i m) (holds j n) p h g =
+    λ t. holds ((sym (h .sameJob) ∙ ap jobOfRow p ∙ g .sameJob) t) ((sym (h .turns) ∙ ap (λ (r : Row). r .turns) p ∙ g .turns) t)
 
 module _ (some others : List Call) where
   entries-equal : SameBench (benchAfter some) (benchAfter others) → (place : ℕ) → place < 4 → entryAt (bookAfter some) place ≡ entryAt (bookAfter others) place
-  entries-equal p place h = entry-said _ _ (entryAt (bookAfter some) place) (entryAt (bookAfter others) place) (ap (λ (rows : List HeldRow). rowFrom (getD rows place noRow)) p) (same-place some place h) (same-place others place h)
+  entries-equal p place h =
+      entry-said _ _ (entryAt (bookAfter some) place) (entryAt (bookAfter others) place) (ap (λ (rows : List HeldRow). rowFrom (getD rows place noRow)) p) (same-place some place h) (same-place others place h)
 
   rows-equal : ((place : ℕ) → place < 4 → entryAt (bookAfter some) place ≡ entryAt (bookAfter others) place) → SameBench (benchAfter some) (benchAfter others)
   rows-equal q =
@@ -147,7 +150,8 @@ same-jobs a b e =
     same-exactly a b (not-false (countsTaken (filled a)) (none-of (admissionRefusals a) 1 (not-refused (filled a) .0 e)))
 
 -- ---- one call on any bench
-one-merit : (b : Bench) (place n : ℕ) → turnNumber b place n ≡ 0 → benchStep b (turn place n) ≡ withRow b place (Rows.advance (rowAt b place) (evaluateOf (jobOfRow (rowAt b place)) (pendingSurfaces (rowAt b place))))
+one-merit : (b : Bench) (place n : ℕ) → turnNumber b place n ≡ 0
+    → benchStep b (turn place n) ≡ withRow b place (Rows.advance (rowAt b place) (evaluateOf (jobOfRow (rowAt b place)) (pendingSurfaces (rowAt b place))))
 unfolding benchStep turned
 one-merit b place n e = ap (λ (m : ℕ). unlessRefused m (withRow b place (turned (rowAt b place))) b) e
 
@@ -180,7 +184,8 @@ turns-bounded f job back (suc k) = go (Rows.isFinished (rowAfter f k job)) refl 
   where
     go : (b : Bool) → Rows.isFinished (rowAfter f k job) ≡ b → rowAfter f k job .turns ≤ bound job → turnedUnless f b (rowAfter f k job) .turns ≤ bound job
     go true e h = h
-    go false e h = subst (λ (n : ℕ). n ≤ bound job) (sym (turns-advance (rowAfter f k job) (f (pendingSurfaces (rowAfter f k job))) ∙ ap suc (turns-after f job k e))) (unfinished-below f job back k e)
+    go false e h =
+        subst (λ (n : ℕ). n ≤ bound job) (sym (turns-advance (rowAfter f k job) (f (pendingSurfaces (rowAfter f k job))) ∙ ap suc (turns-after f job k e))) (unfinished-below f job back k e)
 
 -- what a place's row says of its entry
 abbrev Bounded : Entry → Type 0
@@ -189,10 +194,12 @@ Bounded (holds job count) = (count ≤ bound job) × Admissible job
 
 bounded-by : (r : Row) (e : Entry) → KeptRow r e → Bounded e
 bounded-by r empty h = tt
-bounded-by r (holds job count) h = (subst (λ (n : ℕ). n ≤ bound job) (ap (λ (r : Row). r .turns) (sym (h .row)) ∙ h .turns) (turns-bounded (evaluateOf job) job (h .admissible .back) count), h .admissible)
+bounded-by r (holds job count) h =
+    (subst (λ (n : ℕ). n ≤ bound job) (ap (λ (r : Row). r .turns) (sym (h .row)) ∙ h .turns) (turns-bounded (evaluateOf job) job (h .admissible .back) count), h .admissible)
 
 bounded-at : (calls : List Call) (place : ℕ) → Bounded (entryAt (bookAfter calls) place)
-bounded-at calls place = pair-getD {R = λ (h : HeldRow) (e : Entry). Bounded e} noRow empty (pair-map (λ h e k. bounded-by (rowFrom h) e (k .row)) (agree-after calls .places)) tt place
+bounded-at calls place =
+    pair-getD {R = λ (h : HeldRow) (e : Entry). Bounded e} noRow empty (pair-map (λ h e k. bounded-by (rowFrom h) e (k .row)) (agree-after calls .places)) tt place
 
 run-ended : (job : Job) (count : ℕ) → bound job ≤ count → isDone (runAfter job count) ≡ true
 unfolding isDone
@@ -222,7 +229,8 @@ returned-by : (e : Entry) (r : Result) → isEmpty e ≡ false → Bounded e →
 returned-by empty r t h p = absurd (true≢false t)
 returned-by (holds job count) r t h p = subst (Returned job) (sym p) (returned job (h .1))
 
-fetched-returned : (calls : List Call) (place : ℕ) (r : Result) → benchAnswer (benchAfter calls) (fetch place) ≡ fetched r → ReturnedBy (entryAt (bookAfter calls) place) r
+fetched-returned : (calls : List Call) (place : ℕ) (r : Result) → benchAnswer (benchAfter calls) (fetch place) ≡ fetched r
+    → ReturnedBy (entryAt (bookAfter calls) place) r
 unfolding bookAnswer
 fetched-returned calls place r e =
     let k = bookAfter calls in

@@ -52,7 +52,8 @@ module _ (job : Job) where
   abbrev come : Result
   come = value (evaluateOf job) (run job)
 
-  come-damped : (P : Result → Type 0) (config : DlsConfig) → job .method ≡ Damped config → P (value (evaluateOf job) (damped (optimizerOf job config) (baseOf job))) → P come
+  come-damped : (P : Result → Type 0) (config : DlsConfig) → job .method ≡ Damped config
+      → P (value (evaluateOf job) (damped (optimizerOf job config) (baseOf job))) → P come
   come-damped P config e h = subst P (sym (ap (value (evaluateOf job)) (run-damped config e))) h
 
   module _ (a : Admissible job) where

@@ -129,4 +129,5 @@ pub record Demand3 : Type 0 where
   pub annealingBound : (job : Job) (c : SimulatedAnnealingConfig) → job .method ≡ Annealing c →
       bound job ≡ 1 + c .«max_cooling_cycles» * c .«steps_per_temperature» + 1 + 25 * (2 * numActive (job .variables) + 10)
   -- ---- "its final merit finite, not above its first, and the merit of the surfaces returned"
-  pub results : (calls : List Call) (place : ℕ) (r : Result) → benchAnswer (benchAfter calls) (fetch place) ≡ fetched r → ReturnedBy (entryAt (bookAfter calls) place) r
+  pub results : (calls : List Call) (place : ℕ) (r : Result) → benchAnswer (benchAfter calls) (fetch place) ≡ fetched r
+      → ReturnedBy (entryAt (bookAfter calls) place) r

@@ -24,7 +24,8 @@ module _ (b : Bench) (place : ℕ) where
       request : JobRequest
       request = requestOf q
 
-      by : (t : Bool) → r ≡ cond t (firstRefusal (admitRefusals place request false)) 1 → (r ≡ cond t (admitNumber b place request) 1) × (b ≡ cond t (admittedBench b place request) b)
+      by : (t : Bool) → r ≡ cond t (firstRefusal (admitRefusals place request false)) 1
+          → (r ≡ cond t (admitNumber b place request) 1) × (b ≡ cond t (admittedBench b place request) b)
       by true e = (e ∙ admit-past b place h request .0, admit-past b place h request .1)
       by false e = (e, refl)
 

@@ -18,7 +18,8 @@ use Rattle.benchcalls.specs.declared.types.Played.{Played}
 abbrev pub answerOf : Played → BenchAnswer
 answerOf z = record { bench = z .bench; number = z .number }
 
-by-number : (m : ℕ) (b new : Bench) (s news : List Float) (z : Play) → z ≡ playOn m (played b 0 m s) (played (unlessRefused m new b) 1 0 (unlessRefused m news s))
+by-number : (m : ℕ) (b new : Bench) (s news : List Float) (z : Play)
+    → z ≡ playOn m (played b 0 m s) (played (unlessRefused m new b) 1 0 (unlessRefused m news s))
     → (answerOf (z .given) ≡ record { bench = unlessRefused m new b; number = m }) × (z .scratch ≡ unlessRefused m news s)
 by-number zero b new s news z e = ((λ k. answerOf (e k .given)), (λ k. e k .scratch))
 by-number (suc m) b new s news z e = ((λ k. answerOf (e k .given)), (λ k. e k .scratch))

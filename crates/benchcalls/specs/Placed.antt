@@ -86,7 +86,8 @@ module _ (b : Bench) (place : ℕ) where
         either true = refl
         either false = refl
 
-    pub admit-past : (request : JobRequest) → (firstRefusal (admitRefusals place request false) ≡ admitNumber b place request) × (b ≡ admittedBench b place request)
+    pub admit-past : (request : JobRequest)
+        → (firstRefusal (admitRefusals place request false) ≡ admitNumber b place request) × (b ≡ admittedBench b place request)
     unfolding admitNumber
     admit-past request =
         let taken = not (isVacant (rowAt b place)) in
@@ -143,13 +144,16 @@ module _ (b : Bench) (place : ℕ) where
     pub admitted-there : (request : JobRequest) (r : RowAnswer) → r ≡ admitRowOf (heldAt b place) place request →
         (r .number ≡ admitNumber b place request) × (withHeld b place (r .row) ≡ admittedBench b place request)
     unfolding admitRowOf
-    admitted-there request r a = placed (admitRowNumber (rowAt b place) place request) (admitNumber b place request) (admitted (jobFrom request)) r (admit-at request) a
+    admitted-there request r a =
+        placed (admitRowNumber (rowAt b place) place request) (admitNumber b place request) (admitted (jobFrom request)) r (admit-at request) a
 
-    pub released-there : (r : RowAnswer) → r ≡ releaseRowOf (heldAt b place) → (r .number ≡ releaseNumber b place) × (withHeld b place (r .row) ≡ releasedBench b place)
+    pub released-there : (r : RowAnswer) → r ≡ releaseRowOf (heldAt b place)
+        → (r .number ≡ releaseNumber b place) × (withHeld b place (r .row) ≡ releasedBench b place)
     unfolding releaseRowOf
     released-there r a = placed (firstRefusal (rowReleaseRefusals (rowAt b place))) (releaseNumber b place) zeroRow r release-at a
 
-    pub fetched-there : (old : Result) (r : Fetched) → r ≡ fetchRowOf (heldAt b place) old → (r .number ≡ fetchNumber b place) × (r .result ≡ fetchedResult b place old)
+    pub fetched-there : (old : Result) (r : Fetched) → r ≡ fetchRowOf (heldAt b place) old
+        → (r .number ≡ fetchNumber b place) × (r .result ≡ fetchedResult b place old)
     unfolding fetchRowOf
     fetched-there old r a = (
       ap (λ (z : Fetched). z .number) a ∙ sym fetch-at,

@@ -10,4 +10,5 @@ use Rattle.held.specs.JobFrom.{heldJob}
 
 -- every evaluation under the held job that has these values
 abbrev pub ForFound : (counts : List ℕ) (numbers found : List Float) → (MeritEvaluation → Type 0) → Type 0
-ForFound counts numbers found P = (kind : ℕ) (s : Surfaces) → found ≡ evaluateOf (heldJob counts numbers kind) s .values → P (evaluateOf (heldJob counts numbers kind) s)
+ForFound counts numbers found P =
+    (kind : ℕ) (s : Surfaces) → found ≡ evaluateOf (heldJob counts numbers kind) s .values → P (evaluateOf (heldJob counts numbers kind) s)

@@ -14,7 +14,8 @@ use optics::ParaxialRay;
 // The values, residuals and merit of the record's lens under its operands. 1, 3 and 5.
 #[no_mangle]
 pub extern "C" fn lens_evaluate(asked: &JobRecord, evaluation: &mut MeritEvaluation) -> u32
-    ensures { λ r. ⌜ (r ≡ evaluateRecordNumber (now (asked .entry))) × (now (evaluation .exit) ≡ evaluatedRecord (now (evaluation .entry)) (now (asked .entry))) ⌝ }
+    ensures { λ r.
+        ⌜ (r ≡ evaluateRecordNumber (now (asked .entry))) × (now (evaluation .exit) ≡ evaluatedRecord (now (evaluation .entry)) (now (asked .entry))) ⌝ }
 {
     let held = *asked;
     let e = lenses::evaluated(held);
@@ -28,7 +29,9 @@ pub extern "C" fn lens_evaluate(asked: &JobRecord, evaluation: &mut MeritEvaluat
 // The paraxial rays of the record's lens in a slot, one per surface. 1, 3 and 5, and 100 where there are fewer than two surfaces.
 #[no_mangle]
 pub extern "C" fn lens_trace(asked: &JobRecord, slot: usize, rays: &mut [ParaxialRay]) -> u32
-    ensures { λ r. ⌜ (r ≡ traceRecordNumber (now (asked .entry)) slot (length (now (rays .entry)))) × (now (rays .exit) ≡ tracedRays (lensOf (now (asked .entry))) slot (now (rays .entry))) ⌝ }
+    ensures { λ r.
+        ⌜ (r ≡ traceRecordNumber (now (asked .entry)) slot (length (now (rays .entry))))
+        × (now (rays .exit) ≡ tracedRays (lensOf (now (asked .entry))) slot (now (rays .entry))) ⌝ }
 {
     let held = *asked;
     let prescription = lenses::lens_of(held);
@@ -44,7 +47,9 @@ pub extern "C" fn lens_trace_limits(
     slot: usize,
     traced: &mut TraceLimits,
 ) -> u32
-    ensures { λ r. ⌜ (r ≡ limitsNumber (lensOf (now (asked .entry))) (now (limits .entry)) slot) × (now (traced .exit) ≡ limitsAs (now (traced .entry)) (lensOf (now (asked .entry))) (now (limits .entry)) slot) ⌝ }
+    ensures { λ r.
+        ⌜ (r ≡ limitsNumber (lensOf (now (asked .entry))) (now (limits .entry)) slot)
+        × (now (traced .exit) ≡ limitsAs (now (traced .entry)) (lensOf (now (asked .entry))) (now (limits .entry)) slot) ⌝ }
 {
     let held = *asked;
     let known = *limits;

@@ -24,7 +24,8 @@ length-inserted turns p (q ∷ qs) = go (ltb (turns p) (turns q)) (length-insert
     go true e = refl
     go false e = ap suc e
 
-behind-last : (turns : ℕ → ℕ) (done places : List ℕ) (p : ℕ) → orderedBehind turns done (places ++ (p ∷ [])) ≡ inserted turns p (orderedBehind turns done places)
+behind-last : (turns : ℕ → ℕ) (done places : List ℕ) (p : ℕ)
+    → orderedBehind turns done (places ++ (p ∷ [])) ≡ inserted turns p (orderedBehind turns done places)
 behind-last turns done [] p = refl
 behind-last turns done (q ∷ qs) p = behind-last turns (inserted turns q done) qs p
 
@@ -65,7 +66,8 @@ module _ (b : Bench) where
   chosen-append [] ys = refl
   chosen-append (x ∷ xs) ys = ap (λ (l : List ℕ). cond (test x) (x ∷ l) l) (chosen-append xs ys) ∙ either (test x)
     where
-      either : (b : Bool) → cond b (x ∷ (chosen test xs ++ chosen test ys)) (chosen test xs ++ chosen test ys) ≡ cond b (x ∷ chosen test xs) (chosen test xs) ++ chosen test ys
+      either : (b : Bool)
+          → cond b (x ∷ (chosen test xs ++ chosen test ys)) (chosen test xs ++ chosen test ys) ≡ cond b (x ∷ chosen test xs) (chosen test xs) ++ chosen test ys
       either true = refl
       either false = refl
 
@@ -123,10 +125,15 @@ module _ (b : Bench) where
 
       -- by the rows' turns, and by those of the four
       there : positionFrom (turnsIn (turnsOf b)) k places 0 count ≡ positionFrom turns k (filled turns k (found k)) 0 (length (found k))
-      there = (λ i. positionFrom (turnsIn (turnsOf b)) k (full i) 0 (sym (g .counted) i)) ∙ same-position b k h (filled turns k (found k)) within 0 (length (found k))
+      there =
+          (λ i. positionFrom (turnsIn (turnsOf b)) k (full i) 0 (sym (g .counted) i))
+          ∙ same-position b k h (filled turns k (found k)) within 0 (length (found k))
 
       whole : put k places count ≡ inserted turns k (found k) ++ replicate (4 - suc count) 0
-      whole = (λ i. openedAt (there i) k (full i)) ∙ put-in turns k (found k) short ∙ ap (λ (n : ℕ). inserted turns k (found k) ++ replicate (4 - suc n) 0) (g .counted)
+      whole =
+          (λ i. openedAt (there i) k (full i))
+          ∙ put-in turns k (found k) short
+          ∙ ap (λ (n : ℕ). inserted turns k (found k) ++ replicate (4 - suc n) 0) (g .counted)
 
   -- the same, of what a step leaves
   module _ {k : ℕ} {places places′ : List ℕ} {count count′ : ℕ} (h : k < 4) (g : Gathered k places count) where
@@ -142,4 +149,5 @@ module _ (b : Bench) where
   -- all four: the bench's listing
   pub gathered-all : (places : List ℕ) (count : ℕ) → Gathered 4 places count → record { places = places; count = count } ≡ listingOf b
   unfolding finishedPlaces
-  gathered-all places count g = λ i. record { places = (g .filled ∙ ap (λ (n : ℕ). finishedPlaces b ++ replicate (4 - n) 0) (sym (g .counted))) i; count = sym (g .counted) i }
+  gathered-all places count g =
+      λ i. record { places = (g .filled ∙ ap (λ (n : ℕ). finishedPlaces b ++ replicate (4 - n) 0) (sym (g .counted))) i; count = sym (g .counted) i }

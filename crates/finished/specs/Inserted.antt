@@ -77,7 +77,8 @@ module _ (turns : ℕ → ℕ) (p : ℕ) where
       go false = refl
   put-in (a ∷ b ∷ []) h = go (ltb (turns p) (turns a)) (ltb (turns p) (turns b))
     where
-      go : (x y : Bool) → openedAt (cond x 0 (cond y 1 2)) p (a ∷ b ∷ 0 ∷ 0 ∷ []) ≡ cond x (p ∷ a ∷ b ∷ []) (a ∷ cond y (p ∷ b ∷ []) (b ∷ p ∷ [])) ++ replicate 1 0
+      go : (x y : Bool)
+          → openedAt (cond x 0 (cond y 1 2)) p (a ∷ b ∷ 0 ∷ 0 ∷ []) ≡ cond x (p ∷ a ∷ b ∷ []) (a ∷ cond y (p ∷ b ∷ []) (b ∷ p ∷ [])) ++ replicate 1 0
       go true y = refl
       go false true = refl
       go false false = refl

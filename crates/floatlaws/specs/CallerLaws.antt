@@ -79,7 +79,8 @@ odd-number d s (suc q) k l = tt
 
 units-number : (f : Format) (s : Bool) (q k : ℕ) → Number (units f s q k)
 unfolding units isNan
-units-number f s q k = cond-number (ltb (q * 2 ^ k) (2 ^ (low f + suc (emax f)))) (odd (suc (prec f)) s q k (low f)) (inf s) (odd-number (suc (prec f)) s q k (low f)) tt
+units-number f s q k =
+    cond-number (ltb (q * 2 ^ k) (2 ^ (low f + suc (emax f)))) (odd (suc (prec f)) s q k (low f)) (inf s) (odd-number (suc (prec f)) s q k (low f)) tt
 
 pub round-number : (f : Format) (s : Bool) (a c : ℕ) → Number (round f s a c)
 round-number f s a c = subst Number (sym (round-is f s a c)) (units-number f s _ _)
@@ -91,7 +92,8 @@ quotient-number f (inf s) y p q n = absurd p
 quotient-number f (fin s m e) nan p q n = absurd q
 quotient-number f (fin s m e) (inf t) p q n = absurd q
 quotient-number f (fin s m e) (fin t zero d) p q n = absurd (subst (λ (b : Bool). T (not b)) (zero-is t d) n)
-quotient-number f (fin s m e) (fin t (suc k) d) p q n = subst Number (sym (no-zero (suc k) _ _ (zero-lt-suc k))) (round-number f (unlike s t) (m * up e * down d) (suc k * up d * down e))
+quotient-number f (fin s m e) (fin t (suc k) d) p q n =
+    subst Number (sym (no-zero (suc k) _ _ (zero-lt-suc k))) (round-number f (unlike s t) (m * up e * down d) (suc k * up d * down e))
 
 -- ---- equal numbers above zero have one root; +0.0 and -0.0 are equal, and each is its own
 same-quotient : (a b c p q : ℕ) → 0 < p → 0 < q → a * q ≡ b * p → a * c / p ≡ b * c / q
@@ -128,9 +130,12 @@ root-same (fin s m u) nan e p = absurd (false≢true e)
 root-same (fin s m u) (inf t) e p = absurd (false≢true e)
 root-same (fin true m u) (fin t n d) e p = absurd (false≢true p)
 root-same (fin false zero u) (fin t n d) e p = absurd (none-above (up u) (down u) (ltb-true _ _ p))
-root-same (fin false (suc m) u) (fin true n d) e p = absurd (no-nought (above m u d) (eqb→eq _ 0 (and-r (eqb (suc m * up u * down d) (n * up d * down u)) _ (is-so _ e))))
-root-same (fin false (suc m) u) (fin false zero d) e p = absurd (no-nought (above m u d) (level-same (suc m * up u * down d) (0 * up d * down u) _ (is-so _ e) ∙ nothing (up d) (down u)))
-root-same (fin false (suc m) u) (fin false (suc n) d) e p = ap (λ (k : ℕ). rootAt (k * 2 ^ 1074)) (same-quotient (suc m * up u) (suc n * up d) (2 ^ 1074) (down u) (down d) (down-pos u) (down-pos d) (level-same (suc m * up u * down d) (suc n * up d * down u) _ (is-so _ e)))
+root-same (fin false (suc m) u) (fin true n d) e p =
+    absurd (no-nought (above m u d) (eqb→eq _ 0 (and-r (eqb (suc m * up u * down d) (n * up d * down u)) _ (is-so _ e))))
+root-same (fin false (suc m) u) (fin false zero d) e p =
+    absurd (no-nought (above m u d) (level-same (suc m * up u * down d) (0 * up d * down u) _ (is-so _ e) ∙ nothing (up d) (down u)))
+root-same (fin false (suc m) u) (fin false (suc n) d) e p =
+    ap (λ (k : ℕ). rootAt (k * 2 ^ 1074)) (same-quotient (suc m * up u) (suc n * up d) (2 ^ 1074) (down u) (down d) (down-pos u) (down-pos d) (level-same (suc m * up u * down d) (suc n * up d * down u) _ (is-so _ e)))
 
 -- the root of 1
 pub root-one : sqrtOf one64 ≡ one64

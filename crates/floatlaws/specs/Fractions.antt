@@ -58,13 +58,16 @@ le-of : (a b : ℕ) → T (ltb a b || (eqb a b && true)) → a ≤ b
 le-of a b t = elim (or-split (ltb a b) (eqb a b && true) t) [ inl u ↦ le-of-lt (ltb→lt a b u) | inr u ↦ le-of-eq (eqb→eq a b (and-l (eqb a b) true u)) ]
 
 of-le : (a b : ℕ) → a ≤ b → T (ltb a b || (eqb a b && true))
-of-le a b h = elim (eq-or-lt-of-le h) [ inl p ↦ or-r (ltb a b) (eqb a b && true) (and-i (eqb a b) true (eq→eqb p) tt) | inr q ↦ or-l (ltb a b) (eqb a b && true) (lt→ltb a b q) ]
+of-le a b h =
+    elim (eq-or-lt-of-le h) [ inl p ↦ or-r (ltb a b) (eqb a b && true) (and-i (eqb a b) true (eq→eqb p) tt) | inr q ↦ or-l (ltb a b) (eqb a b && true) (lt→ltb a b q) ]
 
 le-of-neg : (a b : ℕ) → T (ltb b a || (eqb a b && true)) → b ≤ a
-le-of-neg a b t = elim (or-split (ltb b a) (eqb a b && true) t) [ inl u ↦ le-of-lt (ltb→lt b a u) | inr u ↦ le-of-eq (sym (eqb→eq a b (and-l (eqb a b) true u))) ]
+le-of-neg a b t =
+    elim (or-split (ltb b a) (eqb a b && true) t) [ inl u ↦ le-of-lt (ltb→lt b a u) | inr u ↦ le-of-eq (sym (eqb→eq a b (and-l (eqb a b) true u))) ]
 
 of-le-neg : (a b : ℕ) → b ≤ a → T (ltb b a || (eqb a b && true))
-of-le-neg a b h = elim (eq-or-lt-of-le h) [ inl p ↦ or-r (ltb b a) (eqb a b && true) (and-i (eqb a b) true (eq→eqb (sym p)) tt) | inr q ↦ or-l (ltb b a) (eqb a b && true) (lt→ltb b a q) ]
+of-le-neg a b h =
+    elim (eq-or-lt-of-le h) [ inl p ↦ or-r (ltb b a) (eqb a b && true) (and-i (eqb a b) true (eq→eqb (sym p)) tt) | inr q ↦ or-l (ltb b a) (eqb a b && true) (lt→ltb b a q) ]
 
 pub both-zero : (a b : ℕ) → T (eqb a b && eqb a 0) → (a ≡ 0) × (b ≡ 0)
 both-zero a b t =
@@ -108,12 +111,14 @@ le→under nan y p q t = absurd p
 le→under (inf s) y p q t = absurd p
 le→under (fin s m e) nan p q t = absurd q
 le→under (fin s m e) (inf r) p q t = absurd q
-le→under (fin false m e) (fin false n d) p q t = padded (m * up e * down d) (n * up d * down e) (down e) (down d) (le-of (m * up e * down d) (n * up d * down e) t)
+le→under (fin false m e) (fin false n d) p q t =
+    padded (m * up e * down d) (n * up d * down e) (down e) (down d) (le-of (m * up e * down d) (n * up d * down e) t)
 le→under (fin false m e) (fin true n d) p q t =
     let z = both-zero (m * up e * down d) (n * up d * down e) t in
     nil (m * up e * down d) (n * up d * down e) (down e) (down d) (z .0) (z .1)
 le→under (fin true m e) (fin false n d) p q t = nothing (n * up d * down e) (m * up e * down d) (down d) (down e)
-le→under (fin true m e) (fin true n d) p q t = padded-l (n * up d * down e) (m * up e * down d) (down d) (down e) (le-of-neg (m * up e * down d) (n * up d * down e) t)
+le→under (fin true m e) (fin true n d) p q t =
+    padded-l (n * up d * down e) (m * up e * down d) (down d) (down e) (le-of-neg (m * up e * down d) (n * up d * down e) t)
 
 pub under→le : (x y : Float) → Finite x → Finite y → Under x y → T (le x y)
 unfolding le
@@ -121,10 +126,12 @@ under→le nan y p q t = absurd p
 under→le (inf s) y p q t = absurd p
 under→le (fin s m e) nan p q t = absurd q
 under→le (fin s m e) (inf r) p q t = absurd q
-under→le (fin false m e) (fin false n d) p q t = of-le (m * up e * down d) (n * up d * down e) (stripped (m * up e * down d) (n * up d * down e) (down e) (down d) t)
+under→le (fin false m e) (fin false n d) p q t =
+    of-le (m * up e * down d) (n * up d * down e) (stripped (m * up e * down d) (n * up d * down e) (down e) (down d) t)
 under→le (fin false m e) (fin true n d) p q t =
     let a = is-nil (m * up e * down d) (n * up d * down e) (down e) (down d) t in
     let b = is-nil-r (m * up e * down d) (n * up d * down e) (down e) (down d) t in
     and-i (eqb (m * up e * down d) (n * up d * down e)) (eqb (m * up e * down d) 0) (eq→eqb (a ∙ sym b)) (eq→eqb a)
 under→le (fin true m e) (fin false n d) p q t = across (m * up e * down d) (n * up d * down e)
-under→le (fin true m e) (fin true n d) p q t = of-le-neg (m * up e * down d) (n * up d * down e) (stripped-l (n * up d * down e) (m * up e * down d) (down d) (down e) t)
+under→le (fin true m e) (fin true n d) p q t =
+    of-le-neg (m * up e * down d) (n * up d * down e) (stripped-l (n * up d * down e) (m * up e * down d) (down d) (down e) t)

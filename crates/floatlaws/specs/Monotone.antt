@@ -35,7 +35,8 @@ sum-rounded f false a true b c = go (ltb a b) (ltb→lt a b) (nltb→le a b)
     go false h k = (false, a - b, refl, omega (arith, k tt))
 sum-rounded f true a false b c = go (ltb a b) (ltb→lt a b) (nltb→le a b) (ltb b a) (nltb→le b a)
   where
-    go : (x : Bool) → (T x → a < b) → (T (not x) → b ≤ a) → (y : Bool) → (T (not y) → a ≤ b) → Rounded f (cond x (round f false (b - a) c) (round f y (a - b) c)) (0 + b) (a + 0) c
+    go : (x : Bool) → (T x → a < b) → (T (not x) → b ≤ a) → (y : Bool) → (T (not y) → a ≤ b)
+        → Rounded f (cond x (round f false (b - a) c) (round f y (a - b) c)) (0 + b) (a + 0) c
     go true h k y l = (false, b - a, refl, omega (arith, h tt))
     go false h k true l = (true, a - b, refl, omega (arith, k tt))
     go false h k false l = (false, a - b, refl, omega (arith, k tt, l tt))
@@ -50,16 +51,21 @@ swap-far a b c d = ap (λ (x : ℕ). a * b * x) (mul-comm c d) ∙ mul-mul-mul-c
 moved : (f : Format) (z : Float) (c : ℕ) {p q p' q' : ℕ} → p ≡ p' → q ≡ q' → Rounded f z p q c → Rounded f z p' q' c
 moved f z c {p} {q} {p'} {q'} e g r = subst (λ (x : ℕ). Rounded f z x q' c) e (subst (λ (y : ℕ). Rounded f z p y c) g r)
 
-add-rounded : (f : Format) (x y : Float) → Finite x → Finite y → Rounded f (add f x y) (plus x * den y + plus y * den x) (less x * den y + less y * den x) (den x * den y)
+add-rounded : (f : Format) (x y : Float) → Finite x → Finite y
+    → Rounded f (add f x y) (plus x * den y + plus y * den x) (less x * den y + less y * den x) (den x * den y)
 unfolding add
 add-rounded f nan y p q = absurd p
 add-rounded f (inf s) y p q = absurd p
 add-rounded f (fin s m e) nan p q = absurd q
 add-rounded f (fin s m e) (inf t) p q = absurd q
-add-rounded f (fin false m e) (fin false n d) p q = moved f (add f (fin false m e) (fin false n d)) (down e * down d) refl (omega arith) (sum-rounded f false (m * up e * down d) false (n * up d * down e) (down e * down d))
-add-rounded f (fin false m e) (fin true n d) p q = moved f (add f (fin false m e) (fin true n d)) (down e * down d) (omega arith) (omega arith) (sum-rounded f false (m * up e * down d) true (n * up d * down e) (down e * down d))
-add-rounded f (fin true m e) (fin false n d) p q = moved f (add f (fin true m e) (fin false n d)) (down e * down d) (omega arith) (omega arith) (sum-rounded f true (m * up e * down d) false (n * up d * down e) (down e * down d))
-add-rounded f (fin true m e) (fin true n d) p q = moved f (add f (fin true m e) (fin true n d)) (down e * down d) (omega arith) refl (sum-rounded f true (m * up e * down d) true (n * up d * down e) (down e * down d))
+add-rounded f (fin false m e) (fin false n d) p q =
+    moved f (add f (fin false m e) (fin false n d)) (down e * down d) refl (omega arith) (sum-rounded f false (m * up e * down d) false (n * up d * down e) (down e * down d))
+add-rounded f (fin false m e) (fin true n d) p q =
+    moved f (add f (fin false m e) (fin true n d)) (down e * down d) (omega arith) (omega arith) (sum-rounded f false (m * up e * down d) true (n * up d * down e) (down e * down d))
+add-rounded f (fin true m e) (fin false n d) p q =
+    moved f (add f (fin true m e) (fin false n d)) (down e * down d) (omega arith) (omega arith) (sum-rounded f true (m * up e * down d) false (n * up d * down e) (down e * down d))
+add-rounded f (fin true m e) (fin true n d) p q =
+    moved f (add f (fin true m e) (fin true n d)) (down e * down d) (omega arith) refl (sum-rounded f true (m * up e * down d) true (n * up d * down e) (down e * down d))
 
 split2 : (a b c : ℕ) → (a + b) * c ≡ a * c + b * c
 split2 a b c = add-mul a b c
@@ -101,7 +107,8 @@ unfolding sub
 sub-mono f x x' y y' p p' q q' h k = add-mono f x x' (neg y) (neg y') p p' (neg-finite y q) (neg-finite y' q') h (neg-anti y' y k)
 
 -- ---- a product
-mul-rounded : (f : Format) (x y : Float) → Finite x → Finite y → Rounded f (mul f x y) (plus x * plus y + less x * less y) (plus x * less y + less x * plus y) (den x * den y)
+mul-rounded : (f : Format) (x y : Float) → Finite x → Finite y
+    → Rounded f (mul f x y) (plus x * plus y + less x * less y) (plus x * less y + less x * plus y) (den x * den y)
 unfolding mul
 mul-rounded f nan y p q = absurd p
 mul-rounded f (inf s) y p q = absurd p

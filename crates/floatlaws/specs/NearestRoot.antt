@@ -41,7 +41,8 @@ value-positive : (x : Float) (a c : ℕ) → HasValue x false a c → 0 < a → 
 value-positive nan a c p h = absurd p
 value-positive (inf s) a c p h = absurd p
 value-positive (fin true m e) a c p h = absurd (true≢false (p .0))
-value-positive (fin false zero e) a c p h = absurd (lt-irrefl 0 (subst (λ (n : ℕ). 0 < n) (sym (p .1) ∙ ap (λ (n : ℕ). n * c) (zero-mul (up e)) ∙ zero-mul c) (mul-pos h (down-pos e))))
+value-positive (fin false zero e) a c p h =
+    absurd (lt-irrefl 0 (subst (λ (n : ℕ). 0 < n) (sym (p .1) ∙ ap (λ (n : ℕ). n * c) (zero-mul (up e)) ∙ zero-mul c) (mul-pos h (down-pos e))))
 value-positive (fin false (suc m) e) a c p h = lt→ltb 0 (suc m) (zero-lt-suc m)
 
 -- ---- a value that fits, in units
@@ -55,7 +56,12 @@ spaced : (y : Float) → T (fits binary64 y) → T (unsigned y) → Spaced y
 spaced nan f s = absurd s
 spaced (inf t) f s = absurd s
 spaced (fin true m e) f s = absurd s
-spaced (fin false zero e) f s = record { p = 0; i = 0; short = pow-pos 53; value = (refl, ap (λ (x : ℕ). x * 2 ^ 1074) (zero-mul (up e)) ∙ sym (zero-mul (down e))) }
+spaced (fin false zero e) f s = record {
+  p = 0;
+  i = 0;
+  short = pow-pos 53;
+  value = (refl, ap (λ (x : ℕ). x * 2 ^ 1074) (zero-mul (up e)) ∙ sym (zero-mul (down e)));
+}
 spaced (fin false (suc m) e) f s =
     let h = held false m e f in
     let p = place e (h .deep) in

@@ -13,7 +13,8 @@ use Rattle.floatlaws.specs.Fractions.{Finite, plus, less, den, den-pos, 
 use Rattle.floatlaws.specs.Monotone.{scaled}
 
 -- ---- the order is transitive, NaN and infinities included
-under-trans : (px qx dx py qy dy pz qz dz : ℕ) → 0 < dy → px * dy + qy * dx ≤ py * dx + qx * dy → py * dz + qz * dy ≤ pz * dy + qy * dz → px * dz + qz * dx ≤ pz * dx + qx * dz
+under-trans : (px qx dx py qy dy pz qz dz : ℕ) → 0 < dy → px * dy + qy * dx ≤ py * dx + qx * dy → py * dz + qz * dy ≤ pz * dy + qy * dz
+    → px * dz + qz * dx ≤ pz * dx + qx * dz
 under-trans px qx dx py qy dy pz qz dz D h k =
     let a = scaled (px * dy) (qy * dx) (py * dx) (qx * dy) dz h in
     let b = scaled (py * dz) (qz * dy) (pz * dy) (qy * dz) dx k in

@@ -110,7 +110,8 @@ Rounded f z p q c = (u : Bool) × (w : ℕ) × (z ≡ round f u w c) × Is u w p
 
 -- ---- zero, rounded at either sign
 zero-value : (f : Format) (s : Bool) (c : ℕ) → 0 < c → HasValue (round f s 0 c) s 0 c
-zero-value f s c C = round-exact f s 0 c 0 0 C (pow-pos (prec f)) (subst (λ (x : ℕ). x < 2 ^ (low f + suc (emax f))) (sym (zero-mul (2 ^ 0))) (pow-pos (low f + suc (emax f)))) (zero-mul (2 ^ low f) ∙ sym (ap (λ (x : ℕ). x * c) (zero-mul (2 ^ 0)) ∙ zero-mul c))
+zero-value f s c C =
+    round-exact f s 0 c 0 0 C (pow-pos (prec f)) (subst (λ (x : ℕ). x < 2 ^ (low f + suc (emax f))) (sym (zero-mul (2 ^ 0))) (pow-pos (low f + suc (emax f)))) (zero-mul (2 ^ low f) ∙ sym (ap (λ (x : ℕ). x * c) (zero-mul (2 ^ 0)) ∙ zero-mul c))
 
 gone : (a c e : ℕ) → 0 < c → a * c ≡ 0 * e → a ≡ 0
 gone zero c e C h = refl
@@ -124,7 +125,8 @@ zeros-level nan y s t c d C D p q = absurd p
 zeros-level (inf r) y s t c d C D p q = absurd p
 zeros-level (fin r m e) nan s t c d C D p q = absurd q
 zeros-level (fin r m e) (inf u) s t c d C D p q = absurd q
-zeros-level (fin r m e) (fin u n h) s t c d C D p q = under→le (fin r m e) (fin u n h) tt tt (go r u (gone (m * up e) c (down e) C (p .1)) (gone (n * up h) d (down h) D (q .1)))
+zeros-level (fin r m e) (fin u n h) s t c d C D p q =
+    under→le (fin r m e) (fin u n h) tt tt (go r u (gone (m * up e) c (down e) C (p .1)) (gone (n * up h) d (down h) D (q .1)))
   where
     go : (r u : Bool) → m * up e ≡ 0 → n * up h ≡ 0 → Under (fin r m e) (fin u n h)
     go false false a b = omega (arith, lost (m * up e) (down h) a, lost (n * up h) (down e) b)
@@ -145,7 +147,8 @@ nought p q w p' q' w' c d e e' h =
     let b : q' * c ≡ p' * c + w' * c = ap (λ (x : ℕ). x * c) e' ∙ add-mul p' w' c in
     omega arith
 
-pub rounded-mono : (f : Format) (z z' : Float) (p q c p' q' d : ℕ) → 0 < c → 0 < d → Rounded f z p q c → Rounded f z' p' q' d → p * d + q' * c ≤ p' * c + q * d → T (le z z')
+pub rounded-mono : (f : Format) (z z' : Float) (p q c p' q' d : ℕ) → 0 < c → 0 < d → Rounded f z p q c → Rounded f z' p' q' d → p * d + q' * c ≤ p' * c + q * d
+    → T (le z z')
 rounded-mono f z z' p q c p' q' d C D (u, w, e, i) (u', w', e', i') h =
     subst (λ (x : Float). T (le x z')) (sym e) (subst (λ (y : Float). T (le (round f u w c) y)) (sym e') (go u u' i i'))
   where
@@ -155,7 +158,8 @@ rounded-mono f z z' p q c p' q' d C D (u, w, e, i) (u', w', e', i') h =
         subst (λ (x : Float). T (le x (round f true w' d))) (sym (round-neg f w c))
         (subst (λ (y : Float). T (le (neg (round f false w c)) y)) (sym (round-neg f w' d))
         (neg-anti (round f false w' d) (round f false w c) (round-mono f w' d w c D C (pp q' p' w' q p w d c b a (omega (arith, h))))))
-    go true false a b = subst (λ (x : Float). T (le x (round f false w' d))) (sym (round-neg f w c)) (opposite (round f false w c) (round f false w' d) (round-plus f w c) (round-plus f w' d))
+    go true false a b =
+        subst (λ (x : Float). T (le x (round f false w' d))) (sym (round-neg f w c)) (opposite (round f false w c) (round f false w' d) (round-plus f w c) (round-plus f w' d))
     go false true a b =
         let x : w * d + w' * c ≡ 0 = nought p q w p' q' w' c d a b h in
         let y : w ≡ 0 = gone w d 0 D (omega (arith, zero-mul 0, x)) in

@@ -56,7 +56,8 @@ above a d h = omega arith
 
 pub above-zero : (m : ℕ) (e : ℤ) → lt (fin false 0 (pos 0)) (fin false (suc m) e) ≡ true
 unfolding lt
-above-zero m e = is-true (ltb (0 * down e) (suc m * up e * 1)) (lt→ltb (0 * down e) (suc m * up e * 1) (above (suc m * up e) (down e) (mul-pos (zero-lt-suc m) (up-pos e))))
+above-zero m e =
+    is-true (ltb (0 * down e) (suc m * up e * 1)) (lt→ltb (0 * down e) (suc m * up e * 1) (above (suc m * up e) (down e) (mul-pos (zero-lt-suc m) (up-pos e))))
 
 pub finite-yes : (x : Float) → lt x (inf false) ≡ true → lt (inf true) x ≡ finiteOf x
 unfolding lt finiteOf

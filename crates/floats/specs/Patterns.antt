@@ -115,7 +115,8 @@ count-low b h = ap (λ (t : Bool). cond t b ((b % 2 ^ 52 + 2 ^ 52) * 2 ^ (b / 2 
 
 pub count-high : (b : ℕ) → 2 ^ 52 ≤ b → count b ≡ (b % 2 ^ 52 + 2 ^ 52) * 2 ^ (b / 2 ^ 52 - 1)
 unfolding count
-count-high b h = ap (λ (t : Bool). cond t b ((b % 2 ^ 52 + 2 ^ 52) * 2 ^ (b / 2 ^ 52 - 1))) (is-false (ltb b (2 ^ 52)) (not-T (ltb b (2 ^ 52)) (λ t. no (ltb→lt b (2 ^ 52) t))))
+count-high b h =
+    ap (λ (t : Bool). cond t b ((b % 2 ^ 52 + 2 ^ 52) * 2 ^ (b / 2 ^ 52 - 1))) (is-false (ltb b (2 ^ 52)) (not-T (ltb b (2 ^ 52)) (λ t. no (ltb→lt b (2 ^ 52) t))))
   where
     no : b < 2 ^ 52 → ⊥
     no l = omega arith
@@ -133,7 +134,10 @@ pub record Place (e : ℤ) : Type 0 where
   pub is : (m : ℕ) → m * up e * 2 ^ 1074 ≡ m * 2 ^ i * down e
 
 pub place : (e : ℤ) → down e ≤ 2 ^ 1074 → Place e
-place (pos a) h = record { i = a + 1074; is = λ m. mul-assoc m (2 ^ a) (2 ^ 1074) ∙ ap (λ (x : ℕ). m * x) (sym (pow-add 2 a 1074)) ∙ sym (mul-one (m * 2 ^ (a + 1074))) }
+place (pos a) h = record {
+  i = a + 1074;
+  is = λ m. mul-assoc m (2 ^ a) (2 ^ 1074) ∙ ap (λ (x : ℕ). m * x) (sym (pow-add 2 a 1074)) ∙ sym (mul-one (m * 2 ^ (a + 1074)));
+}
 place (negsuc a) h =
     let l : suc a ≤ 1074 = pow-le-back (suc a) 1074 h in
     record {

@@ -25,7 +25,8 @@ module _ (counts : List ℕ) (numbers : List Float) where
   operand-record n h = getD-tab (operandRecordFrom counts numbers) 12 n noOperandRecord h
 
   pub variable-from : (i : ℕ) → i < 8 → variableAt (variablesFrom counts numbers) i ≡ variableOf (variableRecordFrom counts numbers i)
-  variable-from i h = getD-tab (λ (k : ℕ). variableOf (variableRecordAt (jobRecordFrom counts numbers) k)) 8 i noVariable h ∙ ap variableOf (variable-record i h)
+  variable-from i h =
+      getD-tab (λ (k : ℕ). variableOf (variableRecordAt (jobRecordFrom counts numbers) k)) 8 i noVariable h ∙ ap variableOf (variable-record i h)
 
   pub operand-from : (n : ℕ) → n < 12 → operandAt (operandsFrom counts numbers) n ≡ operandOf (operandRecordFrom counts numbers n)
   operand-from n h = getD-tab (λ (k : ℕ). operandOf (operandRecordAt (jobRecordFrom counts numbers) k)) 12 n noOperand h ∙ ap operandOf (operand-record n h)

@@ -39,7 +39,8 @@ numbers-read : (counts : List ℕ) (numbers : List Float) → heldNumbers (jobRe
 unfolding heldNumbers inTurn variableRecordsFrom operandRecordsFrom indicesFrom standing laidFlat tab
 numbers-read counts numbers = refl
 
-words-read : (words : List ℕ) (scalars : List Float) → heldWords (kindFrom words) (turnsFrom words) (headFrom words scalars) ≡ tab (λ (i : ℕ). getD words i 0) 13
+words-read : (words : List ℕ) (scalars : List Float)
+    → heldWords (kindFrom words) (turnsFrom words) (headFrom words scalars) ≡ tab (λ (i : ℕ). getD words i 0) 13
 unfolding tab
 words-read words scalars = refl
 

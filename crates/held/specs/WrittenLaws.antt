@@ -34,11 +34,18 @@ module _ {A : Type 0} where
       below a k n m e h = omega arith
 
   -- a turn of a loop that writes part i
-  pub turn-more : (f : ℕ → List A) (i at next : ℕ) (l p : List A) → take at l ≡ p ++ inTurn f i → at + length (f i) ≡ next → next ≤ length l → take next (sets l at (f i)) ≡ p ++ inTurn f (i + 1)
+  pub turn-more : (f : ℕ → List A) (i at next : ℕ) (l p : List A) → take at l ≡ p ++ inTurn f i → at + length (f i) ≡ next → next ≤ length l
+      → take next (sets l at (f i)) ≡ p ++ inTurn f (i + 1)
   unfolding inTurn
-  turn-more f i at next l p e n h = front-more l (p ++ inTurn f i) (f i) at next e n h ∙ append-assoc p (inTurn f i) (f i) ∙ ap (λ (k : ℕ). p ++ inTurn f k) (sym (add-one i))
+  turn-more f i at next l p e n h =
+      front-more l (p ++ inTurn f i) (f i) at next e n h ∙ append-assoc p (inTurn f i) (f i) ∙ ap (λ (k : ℕ). p ++ inTurn f k) (sym (add-one i))
 
   -- and of one that writes entry k of a list made by a rule
-  pub entry-more : (g : ℕ → A) (k at next : ℕ) (l p : List A) (v : A) → take at l ≡ p ++ tab g k → v ≡ g k → at + 1 ≡ next → next ≤ length l → take next (set l at v) ≡ p ++ tab g (k + 1)
+  pub entry-more : (g : ℕ → A) (k at next : ℕ) (l p : List A) (v : A) → take at l ≡ p ++ tab g k → v ≡ g k → at + 1 ≡ next → next ≤ length l
+      → take next (set l at v) ≡ p ++ tab g (k + 1)
   unfolding tab
-  entry-more g k at next l p v e f n h = front-more l (p ++ tab g k) (v ∷ []) at next e n h ∙ append-assoc p (tab g k) (v ∷ []) ∙ ap (λ (a : A). p ++ (tab g k ++ (a ∷ []))) f ∙ ap (λ (j : ℕ). p ++ tab g j) (sym (add-one k))
+  entry-more g k at next l p v e f n h =
+      front-more l (p ++ tab g k) (v ∷ []) at next e n h
+      ∙ append-assoc p (tab g k) (v ∷ [])
+      ∙ ap (λ (a : A). p ++ (tab g k ++ (a ∷ []))) f
+      ∙ ap (λ (j : ℕ). p ++ tab g j) (sym (add-one k))

@@ -106,7 +106,8 @@ fn job_from(held: HeldRow) -> JobRecord
 }
 
 fn damped_from(h: Head, held: HeldRow) -> DampedState
-    ensures { λ r. ⌜ r ≡ dampedFrom h (held .surfaces) (held .jacobian) (held .values) (held .residuals) (held .«plus_residuals») (held .params) (held .candidate) ⌝ }
+    ensures { λ r.
+        ⌜ r ≡ dampedFrom h (held .surfaces) (held .jacobian) (held .values) (held .residuals) (held .«plus_residuals») (held .params) (held .candidate) ⌝ }
 {
     let flat_surfaces = held.surfaces;
     let surfaces = flat::stand(&flat_surfaces);

@@ -70,7 +70,9 @@ pub fn clamp_values(counts: &[u64; 57], numbers: &[f64], values: [f64; 8]) -> [f
 // One value clamped and stored in its variable's surface, one field of it.
 fn apply_variable(d: VariableDef, value: f64, flat: &mut [f64])
     requires { ⌜ 64 ≤ length (now flat) ⌝ }
-    ensures { λ _. ⌜ standing (now (flat .exit)) ≡ put (standing (now (flat .entry))) (d .«var_type») (applyClamp value (d .«min_value») (d .«max_value»)) ⌝ ∗ ⌜ Behind (now (flat .entry)) (now (flat .exit)) ⌝ }
+    ensures { λ _.
+        ⌜ standing (now (flat .exit)) ≡ put (standing (now (flat .entry))) (d .«var_type») (applyClamp value (d .«min_value») (d .«max_value»)) ⌝
+        ∗ ⌜ Behind (now (flat .entry)) (now (flat .exit)) ⌝ }
 {
     let kind = d.var_type;
     let x = variables::apply_clamp(value, d.min_value, d.max_value);
@@ -84,7 +86,9 @@ fn apply_variable(d: VariableDef, value: f64, flat: &mut [f64])
 // The surfaces that stand in flat numbers with each value applied, in rising order of the variables.
 pub fn apply_values(counts: &[u64; 57], numbers: &[f64], values: [f64; 8], flat: &mut [f64])
     requires { ⌜ variableCountFrom (now counts) ≤ 8 ⌝ ∗ ⌜ 195 ≤ length (now numbers) ⌝ ∗ ⌜ 64 ≤ length (now flat) ⌝ }
-    ensures { λ _. ⌜ standing (now (flat .exit)) ≡ applied (variablesFrom (now (counts .entry)) (now (numbers .entry))) values (standing (now (flat .entry))) ⌝ ∗ ⌜ Behind (now (flat .entry)) (now (flat .exit)) ⌝ }
+    ensures { λ _.
+        ⌜ standing (now (flat .exit)) ≡ applied (variablesFrom (now (counts .entry)) (now (numbers .entry))) values (standing (now (flat .entry))) ⌝
+        ∗ ⌜ Behind (now (flat .entry)) (now (flat .exit)) ⌝ }
 {
     let count = variable_count(counts);
     let mut q: usize = 0;

@@ -21,7 +21,9 @@ use optics::OpticalSurface;
 // Three counts and three numbers of variable i.
 fn lay_variable(v: VariableRecord, i: usize, counts: &mut [u64], numbers: &mut [f64])
     requires { ⌜ (i < 8) × (57 ≤ length (now counts)) × (195 ≤ length (now numbers)) ⌝ }
-    ensures { λ _. ⌜ (now (counts .exit) ≡ sets (now (counts .entry)) (variableKindAt i) (variableCounts v)) × (now (numbers .exit) ≡ sets (now (numbers .entry)) (minValueAt i) (variableNumbers v)) ⌝ }
+    ensures { λ _.
+        ⌜ (now (counts .exit) ≡ sets (now (counts .entry)) (variableKindAt i) (variableCounts v))
+        × (now (numbers .exit) ≡ sets (now (numbers .entry)) (minValueAt i) (variableNumbers v)) ⌝ }
 {
     let whole = places::VARIABLE_COUNTS + 3 * i;
     let real = places::VARIABLE_NUMBERS + 3 * i;
@@ -36,7 +38,9 @@ fn lay_variable(v: VariableRecord, i: usize, counts: &mut [u64], numbers: &mut [
 // Two counts and three numbers of operand n.
 fn lay_operand(o: OperandRecord, n: usize, counts: &mut [u64], numbers: &mut [f64])
     requires { ⌜ (n < 12) × (57 ≤ length (now counts)) × (195 ≤ length (now numbers)) ⌝ }
-    ensures { λ _. ⌜ (now (counts .exit) ≡ sets (now (counts .entry)) (operandKindAt n) (operandCounts o)) × (now (numbers .exit) ≡ sets (now (numbers .entry)) (limitAt n) (operandNumbers o)) ⌝ }
+    ensures { λ _.
+        ⌜ (now (counts .exit) ≡ sets (now (counts .entry)) (operandKindAt n) (operandCounts o))
+        × (now (numbers .exit) ≡ sets (now (numbers .entry)) (limitAt n) (operandNumbers o)) ⌝ }
 {
     let whole = places::OPERAND_COUNTS + 2 * n;
     let real = places::OPERAND_NUMBERS + 3 * n;
@@ -50,7 +54,9 @@ fn lay_operand(o: OperandRecord, n: usize, counts: &mut [u64], numbers: &mut [f6
 // Behind what stands in front of the variables.
 fn lay_variables(records: [VariableRecord; 8], counts: &mut [u64], numbers: &mut [f64])
     requires { ⌜ (57 ≤ length (now counts)) × (195 ≤ length (now numbers)) ⌝ }
-    ensures { λ _. ⌜ (take (operandKindAt 0) (now (counts .exit)) ≡ take (variableKindAt 0) (now (counts .entry)) ++ inTurn (λ (i : ℕ). variableCounts (getD records i noVariableRecord)) 8) × (take (limitAt 0) (now (numbers .exit)) ≡ take (minValueAt 0) (now (numbers .entry)) ++ inTurn (λ (i : ℕ). variableNumbers (getD records i noVariableRecord)) 8) ⌝ }
+    ensures { λ _.
+        ⌜ (take (operandKindAt 0) (now (counts .exit)) ≡ take (variableKindAt 0) (now (counts .entry)) ++ inTurn (λ (i : ℕ). variableCounts (getD records i noVariableRecord)) 8)
+        × (take (limitAt 0) (now (numbers .exit)) ≡ take (minValueAt 0) (now (numbers .entry)) ++ inTurn (λ (i : ℕ). variableNumbers (getD records i noVariableRecord)) 8) ⌝ }
 {
     let mut i: usize = 0;
     while i < 8 {
@@ -63,7 +69,9 @@ fn lay_variables(records: [VariableRecord; 8], counts: &mut [u64], numbers: &mut
 // Behind what stands in front of the operands; nothing stands behind them.
 fn lay_operands(records: [OperandRecord; 12], counts: &mut [u64], numbers: &mut [f64])
     requires { ⌜ (length (now counts) ≡ 57) × (length (now numbers) ≡ 195) ⌝ }
-    ensures { λ _. ⌜ (now (counts .exit) ≡ take (operandKindAt 0) (now (counts .entry)) ++ inTurn (λ (n : ℕ). operandCounts (getD records n noOperandRecord)) 12) × (now (numbers .exit) ≡ take (limitAt 0) (now (numbers .entry)) ++ inTurn (λ (n : ℕ). operandNumbers (getD records n noOperandRecord)) 12) ⌝ }
+    ensures { λ _.
+        ⌜ (now (counts .exit) ≡ take (operandKindAt 0) (now (counts .entry)) ++ inTurn (λ (n : ℕ). operandCounts (getD records n noOperandRecord)) 12)
+        × (now (numbers .exit) ≡ take (limitAt 0) (now (numbers .entry)) ++ inTurn (λ (n : ℕ). operandNumbers (getD records n noOperandRecord)) 12) ⌝ }
 {
     let mut n: usize = 0;
     while n < 12 {

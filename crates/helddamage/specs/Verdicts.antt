@@ -46,7 +46,8 @@ all-both s t (suc n) = ap (λ (b : Bool). b && (s n && t n)) (all-both s t n) �
     swap true true c d = refl
 
 -- ---- the job: the numbers of the list, and the kinds with the lists that they stand in
-all-causes : (a b v o s p m : Bool) → eqb (cond (not a) 1 (cond (not b) 3 (cond (not v) 4 (cond (not o) 5 (cond (not s) 6 (cond p 7 (cond m 8 0))))))) 0 ≡ a && b && v && o && s && not p && not m
+all-causes : (a b v o s p m : Bool)
+    → eqb (cond (not a) 1 (cond (not b) 3 (cond (not v) 4 (cond (not o) 5 (cond (not s) 6 (cond p 7 (cond m 8 0))))))) 0 ≡ a && b && v && o && s && not p && not m
 all-causes false b v o s p m = refl
 all-causes true false v o s p m = refl
 all-causes true true false o s p m = refl
@@ -111,7 +112,8 @@ above-zero (suc n) = lt-ltb 0 (suc n) (zero-lt-suc n) ∙ ap not (sym (ne-eqb (s
     no e = omega arith
 
 -- ---- the method of a kind: whether its counts are within turns on the counts alone
-pub within-any : (counts : List ℕ) (numbers numbers′ : List Float) (kind : ℕ) → CountsWithin (method kind (settingsFrom counts numbers)) → CountsWithin (method kind (settingsFrom counts numbers′))
+pub within-any : (counts : List ℕ) (numbers numbers′ : List Float) (kind : ℕ) → CountsWithin (method kind (settingsFrom counts numbers))
+    → CountsWithin (method kind (settingsFrom counts numbers′))
 unfolding method
 within-any counts numbers numbers′ kind h = go (eqb kind 1) (eqb kind 2) h
   where
@@ -134,7 +136,8 @@ module _ (words counts : List ℕ) (numbers surfaces best : List Float) (o : Oth
   abbrev pub ended : Bool
   ended = finishedBy (method (kindFrom words) (settingsFrom counts numbers)) (stateWith words surfaces best o)
 
-  verdict : judged ≡ not (isKind (kindFrom words) && recordTaken (kindFrom words) (jobRecordFrom counts numbers) && soundState && (ended || ltb (turnsFrom words) (bound (heldJob counts numbers (kindFrom words)))))
+  verdict : judged
+      ≡ not (isKind (kindFrom words) && recordTaken (kindFrom words) (jobRecordFrom counts numbers) && soundState && (ended || ltb (turnsFrom words) (bound (heldJob counts numbers (kindFrom words)))))
   unfolding damaged jobSound turnsSound isFinished
   verdict = refl
 

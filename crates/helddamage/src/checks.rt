@@ -60,7 +60,9 @@ fn lens_taken(counts: &[u64; 57], numbers: &[f64]) -> bool
 // Check 4, and that every kind and mark is one that there is.
 fn variables_taken(counts: &[u64; 57], numbers: &[f64]) -> bool
     requires { ⌜ (variableCountFrom (now counts) ≤ 8) × (195 ≤ length (now numbers)) ⌝ }
-    ensures { λ r. ⌜ r ≡ variablesTaken (surfaceCountFrom (now (counts .entry))) (variablesFrom (now (counts .entry)) (now (numbers .entry))) && knownVariables (jobRecordFrom (now (counts .entry)) (now (numbers .entry))) ⌝ }
+    ensures { λ r.
+        ⌜ r ≡ variablesTaken (surfaceCountFrom (now (counts .entry))) (variablesFrom (now (counts .entry)) (now (numbers .entry)))
+        && knownVariables (jobRecordFrom (now (counts .entry)) (now (numbers .entry))) ⌝ }
 {
     let surfaces = held::surface_count(counts);
     let count = held::variable_count(counts);
@@ -81,7 +83,9 @@ fn variables_taken(counts: &[u64; 57], numbers: &[f64]) -> bool
 // Check 5, and that every kind is one that there is.
 fn operands_taken(counts: &[u64; 57], numbers: &[f64]) -> bool
     requires { ⌜ (operandCountFrom (now counts) ≤ 12) × (195 ≤ length (now numbers)) ⌝ }
-    ensures { λ r. ⌜ r ≡ operandsTaken (slotCountFrom (now (counts .entry))) (operandsFrom (now (counts .entry)) (now (numbers .entry))) && knownOperands (jobRecordFrom (now (counts .entry)) (now (numbers .entry))) ⌝ }
+    ensures { λ r.
+        ⌜ r ≡ operandsTaken (slotCountFrom (now (counts .entry))) (operandsFrom (now (counts .entry)) (now (numbers .entry)))
+        && knownOperands (jobRecordFrom (now (counts .entry)) (now (numbers .entry))) ⌝ }
 {
     let slots = held::slot_count(counts);
     let many = held::operand_count(counts);

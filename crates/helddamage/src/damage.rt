@@ -27,7 +27,9 @@ fn taken_if(used: bool, flat: &[f64], count: usize) -> bool
 // The surfaces in use.
 fn surfaces_sound(words: &[u64; 13], count: usize, surfaces: &[f64], best: &[f64]) -> bool
     requires { ⌜ (count ≤ 16) × (64 ≤ length (now surfaces)) × (64 ≤ length (now best)) ⌝ }
-    ensures { λ r. ⌜ ((c : SettingsRecord) (o : Others) → r ≡ surfacesSound (method (kindFrom (now (words .entry))) c) count (stateWith (now (words .entry)) (now (surfaces .entry)) (now (best .entry)) o)) ⌝ }
+    ensures { λ r.
+        ⌜ ((c : SettingsRecord) (o : Others)
+        → r ≡ surfacesSound (method (kindFrom (now (words .entry))) c) count (stateWith (now (words .entry)) (now (surfaces .entry)) (now (best .entry)) o)) ⌝ }
 {
     let kind = held::kind(words);
     let phase = held::phase(words);
@@ -43,7 +45,9 @@ fn surfaces_sound(words: &[u64; 13], count: usize, surfaces: &[f64], best: &[f64
 
 // Column, attempt and iteration below their limits, and trial, cycle and step.
 fn counters_sound(words: &[u64; 13], counts: &[u64; 57], p: usize) -> bool
-    ensures { λ r. ⌜ ((numbers surfaces best : List Float) (o : Others) → r ≡ countersSound (method (kindFrom (now (words .entry))) (settingsFrom (now (counts .entry)) numbers)) p (stateWith (now (words .entry)) surfaces best o)) ⌝ }
+    ensures { λ r.
+        ⌜ ((numbers surfaces best : List Float) (o : Others)
+        → r ≡ countersSound (method (kindFrom (now (words .entry))) (settingsFrom (now (counts .entry)) numbers)) p (stateWith (now (words .entry)) surfaces best o)) ⌝ }
 {
     let kind = held::kind(words);
     if held::column(words) >= (p as u64) {
@@ -73,7 +77,9 @@ fn state_sound(
     best: &[f64],
 ) -> bool
     requires { ⌜ (surfaceCountFrom (now counts) ≤ 16) × (64 ≤ length (now surfaces)) × (64 ≤ length (now best)) ⌝ }
-    ensures { λ r. ⌜ ((numbers : List Float) (o : Others) → p ≡ numActive (variablesFrom (now (counts .entry)) numbers) → r ≡ stateSound (method (kindFrom (now (words .entry))) (settingsFrom (now (counts .entry)) numbers)) (heldJob (now (counts .entry)) numbers (kindFrom (now (words .entry)))) (stateWith (now (words .entry)) (now (surfaces .entry)) (now (best .entry)) o)) ⌝ }
+    ensures { λ r.
+        ⌜ ((numbers : List Float) (o : Others) → p ≡ numActive (variablesFrom (now (counts .entry)) numbers)
+        → r ≡ stateSound (method (kindFrom (now (words .entry))) (settingsFrom (now (counts .entry)) numbers)) (heldJob (now (counts .entry)) numbers (kindFrom (now (words .entry)))) (stateWith (now (words .entry)) (now (surfaces .entry)) (now (best .entry)) o)) ⌝ }
 {
     if held::phase(words) > limits::last_phase(held::kind(words)) {
         return false;
@@ -93,7 +99,9 @@ pub fn is_damaged(
     best_surfaces: &[f64],
 ) -> bool
     requires { ⌜ (195 ≤ length (now numbers)) × (64 ≤ length (now surfaces)) × (64 ≤ length (now «best_surfaces»)) ⌝ }
-    ensures { λ r. ⌜ ((o : Others) → r ≡ damaged (rowFrom (heldWith (now (words .entry)) (now (counts .entry)) (now (numbers .entry)) (now (surfaces .entry)) (now («best_surfaces» .entry)) o))) ⌝ }
+    ensures { λ r.
+        ⌜ ((o : Others)
+        → r ≡ damaged (rowFrom (heldWith (now (words .entry)) (now (counts .entry)) (now (numbers .entry)) (now (surfaces .entry)) (now («best_surfaces» .entry)) o))) ⌝ }
 {
     let kind = held::kind(words);
     if !kinds::is_kind(kind) {

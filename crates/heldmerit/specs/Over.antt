@@ -28,7 +28,8 @@ module _ (f : MeritFunction) (values : List Float) where
   termsOver zero = zero64
   termsOver (suc n) = add binary64 (termsOver n) (term (operandAt f n) (getD values n nan))
 
-  pub terms-more : (n : ℕ) (sum product : Float) → sum ≡ termsOver n → product ≡ term (operandAt f n) (getD values n nan) → add binary64 sum product ≡ termsOver (n + 1)
+  pub terms-more : (n : ℕ) (sum product : Float) → sum ≡ termsOver n → product ≡ term (operandAt f n) (getD values n nan)
+      → add binary64 sum product ≡ termsOver (n + 1)
   unfolding termsOver
   terms-more n sum product e t = rw (add-one, e, t)
 
@@ -40,7 +41,8 @@ abbrev pub Standing : (ℕ → Float) → ℕ → List Float → Type 0
 Standing value n values = values ≡ tab value n ++ drop n (replicate 12 zero64)
 
 pub all-stand : (value : ℕ → Float) (m n : ℕ) (values : List Float) → Standing value n values → n ≡ m → values ≡ entries value m
-all-stand value m n values e h = e ∙ ap (λ (k : ℕ). tab value k ++ drop k (replicate 12 zero64)) h ∙ ap (λ (l : List Float). tab value m ++ l) (drop-replicate zero64 m 12)
+all-stand value m n values e h =
+    e ∙ ap (λ (k : ℕ). tab value k ++ drop k (replicate 12 zero64)) h ∙ ap (λ (l : List Float). tab value m ++ l) (drop-replicate zero64 m 12)
 
 -- value n, out of the traces of the slots and the values before it
 module _ (surface : ℕ → OpticalSurface) (index : ℕ → ℕ → Float) (pupil : Float) (count : ℕ) (f : MeritFunction) where
@@ -65,10 +67,13 @@ module _ (surface : ℕ → OpticalSurface) (index : ℕ → ℕ → Float) (pup
   terms-are zero h = refl
   terms-are (suc n) h = λ i. add binary64 (terms-are n (omega arith) i) (term (operandAt f n) (value-stands n h i))
 
-  pub merit-over : (values : List Float) → values ≡ evaluationOf surface index pupil count f .values → countedTotal (termsOver f values (f .«operand_count»)) ≡ evaluationOf surface index pupil count f .«total_merit»
-  merit-over values e = ap (λ (l : List Float). countedTotal (termsOver f l (f .«operand_count»))) e ∙ ap countedTotal (terms-are (f .«operand_count») (le-refl _))
+  pub merit-over : (values : List Float) → values ≡ evaluationOf surface index pupil count f .values
+      → countedTotal (termsOver f values (f .«operand_count»)) ≡ evaluationOf surface index pupil count f .«total_merit»
+  merit-over values e =
+      ap (λ (l : List Float). countedTotal (termsOver f l (f .«operand_count»))) e ∙ ap countedTotal (terms-are (f .«operand_count») (le-refl _))
 
-  pub residuals-over : (values : List Float) → values ≡ evaluationOf surface index pupil count f .values → entries (residualOver f values) (f .«operand_count») ≡ evaluationOf surface index pupil count f .residuals
+  pub residuals-over : (values : List Float) → values ≡ evaluationOf surface index pupil count f .values
+      → entries (residualOver f values) (f .«operand_count») ≡ evaluationOf surface index pupil count f .residuals
   residuals-over values e =
       ap (λ (l : List Float). entries (residualOver f l) (f .«operand_count»)) e
       ∙ ap (λ (l : List Float). l ++ replicate (12 - f .«operand_count») zero64) (tab-same _ _ (f .«operand_count») (λ n h. ap (residual (operandAt f n)) (value-stands n h)))

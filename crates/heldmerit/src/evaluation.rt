@@ -13,8 +13,14 @@ use merit::WeightRoot;
 
 // The values of surfaces laid flat: all slots are traced in one pass over them.
 pub fn values_of(flat: &[f64], counts: &[u64; 57], numbers: &[f64]) -> [f64; 12]
-    requires { ⌜ 4 * surfaceCountFrom (now counts) ≤ length (now flat) ⌝ ∗ ⌜ surfaceCountFrom (now counts) ≤ 16 ⌝ ∗ ⌜ operandCountFrom (now counts) ≤ 12 ⌝ ∗ ⌜ 195 ≤ length (now numbers) ⌝ ∗ ⌜ SlotsKnown (operandsFrom (now counts) (now numbers)) ⌝ }
-    ensures { λ r. ⌜ ((kind : ℕ) (s : Surfaces) (rest : List Float) → now (flat .entry) ≡ laidFlat s (surfaceCountFrom (now (counts .entry))) ++ rest → r ≡ evaluateOf (heldJob (now (counts .entry)) (now (numbers .entry)) kind) s .values) ⌝ }
+    requires { ⌜ 4 * surfaceCountFrom (now counts) ≤ length (now flat) ⌝
+        ∗ ⌜ surfaceCountFrom (now counts) ≤ 16 ⌝
+        ∗ ⌜ operandCountFrom (now counts) ≤ 12 ⌝
+        ∗ ⌜ 195 ≤ length (now numbers) ⌝
+        ∗ ⌜ SlotsKnown (operandsFrom (now counts) (now numbers)) ⌝ }
+    ensures { λ r.
+        ⌜ ((kind : ℕ) (s : Surfaces) (rest : List Float) → now (flat .entry) ≡ laidFlat s (surfaceCountFrom (now (counts .entry))) ++ rest
+        → r ≡ evaluateOf (heldJob (now (counts .entry)) (now (numbers .entry)) kind) s .values) ⌝ }
 {
     let count = held::surface_count(counts);
     let many = held::operand_count(counts);
@@ -34,7 +40,9 @@ pub fn values_of(flat: &[f64], counts: &[u64; 57], numbers: &[f64]) -> [f64; 12]
 // The merit of surfaces that have these values.
 pub fn merit_of(values: &[f64; 12], counts: &[u64; 57], numbers: &[f64]) -> f64
     requires { ⌜ operandCountFrom (now counts) ≤ 12 ⌝ ∗ ⌜ 195 ≤ length (now numbers) ⌝ }
-    ensures { λ r. ⌜ ((kind : ℕ) (s : Surfaces) → now (values .entry) ≡ evaluateOf (heldJob (now (counts .entry)) (now (numbers .entry)) kind) s .values → r ≡ evaluateOf (heldJob (now (counts .entry)) (now (numbers .entry)) kind) s .«total_merit») ⌝ }
+    ensures { λ r.
+        ⌜ ((kind : ℕ) (s : Surfaces) → now (values .entry) ≡ evaluateOf (heldJob (now (counts .entry)) (now (numbers .entry)) kind) s .values
+        → r ≡ evaluateOf (heldJob (now (counts .entry)) (now (numbers .entry)) kind) s .«total_merit») ⌝ }
 {
     let many = held::operand_count(counts);
     let mut total = 0.0;
@@ -51,7 +59,9 @@ pub fn merit_of(values: &[f64; 12], counts: &[u64; 57], numbers: &[f64]) -> f64
 // Their residuals: a root is worked out once where neighbouring weights are equal.
 pub fn residuals_of(values: &[f64; 12], counts: &[u64; 57], numbers: &[f64]) -> [f64; 12]
     requires { ⌜ operandCountFrom (now counts) ≤ 12 ⌝ ∗ ⌜ 195 ≤ length (now numbers) ⌝ }
-    ensures { λ r. ⌜ ((kind : ℕ) (s : Surfaces) → now (values .entry) ≡ evaluateOf (heldJob (now (counts .entry)) (now (numbers .entry)) kind) s .values → r ≡ evaluateOf (heldJob (now (counts .entry)) (now (numbers .entry)) kind) s .residuals) ⌝ }
+    ensures { λ r.
+        ⌜ ((kind : ℕ) (s : Surfaces) → now (values .entry) ≡ evaluateOf (heldJob (now (counts .entry)) (now (numbers .entry)) kind) s .values
+        → r ≡ evaluateOf (heldJob (now (counts .entry)) (now (numbers .entry)) kind) s .residuals) ⌝ }
 {
     let many = held::operand_count(counts);
     let mut residuals = [0.0; 12];

@@ -19,7 +19,8 @@ use Rattle.intervals.specs.Calls.{thicknessAt, givenTaken, allGiven, fin
 use Rattle.intervals.specs.declared.types.ThicknessLimits.{ThicknessLimits}
 
 -- what the trace answers is answered; where that is 0, the limits decide
-behind-trace : (a b c : Bool) (d n : ℕ) → cond a 1 (cond b 3 (cond c 5 0)) ≡ n → (0 < n → cond a 1 (cond b 3 (cond c 5 d)) ≡ n) × (n ≡ 0 → cond a 1 (cond b 3 (cond c 5 d)) ≡ d)
+behind-trace : (a b c : Bool) (d n : ℕ) → cond a 1 (cond b 3 (cond c 5 0)) ≡ n
+    → (0 < n → cond a 1 (cond b 3 (cond c 5 d)) ≡ n) × (n ≡ 0 → cond a 1 (cond b 3 (cond c 5 d)) ≡ d)
 behind-trace true b c d n e = (λ h. e, λ z. absurd (one n e z))
   where
     one : (n : ℕ) → 1 ≡ n → n ≡ 0 → ⊥
@@ -54,13 +55,15 @@ module _ (p : OpticalPrescription) (l : ThicknessLimits) (slot : ℕ) where
   counted = lensCountsTaken (p .«surface_count») (p .«slot_count») && eqb (p .«surface_count») (p .«surface_count»)
 
   -- "after all that a trace by itself checks"
-  pub number-is : (n : ℕ) → traceNumber p slot (p .«surface_count») ≡ n → (0 < n → limitsNumber p l slot ≡ n) × (n ≡ 0 → limitsNumber p l slot ≡ cond (not (limitsTaken p l slot)) 19 0)
+  pub number-is : (n : ℕ) → traceNumber p slot (p .«surface_count») ≡ n
+      → (0 < n → limitsNumber p l slot ≡ n) × (n ≡ 0 → limitsNumber p l slot ≡ cond (not (limitsTaken p l slot)) 19 0)
   unfolding traceNumber limitsNumber
   number-is n e = behind-trace (not counted) (not (lensTaken p)) (not (ltb slot (p .«slot_count»))) (cond (not (limitsTaken p l slot)) 19 0) n e
 
   -- the row is as long as the lens: there is none
   fits : counted ≡ lensCountsTaken (p .«surface_count») (p .«slot_count»)
-  fits = go (lensCountsTaken (p .«surface_count») (p .«slot_count»)) (eqb (p .«surface_count») (p .«surface_count»)) (eq-eqb (p .«surface_count») (p .«surface_count») refl)
+  fits =
+      go (lensCountsTaken (p .«surface_count») (p .«slot_count»)) (eqb (p .«surface_count») (p .«surface_count»)) (eq-eqb (p .«surface_count») (p .«surface_count») refl)
     where
       go : (b e : Bool) → e ≡ true → (b && e) ≡ b
       go true e q = q
@@ -68,7 +71,8 @@ module _ (p : OpticalPrescription) (l : ThicknessLimits) (slot : ℕ) where
 
   pub limits-1 : (limitsNumber p l slot ≡ 1) ↔ ((not (lensCountsTaken (p .«surface_count») (p .«slot_count»)) ≡ true) × NoneOf (before 1 (limitsRefusals p l slot)))
   unfolding limitsNumber
-  limits-1 = subst (λ (b : Bool). (limitsNumber p l slot ≡ 1) ↔ ((not b ≡ true) × NoneOf (before 1 (limitsRefusals p l slot)))) fits (answers (limitsRefusals p l slot) 1 tt tt)
+  limits-1 =
+      subst (λ (b : Bool). (limitsNumber p l slot ≡ 1) ↔ ((not b ≡ true) × NoneOf (before 1 (limitsRefusals p l slot)))) fits (answers (limitsRefusals p l slot) 1 tt tt)
 
   pub limits-3 : (limitsNumber p l slot ≡ 3) ↔ ((not (lensTaken p) ≡ true) × NoneOf (before 3 (limitsRefusals p l slot)))
   unfolding limitsNumber

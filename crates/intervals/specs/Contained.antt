@@ -143,10 +143,12 @@ module _ (surface : ℕ → OpticalSurface) (thickness : ℕ → Interval) (inde
   summed k = endsFinite (trackLimits thickness (suc k))
 
   arrived : (k : ℕ) → k < count → T (arrivalFinite surface thickness index pupil k)
-  arrived k h = and-l (arrivalFinite surface thickness index pupil k) (refraction k) (and-l (arrivalFinite surface thickness index pupil k && refraction k) (summed k) (worked k h))
+  arrived k h =
+      and-l (arrivalFinite surface thickness index pupil k) (refraction k) (and-l (arrivalFinite surface thickness index pupil k && refraction k) (summed k) (worked k h))
 
   refracted : (k : ℕ) → k < count → T (refraction k)
-  refracted k h = and-r (arrivalFinite surface thickness index pupil k) (refraction k) (and-l (arrivalFinite surface thickness index pupil k && refraction k) (summed k) (worked k h))
+  refracted k h =
+      and-r (arrivalFinite surface thickness index pupil k) (refraction k) (and-l (arrivalFinite surface thickness index pupil k && refraction k) (summed k) (worked k h))
 
   in-front : (k : ℕ) → k < count → Positive (ray k .n)
   unfolding Trace.arriving
@@ -176,7 +178,8 @@ module _ (surface : ℕ → OpticalSurface) (thickness : ℕ → Interval) (inde
   pub track-between : (k : ℕ) → k ≤ count → Between (trackLimits thickness k) (track other k)
   unfolding trackLimits track
   track-between zero h = exactly-holds _ zero-finite
-  track-between (suc k) h = plus-holds (trackLimits thickness k) (thickness k) (track other k) (τ k) (sum-bounds k (omega arith)) (given k h) (track-between k (omega arith)) (inside k h)
+  track-between (suc k) h =
+      plus-holds (trackLimits thickness k) (thickness k) (track other k) (τ k) (sum-bounds k (omega arith)) (given k h) (track-between k (omega arith)) (inside k h)
 
 -- ---- known thicknesses
 abbrev exactRay : ArrivingRay → ArrivingLimits

@@ -20,7 +20,10 @@ pub record Bounds (a : Interval) : Type 0 where
 
 pub bounds : (a : Interval) → T (endsFinite a) → Bounds a
 unfolding endsFinite
-bounds a t = record { low = finite-test (a .low) (and-l (finiteOf (a .low)) (finiteOf (a .high)) t); high = finite-test (a .high) (and-r (finiteOf (a .low)) (finiteOf (a .high)) t) }
+bounds a t = record {
+  low = finite-test (a .low) (and-l (finiteOf (a .low)) (finiteOf (a .high)) t);
+  high = finite-test (a .high) (and-r (finiteOf (a .low)) (finiteOf (a .high)) t);
+}
 
 held-finite : (a : Interval) (x : Float) → Bounds a → Between a x → Finite x
 held-finite a x b h = finite-between (a .low) x (a .high) (b .low) (b .high) (h .above) (h .below)

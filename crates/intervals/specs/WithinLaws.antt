@@ -101,13 +101,16 @@ module _ (p : OpticalPrescription) (l : ThicknessLimits) (slot : ℕ) (old : Tra
       track-is = ap (track (surfaceAt (q .surfaces))) (i .count) ∙ track-same (surfaceAt (q .surfaces)) other count (i .surfaces)
 
       height-in : (k : ℕ) → k < count → Between (entry (limitsAs old p l slot .heights) k) (lensRay q slot k .y)
-      height-in k h = moved (high k h) (ap (λ (r : ParaxialRay). r .y) (ray-is k h)) (height-between surface (thicknessAt l) index pupil count (thicknessOf q) indices given (ok .worked) (i .between) k h)
+      height-in k h =
+          moved (high k h) (ap (λ (r : ParaxialRay). r .y) (ray-is k h)) (height-between surface (thicknessAt l) index pupil count (thicknessOf q) indices given (ok .worked) (i .between) k h)
 
       slope-in : (k : ℕ) → k < count → Between (entry (limitsAs old p l slot .slopes) k) (lensRay q slot k .u)
-      slope-in k h = moved (steep k h) (ap (λ (r : ParaxialRay). r .u) (ray-is k h)) (slope-between surface (thicknessAt l) index pupil count (thicknessOf q) indices given (ok .worked) (i .between) k h)
+      slope-in k h =
+          moved (steep k h) (ap (λ (r : ParaxialRay). r .u) (ray-is k h)) (slope-between surface (thicknessAt l) index pupil count (thicknessOf q) indices given (ok .worked) (i .between) k h)
 
       track-in : Between (limitsAs old p l slot .track) (trackOf q)
-      track-in = moved along track-is (track-between surface (thicknessAt l) index pupil count (thicknessOf q) indices given (ok .worked) (i .between) count (le-refl count))
+      track-in =
+          moved along track-is (track-between surface (thicknessAt l) index pupil count (thicknessOf q) indices given (ok .worked) (i .between) count (le-refl count))
 
   pub request13 : Request13 p l slot old
   request13 = record {

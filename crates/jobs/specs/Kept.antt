@@ -38,7 +38,12 @@ abbrev pub keptOperands : MeritFunction → MeritFunction
 keptOperands f = record { operands = clearedOperands (f .«operand_count») (f .operands); «operand_count» = f .«operand_count» }
 
 abbrev pub keptJob : Job → Job
-keptJob j = record { prescription = keptPrescription (j .prescription); variables = keptVariables (j .variables); «merit_function» = keptOperands (j .«merit_function»); method = j .method }
+keptJob j = record {
+  prescription = keptPrescription (j .prescription);
+  variables = keptVariables (j .variables);
+  «merit_function» = keptOperands (j .«merit_function»);
+  method = j .method;
+}
 
 -- the job that a request makes
 abbrev pub jobFrom : JobRequest → Job

@@ -71,7 +71,8 @@ method-back (MultiStart c) = refl
 method-back (Annealing c) = refl
 
 -- ---- a list of them
-entries-back : {A B : Type 0} (there : A → B) (back : B → A) (l : List A) (n : ℕ) (d : A) (e : B) → ((a : A) → back (there a) ≡ a) → length l ≡ n → tab (λ (i : ℕ). back (getD (tab (λ (k : ℕ). there (getD l k d)) n) i e)) n ≡ l
+entries-back : {A B : Type 0} (there : A → B) (back : B → A) (l : List A) (n : ℕ) (d : A) (e : B) → ((a : A) → back (there a) ≡ a) → length l ≡ n
+    → tab (λ (i : ℕ). back (getD (tab (λ (k : ℕ). there (getD l k d)) n) i e)) n ≡ l
 entries-back there back l n d e h m =
     tab-same (λ (i : ℕ). back (getD (tab (λ (k : ℕ). there (getD l k d)) n) i e)) (λ (i : ℕ). getD l i d) n
     (λ i b. ap back (getD-tab (λ (k : ℕ). there (getD l k d)) n i e b) ∙ h (getD l i d))

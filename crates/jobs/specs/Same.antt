@@ -39,7 +39,8 @@ pub record SameOperands (a b : MeritFunction) : Type 0 where
 pub record SameDls (d : DlsConfig) (a b : DlsRequest) : Type 0 where
   pub iterations : countOr (d .«max_iterations») (a .«max_iterations») ≡ countOr (d .«max_iterations») (b .«max_iterations»)
   pub damping : numberOr (d .«initial_damping») (a .«initial_damping») ≡ numberOr (d .«initial_damping») (b .«initial_damping»)
-  pub merit-tolerance : numberOr (d .«relative_merit_tolerance») (a .«relative_merit_tolerance») ≡ numberOr (d .«relative_merit_tolerance») (b .«relative_merit_tolerance»)
+  pub merit-tolerance : numberOr (d .«relative_merit_tolerance») (a .«relative_merit_tolerance»)
+      ≡ numberOr (d .«relative_merit_tolerance») (b .«relative_merit_tolerance»)
   pub gradient-tolerance : numberOr (d .«gradient_tolerance») (a .«gradient_tolerance») ≡ numberOr (d .«gradient_tolerance») (b .«gradient_tolerance»)
   pub relative-step :
       numberOr (d .«finite_difference_relative_step») (a .«finite_difference_relative_step») ≡ numberOr (d .«finite_difference_relative_step») (b .«finite_difference_relative_step»)

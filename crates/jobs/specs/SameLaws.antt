@@ -166,11 +166,14 @@ one-job a b n e = record {
     operand-count : a .«merit_function» .«operand_count» ≡ b .«merit_function» .«operand_count»
     operand-count = ap (λ (j : Job). j .«merit_function» .«operand_count») e
 
-    variables : kept (below (a .variables .«variable_count»)) (variableAt (a .variables)) zeroVariable 8 ≡ kept (below (a .variables .«variable_count»)) (variableAt (b .variables)) zeroVariable 8
+    variables : kept (below (a .variables .«variable_count»)) (variableAt (a .variables)) zeroVariable 8
+        ≡ kept (below (a .variables .«variable_count»)) (variableAt (b .variables)) zeroVariable 8
     variables = ap (λ (j : Job). j .variables .variables) e ∙ ap (λ (n : ℕ). kept (below n) (variableAt (b .variables)) zeroVariable 8) (sym variable-count)
 
-    operands : kept (below (a .«merit_function» .«operand_count»)) (operandAt (a .«merit_function»)) zeroOperand 12 ≡ kept (below (a .«merit_function» .«operand_count»)) (operandAt (b .«merit_function»)) zeroOperand 12
-    operands = ap (λ (j : Job). j .«merit_function» .operands) e ∙ ap (λ (n : ℕ). kept (below n) (operandAt (b .«merit_function»)) zeroOperand 12) (sym operand-count)
+    operands : kept (below (a .«merit_function» .«operand_count»)) (operandAt (a .«merit_function»)) zeroOperand 12
+        ≡ kept (below (a .«merit_function» .«operand_count»)) (operandAt (b .«merit_function»)) zeroOperand 12
+    operands =
+        ap (λ (j : Job). j .«merit_function» .operands) e ∙ ap (λ (n : ℕ). kept (below n) (operandAt (b .«merit_function»)) zeroOperand 12) (sym operand-count)
 
 -- "naming that default makes the same job"; garbage past the counts makes no other
 pub same-exactly : (a b : JobRequest) → countsTaken (filled a) ≡ true → (jobFrom a ≡ jobFrom b) ↔ SameJob a b

@@ -83,7 +83,8 @@ module _ {A : Type 0} (used : ℕ → Bool) (z d : A) (start : List A) where
     }
 
     pub clear-end : (n : ℕ) → length start ≡ n → n ≤ i → l ≡ kept used (λ (k : ℕ). getD start k d) z n
-    clear-end n e h = ext-getD d l (kept used (λ (k : ℕ). getD start k d) z n) (c .full ∙ e ∙ sym (length-kept used _ z n)) (λ k m. at k (rw (c .full, e) at m) (used k) refl)
+    clear-end n e h =
+        ext-getD d l (kept used (λ (k : ℕ). getD start k d) z n) (c .full ∙ e ∙ sym (length-kept used _ z n)) (λ k m. at k (rw (c .full, e) at m) (used k) refl)
       where
         at : (k : ℕ) → k < n → (b : Bool) → used k ≡ b → getD l k d ≡ getD (kept used (λ (k : ℕ). getD start k d) z n) k d
         at k m true u = c .stays k u ∙ sym (kept-used used _ z n k d m u)

@@ -22,7 +22,8 @@ module _ {A : Type 0} where
   -- what stands before the part, or behind it, stays
   pub getD-sets-out : (vs l : List A) (at i : ℕ) (d : A) → (i < at) ⊎ (at + length vs ≤ i) → getD (sets l at vs) i d ≡ getD l i d
   getD-sets-out [] l at i d h = refl
-  getD-sets-out (v ∷ vs) l at i d h = getD-sets-out vs (set l at v) (suc at) i d (outside-rest at i (length vs) h) ∙ getD-set-other l at i v d (outside-first at i (length vs) h)
+  getD-sets-out (v ∷ vs) l at i d h =
+      getD-sets-out vs (set l at v) (suc at) i d (outside-rest at i (length vs) h) ∙ getD-set-other l at i v d (outside-first at i (length vs) h)
 
   -- what was written stands in the part
   pub getD-sets-in : (vs l : List A) (at k : ℕ) (d : A) → k < length vs → at + length vs ≤ length l → getD (sets l at vs) (at + k) d ≡ getD vs k d

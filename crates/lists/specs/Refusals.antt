@@ -100,7 +100,8 @@ holds : (rs : List Refusal) (n : ℕ) → T (has n rs) → T (distinct rs) → f
 holds [] n h t e = absurd h
 holds (r ∷ rs) n h t e = go (eqb (r .number) n) refl h (λ h q. holds rs n h (rest-distinct r rs t) q)
   where
-    go : (b : Bool) → eqb (r .number) n ≡ b → T (b || has n rs) → (T (has n rs) → firstRefusal rs ≡ n → Answering n rs) → (cond b (r .cause) (causeOf n rs) ≡ true) × NoneOf (cond b [] (r ∷ before n rs))
+    go : (b : Bool) → eqb (r .number) n ≡ b → T (b || has n rs) → (T (has n rs) → firstRefusal rs ≡ n → Answering n rs)
+        → (cond b (r .cause) (causeOf n rs) ≡ true) × NoneOf (cond b [] (r ∷ before n rs))
     go true q h later = (first-holds r rs t (r .cause) (e ∙ sym (eqb-true (r .number) n q)), tt)
     go false q h later =
         let p = passed (r .cause) (r .number) n (firstRefusal rs) (eqb-false (r .number) n q) e in
@@ -166,7 +167,8 @@ none-next (r ∷ rs) n h e = go (eqb (r .number) n) h e (none-next rs n)
     in-front m true c k = tt
     in-front m false c k = (c, k)
 
-    go : (b : Bool) → NoneOf (cond b [] (r ∷ before n rs)) → cond b (r .cause) (causeOf n rs) ≡ false → (NoneOf (before n rs) → causeOf n rs ≡ false → NoneOf (before (nextTo n rs) rs)) →
+    go : (b : Bool) → NoneOf (cond b [] (r ∷ before n rs)) → cond b (r .cause) (causeOf n rs) ≡ false
+        → (NoneOf (before n rs) → causeOf n rs ≡ false → NoneOf (before (nextTo n rs) rs)) →
         NoneOf (before (firstNumber (cond b rs (behind n rs))) (r ∷ rs))
     go true h e later = in-front (firstNumber rs) (eqb (r .number) (firstNumber rs)) e (none-first rs)
     go false h e later = in-front (nextTo n rs) (eqb (r .number) (nextTo n rs)) (h .0) (later (h .1) e)

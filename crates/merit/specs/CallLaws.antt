@@ -26,7 +26,8 @@ counts-parts surfaces slots t =
     (leb→le surfaces 16 (and-l (leb surfaces 16) (leb 1 slots) l), leb→le 1 slots (and-r (leb surfaces 16) (leb 1 slots) l), leb→le slots 4 (and-r (leb surfaces 16 && leb 1 slots) (leb slots 4) t))
 
 -- counts that passed their test leave room for the lens's own
-pub counts-room : (p : OpticalPrescription) {b : Bool} → b ≡ lensCountsTaken (p .«surface_count») (p .«slot_count») → not b ≡ false → (p .«surface_count» ≤ 16) × (p .«slot_count» ≤ 4)
+pub counts-room : (p : OpticalPrescription) {b : Bool} → b ≡ lensCountsTaken (p .«surface_count») (p .«slot_count») → not b ≡ false
+    → (p .«surface_count» ≤ 16) × (p .«slot_count» ≤ 4)
 counts-room p {b} e h =
     let k = counts-parts (p .«surface_count») (p .«slot_count») (subst T e (passed b h)) in
     (k .0, k .2)

@@ -48,7 +48,8 @@ module _ (surface : ℕ → OpticalSurface) (index : ℕ → ℕ → Float) (pup
   -- the values after the first n operands, zero from there on
   unfoldable pub valuesAfter : ℕ → List Float
   valuesAfter zero = replicate 12 zero64
-  valuesAfter (suc n) = set (valuesAfter n) n (valueOf (valuesAfter n) (λ (w : ℕ). paraxialOf surface (index w) pupil count) surface count (operandAt function n .«operand_type»))
+  valuesAfter (suc n) =
+      set (valuesAfter n) n (valueOf (valuesAfter n) (λ (w : ℕ). paraxialOf surface (index w) pupil count) surface count (operandAt function n .«operand_type»))
 
   -- value n, after those before it
   abbrev pub valueAt : ℕ → Float

@@ -121,6 +121,7 @@ module _ (surface : ℕ → OpticalSurface) (index : ℕ → ℕ → Float) (pup
   total-fits = counted-fits _ (sum-fits (f .«operand_count»))
 
   -- a total that is not finite counts as that
-  pub overflow-counts : finiteOf (total surface index pupil count f (f .«operand_count»)) ≡ false → evaluationOf surface index pupil count f .«total_merit» ≡ overflowMerit
+  pub overflow-counts : finiteOf (total surface index pupil count f (f .«operand_count»)) ≡ false
+      → evaluationOf surface index pupil count f .«total_merit» ≡ overflowMerit
   unfolding countedTotal
   overflow-counts e = ap (λ (b : Bool). cond b (total surface index pupil count f (f .«operand_count»)) overflowMerit) e

@@ -76,7 +76,8 @@ module _ (p q : OpticalPrescription) (s : SameLens p q) where
   module _ (slot : ℕ) where
     number-agrees : (rows : ℕ) → traceNumber p slot rows ≡ traceNumber q slot rows
     unfolding traceNumber
-    number-agrees rows = λ i. firstRefusal (refusal 1 (not (lensCountsTaken (s .count i) (s .slots i) && eqb rows (s .count i))) ∷ refusal 3 (not (lens-agrees i)) ∷ refusal 5 (not (ltb slot (s .slots i))) ∷ [])
+    number-agrees rows =
+        λ i. firstRefusal (refusal 1 (not (lensCountsTaken (s .count i) (s .slots i) && eqb rows (s .count i))) ∷ refusal 3 (not (lens-agrees i)) ∷ refusal 5 (not (ltb slot (s .slots i))) ∷ [])
 
     pub trace-answers-same : (rows : ℕ) → traceAnswer p slot rows ≡ traceAnswer q slot rows
     unfolding traceAnswer

@@ -50,7 +50,8 @@ module _ (earlier : List Float) (slot : ℕ → Paraxial) (surface surface′ : 
   edge-below : (i : ℕ) → edgeOf surface count i ≡ edgeOf surface′ count i
   edge-below i = go (ltb (i + 1) count) (ltb→lt (i + 1) count)
     where
-      go : (b : Bool) → (T b → i + 1 < count) → cond b (edgeBetween (surface i) (surface (i + 1))) Missing ≡ cond b (edgeBetween (surface′ i) (surface′ (i + 1))) Missing
+      go : (b : Bool) → (T b → i + 1 < count)
+          → cond b (edgeBetween (surface i) (surface (i + 1))) Missing ≡ cond b (edgeBetween (surface′ i) (surface′ (i + 1))) Missing
       go true k = let l : i + 1 < count = k tt in λ j. edgeBetween (same i (omega arith) j) (same (i + 1) l j)
       go false k = refl
 

@@ -191,7 +191,8 @@ fn traced_heights(prescription: OpticalPrescription, slot: usize, length: usize)
 
 // The same, lent, as a row of one record per surface: unless it is done the row stays as it was.
 pub fn trace(prescription: OpticalPrescription, slot: usize, rays: &mut [ParaxialRay]) -> Traced
-    ensures { λ r. ⌜ (r ≡ traceAnswer prescription slot (length (now (rays .entry)))) × (now (rays .exit) ≡ tracedRays prescription slot (now (rays .entry))) ⌝ }
+    ensures { λ r.
+        ⌜ (r ≡ traceAnswer prescription slot (length (now (rays .entry)))) × (now (rays .exit) ≡ tracedRays prescription slot (now (rays .entry))) ⌝ }
 {
     let traced = traced_heights(prescription, slot, rays.len());
     if !traced.done {

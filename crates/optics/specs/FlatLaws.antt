@@ -23,7 +23,8 @@ length-laid surfaces (suc n) = rw (length-append, length-laid surfaces n) (more 
 
 -- the numbers of a surface, behind a part of four for each surface before it
 pub flat-at : (p rest : List Float) (n : ℕ) (s : OpticalSurface) → length p ≡ 4 * n → flatSurface (p ++ (numbersOf s ++ rest)) n ≡ s
-flat-at p rest n s e = λ i. record { «radius_mm» = (ap (λ (k : ℕ). getD (p ++ (numbersOf s ++ rest)) k nan) (sym e ∙ sym (add-zero (length p))) ∙ at 0) i; «conic_constant» = field 1 i; «thickness_mm» = field 2 i; «semi_diameter_mm» = field 3 i }
+flat-at p rest n s e =
+    λ i. record { «radius_mm» = (ap (λ (k : ℕ). getD (p ++ (numbersOf s ++ rest)) k nan) (sym e ∙ sym (add-zero (length p))) ∙ at 0) i; «conic_constant» = field 1 i; «thickness_mm» = field 2 i; «semi_diameter_mm» = field 3 i }
   where
     at : (j : ℕ) → getD (p ++ (numbersOf s ++ rest)) (length p + j) nan ≡ getD (numbersOf s ++ rest) j nan
     at j = getD-append-add p (numbersOf s ++ rest) j nan
@@ -31,7 +32,8 @@ flat-at p rest n s e = λ i. record { «radius_mm» = (ap (λ (k : ℕ). getD (p
     field : (j : ℕ) → getD (p ++ (numbersOf s ++ rest)) (4 * n + j) nan ≡ getD (numbersOf s ++ rest) j nan
     field j = ap (λ (k : ℕ). getD (p ++ (numbersOf s ++ rest)) (k + j) nan) (sym e) ∙ at j
 
-pub flat-laid : (surfaces : List OpticalSurface) (n : ℕ) (rest : List Float) (i : ℕ) → i < n → flatSurface (laidFlat surfaces n ++ rest) i ≡ surfaceAt surfaces i
+pub flat-laid : (surfaces : List OpticalSurface) (n : ℕ) (rest : List Float) (i : ℕ) → i < n
+    → flatSurface (laidFlat surfaces n ++ rest) i ≡ surfaceAt surfaces i
 unfolding laidFlat
 flat-laid surfaces zero rest i h = absurd (no i h)
   where
@@ -46,7 +48,8 @@ flat-laid surfaces (suc n) rest i h =
 -- four stores write the numbers of a surface
 pub four-stored : (l : List Float) (i : ℕ) (s : OpticalSurface)
     → set (set (set (set l i (s .«radius_mm»)) (i + 1) (s .«conic_constant»)) (i + 2) (s .«thickness_mm»)) (i + 3) (s .«semi_diameter_mm») ≡ sets l i (numbersOf s)
-four-stored l i s = λ j. set (set (set (set l i (s .«radius_mm»)) (add-one i j) (s .«conic_constant»)) (two i j) (s .«thickness_mm»)) (three i j) (s .«semi_diameter_mm»)
+four-stored l i s =
+    λ j. set (set (set (set l i (s .«radius_mm»)) (add-one i j) (s .«conic_constant»)) (two i j) (s .«thickness_mm»)) (three i j) (s .«semi_diameter_mm»)
   where
     two : (i : ℕ) → i + 2 ≡ suc (suc i)
     two i = omega arith
@@ -77,7 +80,11 @@ laid-more surfaces l p k e h = rw e (four-stored (q ++ drop i l) i s ∙ sets-eq
     room = rw (length-append, length-laid surfaces k, length-drop) (omega arith)
 
     past : drop (i + 4) (q ++ drop i l) ≡ drop (4 * suc k) l
-    past = ap (λ (n : ℕ). drop (n + 4) (q ++ drop i l)) (sym (length-laid surfaces k)) ∙ drop-append-add q (drop i l) 4 ∙ drop-drop 4 i l ∙ ap (λ (n : ℕ). drop n l) (more k)
+    past =
+        ap (λ (n : ℕ). drop (n + 4) (q ++ drop i l)) (sym (length-laid surfaces k))
+        ∙ drop-append-add q (drop i l) 4
+        ∙ drop-drop 4 i l
+        ∙ ap (λ (n : ℕ). drop n l) (more k)
 
     parts : take i (q ++ drop i l) ++ numbersOf s ++ drop (i + 4) (q ++ drop i l) ≡ (q ++ numbersOf s) ++ drop (4 * suc k) l
     parts = rw (take-at q (drop i l) i (length-laid surfaces k), past)

@@ -54,5 +54,6 @@ module _ (p : OpticalPrescription) (m : p .«surface_count» ≤ 16) where
         surfaces : surfacesTaken (keptPrescription p .surfaces) (p .«surface_count») ≡ surfacesTaken (p .surfaces) (p .«surface_count»)
         surfaces = all-same _ _ (p .«surface_count») (λ k h. ap surfaceTaken (surface-kept k h))
 
-        indices : indicesTaken (keptPrescription p .indices) (p .«slot_count») (p .«surface_count») ≡ indicesTaken (p .indices) (p .«slot_count») (p .«surface_count»)
+        indices : indicesTaken (keptPrescription p .indices) (p .«slot_count») (p .«surface_count»)
+            ≡ indicesTaken (p .indices) (p .«slot_count») (p .«surface_count»)
         indices = all-same _ _ (p .«surface_count») row-kept

@@ -51,7 +51,8 @@ raysBetween first second third = record { before = rayOf (first .y) (second .u);
 
 -- for at least two surfaces, out of the rays at the last two; before a detector the back focus is that of the surface in front of it
 abbrev pub propertiesBehind : LastRays → (surface : ℕ → OpticalSurface) (index : ℕ → Float) (pupil : Float) → ℕ → ParaxialProperties
-propertiesBehind rays surface index pupil count = propertiesFrom (start pupil .y) pupil (rays .last) (cond (endsInDetector surface index count) (rays .before) (rays .last))
+propertiesBehind rays surface index pupil count =
+    propertiesFrom (start pupil .y) pupil (rays .last) (cond (endsInDetector surface index count) (rays .before) (rays .last))
 
 abbrev pub propertiesOf : (surface : ℕ → OpticalSurface) (index : ℕ → Float) (pupil : Float) → ℕ → ParaxialProperties
 propertiesOf surface index pupil count = propertiesBehind (lastRays surface index pupil count) surface index pupil count

@@ -28,7 +28,8 @@ slopeBehind radius n′ a = slopeAfter (a .n) n′ (a .u) (a .y) (power (a .n) n
 
 -- the ray behind a surface of curvature c, as it arrives at the next
 abbrev pub rayBehind : (c thickness n′ : Float) → ArrivingRay → ArrivingRay
-rayBehind c thickness n′ a = let slope′ = slopeAfter (a .n) n′ (a .u) (a .y) (power (a .n) n′ c) in record { y = heightAfter (a .y) thickness slope′; u = slope′; n = n′ }
+rayBehind c thickness n′ a =
+    let slope′ = slopeAfter (a .n) n′ (a .u) (a .y) (power (a .n) n′ c) in record { y = heightAfter (a .y) thickness slope′; u = slope′; n = n′ }
 
 -- from one surface to the next
 abbrev pub onward : OpticalSurface → (n′ : Float) → ArrivingRay → ArrivingRay

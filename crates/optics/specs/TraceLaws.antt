@@ -20,18 +20,21 @@ use Rattle.optics.specs.declared.types.Paraxial.the-variants.{Failed, Tr
 
 -- ---- a turn of a loop over the surfaces
 module _ (surface : ℕ → OpticalSurface) (index : ℕ → Float) (pupil : Float) where
-  pub arriving-more : (k : ℕ) (a r : ArrivingRay) → a ≡ arriving surface index pupil k → r ≡ onward (surface k) (index k) a → r ≡ arriving surface index pupil (k + 1)
+  pub arriving-more : (k : ℕ) (a r : ArrivingRay) → a ≡ arriving surface index pupil k → r ≡ onward (surface k) (index k) a
+      → r ≡ arriving surface index pupil (k + 1)
   unfolding arriving
   arriving-more k a r e f = f ∙ rw (add-one, e)
 
   -- the record of surface k, out of the rays as they arrive at it and at the next
-  pub ray-turned : (k : ℕ) (a r : ArrivingRay) → a ≡ arriving surface index pupil k → r ≡ onward (surface k) (index k) a → rayOf (a .y) (r .u) ≡ rayAt surface index pupil k
+  pub ray-turned : (k : ℕ) (a r : ArrivingRay) → a ≡ arriving surface index pupil k → r ≡ onward (surface k) (index k) a
+      → rayOf (a .y) (r .u) ≡ rayAt surface index pupil k
   ray-turned k a r e f = λ i. rayOf (e i .y) ((f ∙ ap (onward (surface k) (index k)) e) i .u)
 
 -- ---- heights and slopes make the trace
 pub rays-are : (surface : ℕ → OpticalSurface) (index : ℕ → Float) (pupil : Float) (count : ℕ) (hs us : List Float)
     → raysOf (tab (λ (k : ℕ). rayAt surface index pupil k .y) count ++ hs) (tab (λ (k : ℕ). rayAt surface index pupil k .u) count ++ us) count ≡ traceOf surface index pupil count
-rays-are surface index pupil count hs us = tab-same _ _ count (λ k h. λ i. rayOf (at (λ (k : ℕ). rayAt surface index pupil k .y) hs k h i) (at (λ (k : ℕ). rayAt surface index pupil k .u) us k h i))
+rays-are surface index pupil count hs us =
+    tab-same _ _ count (λ k h. λ i. rayOf (at (λ (k : ℕ). rayAt surface index pupil k .y) hs k h i) (at (λ (k : ℕ). rayAt surface index pupil k .u) us k h i))
   where
     at : (f : ℕ → Float) (l : List Float) (k : ℕ) → k < count → getD (tab f count ++ l) k nan ≡ f k
     at f l k h = List·getD-append (tab f count) l nan k (rw (length-tab f count) h) ∙ getD-tab f count k nan h
@@ -62,6 +65,7 @@ module _ (surface surface′ : ℕ → OpticalSurface) (index index′ : ℕ →
   unfolding paraxialOf
   paraxial-same = go (ltb count 2) (λ e. properties-same (ltb-false count 2 e))
     where
-      go : (b : Bool) → (b ≡ false → propertiesOf surface index pupil count ≡ propertiesOf surface′ index′ pupil count) → cond b Failed (Traced (propertiesOf surface index pupil count)) ≡ cond b Failed (Traced (propertiesOf surface′ index′ pupil count))
+      go : (b : Bool) → (b ≡ false → propertiesOf surface index pupil count ≡ propertiesOf surface′ index′ pupil count)
+          → cond b Failed (Traced (propertiesOf surface index pupil count)) ≡ cond b Failed (Traced (propertiesOf surface′ index′ pupil count))
       go true h = refl
       go false h = ap Traced (h refl)

@@ -76,8 +76,12 @@ pub fn trace_heights(
     slopes: &mut [f64],
 )
     requires { ⌜ (slot < 4) × (4 * count ≤ length (now flat)) × (4 * count ≤ length (now indices)) × (count ≤ length (now heights)) × (count ≤ length (now slopes)) ⌝ }
-    ensures { λ _. ⌜ now (heights .exit) ≡ tab (λ (k : ℕ). rayAt (flatSurface (now (flat .entry))) (slotIndex (now (indices .entry)) slot) pupil k .y) count ++ drop count (now (heights .entry)) ⌝ }
-    ensures { λ _. ⌜ now (slopes .exit) ≡ tab (λ (k : ℕ). rayAt (flatSurface (now (flat .entry))) (slotIndex (now (indices .entry)) slot) pupil k .u) count ++ drop count (now (slopes .entry)) ⌝ }
+    ensures { λ _.
+        ⌜ now (heights .exit) ≡ tab (λ (k : ℕ). rayAt (flatSurface (now (flat .entry))) (slotIndex (now (indices .entry)) slot) pupil k .y) count
+        ++ drop count (now (heights .entry)) ⌝ }
+    ensures { λ _.
+        ⌜ now (slopes .exit) ≡ tab (λ (k : ℕ). rayAt (flatSurface (now (flat .entry))) (slotIndex (now (indices .entry)) slot) pupil k .u) count
+        ++ drop count (now (slopes .entry)) ⌝ }
 {
     let mut ray = start_of(pupil);
     let mut k = 0;

@@ -67,7 +67,8 @@ module _ (a : Annealer) (Q : Surfaces → MeritEvaluation → Type 0) (Sound : S
       let k = a .config .«steps_per_temperature» in
       Ends-more (suc left * k) (omega arith) (Ends-bind (left * k) _ (ends-steps k w h) λ w′ h′. ends-cycles left (cooled (a .config .«cooling_rate») w′) h′)
 
-  pub ends-annealing : (base : Surfaces) → Sound base → Ends Q P (1 + (a .config .«max_cooling_cycles» * a .config .«steps_per_temperature» + B)) (annealing a base)
+  pub ends-annealing : (base : Surfaces) → Sound base
+      → Ends Q P (1 + (a .config .«max_cooling_cycles» * a .config .«steps_per_temperature» + B)) (annealing a base)
   unfolding annealing polish bind
   ends-annealing base h =
       let n = a .config .«max_cooling_cycles» * a .config .«steps_per_temperature» in

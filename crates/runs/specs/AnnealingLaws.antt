@@ -52,7 +52,8 @@ module _ (a : Annealer) where
   abbrev after : (i : Float) (k c : ℕ) → Walk → Run OptimizationResult
   after i k c w = bind (steps a k w) (λ (w′ : Walk). bind (cycles a c (cool w′)) (polished a i))
 
-  steps-apart : (i : Float) (k c : ℕ) (w : Walk) → after i (suc k) c w ≡ ask (trialPresc a (trialParams a w) (afterDraws a w)) λ e. after i k c (judged a (trialParams a w) e (afterDraws a w))
+  steps-apart : (i : Float) (k c : ℕ) (w : Walk)
+      → after i (suc k) c w ≡ ask (trialPresc a (trialParams a w) (afterDraws a w)) λ e. after i k c (judged a (trialParams a w) e (afterDraws a w))
   unfolding steps tried bind
   steps-apart i k c w = refl
 
@@ -65,7 +66,8 @@ module _ (a : Annealer) where
   and-true false y h = absurd (true≢false (sym h))
 
   -- at the head of a cycle that has a step
-  cycles-apart : (i : Float) (w : Walk) (c : ℕ) → ltb c cycleCount ≡ true → bind (cycles a (cycleCount - c) w) (polished a i) ≡ after i stepCount (cycleCount - suc c) w
+  cycles-apart : (i : Float) (w : Walk) (c : ℕ) → ltb c cycleCount ≡ true
+      → bind (cycles a (cycleCount - c) w) (polished a i) ≡ after i stepCount (cycleCount - suc c) w
   unfolding cycles
   cycles-apart i w c h =
       let e : cycleCount - c ≡ suc (cycleCount - suc c) = omega (arith, ltb-true) in
@@ -77,7 +79,8 @@ module _ (a : Annealer) where
       let e : stepCount - k ≡ suc (stepCount - suc k) = omega (arith, ltb-true) in
       sym (ap (λ (n : ℕ). after i n (cycleCount - suc c) w) e ∙ steps-apart i (stepCount - suc k) (cycleCount - suc c) w)
 
-  resumes-cycles : (b : Bool) (i : Float) (w : Walk) (c : ℕ) → isCycle a c ≡ b → resumption a (resumeCycles a b i w c) ≡ bind (cycles a (cycleCount - c) w) (polished a i)
+  resumes-cycles : (b : Bool) (i : Float) (w : Walk) (c : ℕ) → isCycle a c ≡ b
+      → resumption a (resumeCycles a b i w c) ≡ bind (cycles a (cycleCount - c) w) (polished a i)
   unfolding resumeCycles
   resumes-cycles true i w c h =
       let t = and-true (ltb c cycleCount) (ltb 0 stepCount) h in
@@ -92,7 +95,8 @@ module _ (a : Annealer) where
       none : ltb 0 stepCount ≡ false → bind (cycles a (cycleCount - c) w) (polished a i) ≡ polished a i w
       none f = no-steps (cycleCount - c) i w (omega (arith, ltb-false))
 
-  resumes-steps : (b : Bool) (i : Float) (w : Walk) (c k : ℕ) → ltb k stepCount ≡ b → resumption a (resumeSteps a b i w c k) ≡ after i (stepCount - k) (cycleCount - suc c) w
+  resumes-steps : (b : Bool) (i : Float) (w : Walk) (c k : ℕ) → ltb k stepCount ≡ b
+      → resumption a (resumeSteps a b i w c k) ≡ after i (stepCount - k) (cycleCount - suc c) w
   unfolding resumeSteps
   resumes-steps true i w c k h = resumes-step i w c k h
   resumes-steps false i w c k h =
@@ -102,7 +106,8 @@ module _ (a : Annealer) where
   -- a damped run that goes on stays in the polish
   stays-polishing : (d : DampedState) (e : MeritEvaluation) → Damped.isFinished d ≡ false → phaseOf ((Damped.advance (polisher a) d e) .phase) ≡ polishing
   unfolding phaseOf
-  stays-polishing = advanced-is (polisher a) (λ (d : DampedState). phaseOf (d .phase) ≡ polishing) (λ s j q. refl) (λ s j q r. refl) (λ s j k c. refl) (λ c s. refl)
+  stays-polishing =
+      advanced-is (polisher a) (λ (d : DampedState). phaseOf (d .phase) ≡ polishing) (λ s j q. refl) (λ s j q r. refl) (λ s j k c. refl) (λ c s. refl)
 
   resumes-polishing : (s : State) (d : DampedState) → phaseOf (d .phase) ≡ polishing →
       resumption a (withDamped s d) ≡ bind (Damped′.resumption (polisher a) d) (λ (result : OptimizationResult). done (withPrior a (s .best .«initial_merit») result))
@@ -112,8 +117,10 @@ module _ (a : Annealer) where
   -- law 2
   goes-on-at : (f : Phase) (s : State) → finishedAt f s ≡ false → resumptionAt a f s ≡ ask (pendingAt a f s) λ e. resumption a (advanceAt a f s e)
   unfolding resumptionAt pendingAt advanceAt finishedAt
-  goes-on-at walkFirst s h = ap (ask (s .damped .surfaces)) (fun-ext λ e. sym (resumes-cycles (isCycle a 0) (e .«total_merit») (started a (s .damped .surfaces) e) 0 refl ∙ ap (λ (n : ℕ). bind (cycles a n (started a (s .damped .surfaces) e)) (polished a (e .«total_merit»))) (sub-zero cycleCount)))
-  goes-on-at walk s h = ap (ask (trialPresc a (s .damped .candidate) (walkOf s))) (fun-ext λ e. sym (resumes-steps (ltb (suc (s .step)) stepCount) (s .best .«initial_merit») (judged a (s .damped .candidate) e (walkOf s)) (s .cycle) (suc (s .step)) refl))
+  goes-on-at walkFirst s h =
+      ap (ask (s .damped .surfaces)) (fun-ext λ e. sym (resumes-cycles (isCycle a 0) (e .«total_merit») (started a (s .damped .surfaces) e) 0 refl ∙ ap (λ (n : ℕ). bind (cycles a n (started a (s .damped .surfaces) e)) (polished a (e .«total_merit»))) (sub-zero cycleCount)))
+  goes-on-at walk s h =
+      ap (ask (trialPresc a (s .damped .candidate) (walkOf s))) (fun-ext λ e. sym (resumes-steps (ltb (suc (s .step)) stepCount) (s .best .«initial_merit») (judged a (s .damped .candidate) e (walkOf s)) (s .cycle) (suc (s .step)) refl))
   goes-on-at polishing s h =
       let d = s .damped in
       let o = polisher a in
@@ -129,7 +136,8 @@ module _ (a : Annealer) where
   unfolding resumptionAt finishedAt bind
   ends-at walkFirst s h = absurd (true≢false (sym h))
   ends-at walk s h = absurd (true≢false (sym h))
-  ends-at polishing s h = ap (λ (r : Run OptimizationResult). bind r (λ (result : OptimizationResult). done (withPrior a (s .best .«initial_merit») result))) (DampedLaws.ends (polisher a) (s .damped) h)
+  ends-at polishing s h =
+      ap (λ (r : Run OptimizationResult). bind r (λ (result : OptimizationResult). done (withPrior a (s .best .«initial_merit») result))) (DampedLaws.ends (polisher a) (s .damped) h)
 
   pub ends : (s : State) → isFinished s ≡ true → resumption a s ≡ done (resultOf a s)
   unfolding resumption isFinished

@@ -45,14 +45,38 @@ pub record Walk : Type 0 where
 
 -- another state of the generator; `temp *= cooling_rate`
 abbrev pub withRng : Walk → ℕ → Walk
-withRng w g = record { surfaces = w .surfaces; params = w .params; currentMerit = w .currentMerit; bestSurfaces = w .bestSurfaces; bestMerit = w .bestMerit; rng = g; temp = w .temp }
+withRng w g = record {
+  surfaces = w .surfaces;
+  params = w .params;
+  currentMerit = w .currentMerit;
+  bestSurfaces = w .bestSurfaces;
+  bestMerit = w .bestMerit;
+  rng = g;
+  temp = w .temp;
+}
 
 abbrev pub cooled : (coolingRate : Float) → Walk → Walk
-cooled coolingRate w = record { surfaces = w .surfaces; params = w .params; currentMerit = w .currentMerit; bestSurfaces = w .bestSurfaces; bestMerit = w .bestMerit; rng = w .rng; temp = mul binary64 (w .temp) coolingRate }
+cooled coolingRate w = record {
+  surfaces = w .surfaces;
+  params = w .params;
+  currentMerit = w .currentMerit;
+  bestSurfaces = w .bestSurfaces;
+  bestMerit = w .bestMerit;
+  rng = w .rng;
+  temp = mul binary64 (w .temp) coolingRate;
+}
 
 -- `if current_merit < best_merit`
 unfoldable pub ifBest : Bool → Walk → Walk
-ifBest true w = record { surfaces = w .surfaces; params = w .params; currentMerit = w .currentMerit; bestSurfaces = w .surfaces; bestMerit = w .currentMerit; rng = w .rng; temp = w .temp }
+ifBest true w = record {
+  surfaces = w .surfaces;
+  params = w .params;
+  currentMerit = w .currentMerit;
+  bestSurfaces = w .surfaces;
+  bestMerit = w .currentMerit;
+  rng = w .rng;
+  temp = w .temp;
+}
 ifBest false w = w
 
 -- the temperature has its floor in the quotient only
@@ -86,7 +110,15 @@ module _ (a : Annealer) where
 
   -- the params that an accepted step keeps are the clamped trial values
   abbrev pub moved : (trial : List Float) (trialMerit : Float) → Walk → Walk
-  moved trial trialMerit w = record { surfaces = trialPresc trial w; params = trial; currentMerit = trialMerit; bestSurfaces = w .bestSurfaces; bestMerit = w .bestMerit; rng = w .rng; temp = w .temp }
+  moved trial trialMerit w = record {
+    surfaces = trialPresc trial w;
+    params = trial;
+    currentMerit = trialMerit;
+    bestSurfaces = w .bestSurfaces;
+    bestMerit = w .bestMerit;
+    rng = w .rng;
+    temp = w .temp;
+  }
 
   unfoldable pub accepted : (trial : List Float) (trialMerit : Float) → Walk → Walk
   accepted trial trialMerit w = ifBest (lt trialMerit (w .bestMerit)) (moved trial trialMerit w)
@@ -98,7 +130,8 @@ module _ (a : Annealer) where
   -- Metropolis acceptance. "Annealing draws for acceptance only when the merit rose."
   unfoldable pub ifNotRisen : Bool → (trial : List Float) (trialMerit deltaMerit : Float) → Walk → Walk
   ifNotRisen true trial trialMerit deltaMerit w = accepted trial trialMerit w
-  ifNotRisen false trial trialMerit deltaMerit w = ifDrawn (lt (unitOf (stepOf (w .rng))) (prob deltaMerit (w .temp))) trial trialMerit (withRng w (stepOf (w .rng)))
+  ifNotRisen false trial trialMerit deltaMerit w =
+      ifDrawn (lt (unitOf (stepOf (w .rng))) (prob deltaMerit (w .temp))) trial trialMerit (withRng w (stepOf (w .rng)))
 
   unfoldable pub judged : (trial : List Float) → MeritEvaluation → Walk → Walk
   judged trial trialEval w =

@@ -95,7 +95,8 @@ module _ (job : Job)
   below-max : (c n : ℕ) → c < n → c < max n 1
   below-max c n h = lt-of-lt-of-le h (le-max-left n 1)
 
-  step-sound : (i : Float) (w : Walk) (c k : ℕ) → 0 < p → c < max cycleCount 1 → k < max stepCount 1 → TakenWalk w → Sound m job (atStep (annealerOf job config) i w c k)
+  step-sound : (i : Float) (w : Walk) (c k : ℕ) → 0 < p → c < max cycleCount 1 → k < max stepCount 1 → TakenWalk w
+      → Sound m job (atStep (annealerOf job config) i w c k)
   unfolding afterDraws
   step-sound i w c k pos below-c below-k h = record {
     phaseUpTo = omega arith;
@@ -109,9 +110,11 @@ module _ (job : Job)
     stepBelow = below-k;
   }
 
-  cycles-sound : (b : Bool) (i : Float) (w : Walk) (c : ℕ) → isCycle (annealerOf job config) c ≡ b → 0 < p → TakenWalk w → Sound m job (resumeCycles (annealerOf job config) b i w c)
+  cycles-sound : (b : Bool) (i : Float) (w : Walk) (c : ℕ) → isCycle (annealerOf job config) c ≡ b → 0 < p → TakenWalk w
+      → Sound m job (resumeCycles (annealerOf job config) b i w c)
   unfolding resumeCycles
-  cycles-sound true i w c e pos h = step-sound i w c 0 pos (below-max c cycleCount (ltb-true c cycleCount (first (ltb c cycleCount) (ltb 0 stepCount) e))) (one-below stepCount) h
+  cycles-sound true i w c e pos h =
+      step-sound i w c 0 pos (below-max c cycleCount (ltb-true c cycleCount (first (ltb c cycleCount) (ltb 0 stepCount) e))) (one-below stepCount) h
     where
       first : (x y : Bool) → x && y ≡ true → x ≡ true
       first true y h = refl
@@ -128,7 +131,8 @@ module _ (job : Job)
     stepBelow = one-below stepCount;
   }
 
-  steps-sound : (b : Bool) (i : Float) (w : Walk) (c k : ℕ) → ltb k stepCount ≡ b → 0 < p → c < max cycleCount 1 → TakenWalk w → Sound m job (resumeSteps (annealerOf job config) b i w c k)
+  steps-sound : (b : Bool) (i : Float) (w : Walk) (c k : ℕ) → ltb k stepCount ≡ b → 0 < p → c < max cycleCount 1 → TakenWalk w
+      → Sound m job (resumeSteps (annealerOf job config) b i w c k)
   unfolding resumeSteps
   steps-sound true i w c k e pos l h = step-sound i w c k pos l (below-max k stepCount (ltb-true k stepCount e)) h
   steps-sound false i w c k e pos l h = cycles-sound (isCycle (annealerOf job config) (suc c)) i (cooled (config .«cooling_rate») w) (suc c) refl pos h
@@ -136,7 +140,8 @@ module _ (job : Job)
   above-zero : (q n : ℕ) → q < n → 0 < n
   above-zero q n h = omega arith
 
-  advanced-sound : (f : Phase) (s : State) (e : MeritEvaluation) → phaseOf (s .damped .phase) ≡ f → finishedAt f s ≡ false → Sound m job s → Sound m job (advanceAt (annealerOf job config) f s e)
+  advanced-sound : (f : Phase) (s : State) (e : MeritEvaluation) → phaseOf (s .damped .phase) ≡ f → finishedAt f s ≡ false → Sound m job s
+      → Sound m job (advanceAt (annealerOf job config) f s e)
   unfolding advanceAt finishedAt
   advanced-sound walkFirst s e g u h =
       cycles-sound (isCycle (annealerOf job config) 0) (e .«total_merit») (started (annealerOf job config) (s .damped .surfaces) e) 0 refl (above-zero (s .damped .column) p (h .columnBelow)) (h .current tt, h .current tt)

@@ -70,7 +70,8 @@ module _ (r : Row) where
     turns : isFinished r ≡ false → bound (jobOfRow r) ≤ r .turns → Damage
 
   is-kind : T (isKind (r .kind)) → r .kind ≢ 1 → r .kind ≢ 2 → r .kind ≢ 3 → ⊥
-  is-kind h a b c = go (eqb (r .kind) 1) (eqb (r .kind) 2) (eqb (r .kind) 3) (λ t. a (eqb→eq (r .kind) 1 t)) (λ t. b (eqb→eq (r .kind) 2 t)) (λ t. c (eqb→eq (r .kind) 3 t)) h
+  is-kind h a b c =
+      go (eqb (r .kind) 1) (eqb (r .kind) 2) (eqb (r .kind) 3) (λ t. a (eqb→eq (r .kind) 1 t)) (λ t. b (eqb→eq (r .kind) 2 t)) (λ t. c (eqb→eq (r .kind) 3 t)) h
     where
       go : (x y z : Bool) → (T x → ⊥) → (T y → ⊥) → (T z → ⊥) → T (x || y || z) → ⊥
       go true y z f g k h = f tt
@@ -120,7 +121,8 @@ module _ (r : Row) where
   -- ---- each test that fails is a cause
   cause-job : T (not (jobSound r)) → Damage
   unfolding jobSound
-  cause-job = not-and (isKind (r .kind)) (recordTaken (r .kind) (r .job)) no-kind (not-and (jobTaken (jobOfRow r)) (knownKinds (r .job)) refusedJob refusedKinds)
+  cause-job =
+      not-and (isKind (r .kind)) (recordTaken (r .kind) (r .job)) no-kind (not-and (jobTaken (jobOfRow r)) (knownKinds (r .job)) refusedJob refusedKinds)
 
   cause-surfaces : T (not (surfacesSound m count s)) → Damage
   unfolding surfacesSound

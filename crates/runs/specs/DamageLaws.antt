@@ -28,7 +28,8 @@ use Rattle.runs.specs.RowLaws.{ReadBack, job-advance}
 use Rattle.runs.specs.Turned.{turned, rowAfter, reached, unfinished-below, turns-after, job-after}
 
 -- ---- a turn
-sound-by : (m : Method) (job : Job) → Usable job → (s : State) (e : MeritEvaluation) → finishedBy m s ≡ false → Sound m job s → Sound m job (advanceBy m job s e)
+sound-by : (m : Method) (job : Job) → Usable job → (s : State) (e : MeritEvaluation) → finishedBy m s ≡ false → Sound m job s
+    → Sound m job (advanceBy m job s e)
 sound-by (Damped config) job k s e u h = damped-sound job (k .applies) (k .based) config s e u h
 sound-by (MultiStart config) job k s e u h = multi-sound job (k .applies) (k .based) config s e u h
 sound-by (Annealing config) job k s e u h = annealing-sound job (k .applies) config s e u h
@@ -81,7 +82,8 @@ whole r h t =
     let s = stateSound (jobOfRow r .method) (jobOfRow r) (stateOf r) in
     is-false (j && s && turnsSound r) (and-i (j && s) (turnsSound r) (and-i j s (h .0) (h .1)) t)
 
-pub undamaged-advance : (r : Row) (e : MeritEvaluation) → damaged r ≡ false → isFinished r ≡ false → T (turnsSound (advance r e)) → damaged (advance r e) ≡ false
+pub undamaged-advance : (r : Row) (e : MeritEvaluation) → damaged r ≡ false → isFinished r ≡ false → T (turnsSound (advance r e))
+    → damaged (advance r e) ≡ false
 undamaged-advance r e h u t = whole (advance r e) (advance-sound r e u (parts r h)) t
 
 -- ---- admission
@@ -90,9 +92,39 @@ zero-below n = le-max-right n 1
 
 sound-began : (m : Method) (job : Job) → Usable job → Sound m job (began m job)
 unfolding began finishedBy DampedRow.isFinished DampedRow.finishedAt DampedRow.phaseOf
-sound-began (Damped config) job k = record { phaseUpTo = omega arith; current = λ u. k .based; best = λ u. absurd u; columnBelow = k .enabled; attemptUpTo = omega arith; iterationUpTo = omega arith; trialUpTo = omega arith; cycleBelow = omega arith; stepBelow = omega arith }
-sound-began (MultiStart config) job k = record { phaseUpTo = omega arith; current = λ u. k .based; best = λ u. absurd u; columnBelow = k .enabled; attemptUpTo = omega arith; iterationUpTo = omega arith; trialUpTo = omega arith; cycleBelow = omega arith; stepBelow = omega arith }
-sound-began (Annealing config) job k = record { phaseUpTo = omega arith; current = λ u. k .based; best = λ u. absurd u; columnBelow = k .enabled; attemptUpTo = omega arith; iterationUpTo = omega arith; trialUpTo = omega arith; cycleBelow = zero-below (config .«max_cooling_cycles»); stepBelow = zero-below (config .«steps_per_temperature») }
+sound-began (Damped config) job k = record {
+  phaseUpTo = omega arith;
+  current = λ u. k .based;
+  best = λ u. absurd u;
+  columnBelow = k .enabled;
+  attemptUpTo = omega arith;
+  iterationUpTo = omega arith;
+  trialUpTo = omega arith;
+  cycleBelow = omega arith;
+  stepBelow = omega arith;
+}
+sound-began (MultiStart config) job k = record {
+  phaseUpTo = omega arith;
+  current = λ u. k .based;
+  best = λ u. absurd u;
+  columnBelow = k .enabled;
+  attemptUpTo = omega arith;
+  iterationUpTo = omega arith;
+  trialUpTo = omega arith;
+  cycleBelow = omega arith;
+  stepBelow = omega arith;
+}
+sound-began (Annealing config) job k = record {
+  phaseUpTo = omega arith;
+  current = λ u. k .based;
+  best = λ u. absurd u;
+  columnBelow = k .enabled;
+  attemptUpTo = omega arith;
+  iterationUpTo = omega arith;
+  trialUpTo = omega arith;
+  cycleBelow = zero-below (config .«max_cooling_cycles»);
+  stepBelow = zero-below (config .«steps_per_temperature»);
+}
 
 kind-is : (job : Job) → T (isKind (kindOf job))
 kind-is job = go (job .method)
@@ -126,7 +158,8 @@ module _ (f : Surfaces → MeritEvaluation) (job : Job) (back : ReadBack job) (k
     where
       go : (b : Bool) → isFinished (rowAfter f n job) ≡ b → T (b || ltb (rowAfter f n job .turns) (bound (jobOfRow (rowAfter f n job))))
       go true e = tt
-      go false e = subst (λ (j : Job). T (ltb (rowAfter f n job .turns) (bound j))) (sym (job-after f job back n)) (subst (λ (t : ℕ). T (ltb t (bound job))) (sym (turns-after f job n e)) (lt→ltb n (bound job) (unfinished-below f job back n e)))
+      go false e =
+          subst (λ (j : Job). T (ltb (rowAfter f n job .turns) (bound j))) (sym (job-after f job back n)) (subst (λ (t : ℕ). T (ltb t (bound job))) (sym (turns-after f job n e)) (lt→ltb n (bound job) (unfinished-below f job back n e)))
 
   pub never-damaged : (n : ℕ) → damaged (rowAfter f n job) ≡ false
   never-damaged n = whole (rowAfter f n job) (sound-after n) (turns-sound n)

@@ -43,13 +43,15 @@ module _ (o : Optimizer) (Q : Surfaces → MeritEvaluation → Type 0) (Holds : 
       go true = h
       go false = h
 
-  ends-reduced : (b : Bool) (c : List Float) (e : MeritEvaluation) (s : Current) (n : ℕ) (next : Run After) → isReduction o e s ≡ b → Q (testPresc o c s) e → Holds s → Ends Q HoldsAfter n next → Ends Q HoldsAfter n (ifReduced o b c e s next)
+  ends-reduced : (b : Bool) (c : List Float) (e : MeritEvaluation) (s : Current) (n : ℕ) (next : Run After) → isReduction o e s ≡ b → Q (testPresc o c s) e
+      → Holds s → Ends Q HoldsAfter n next → Ends Q HoldsAfter n (ifReduced o b c e s next)
   unfolding ifReduced
   ends-reduced true c e s n next t q h r = now (holds-accepted c e s (moves c e s h q t))
   ends-reduced false c e s n next t q h r = r
 
   -- one merit an attempt, or none
-  ends-solved : (b : Bool) (c : List Float) (s : Current) (n : ℕ) (next : Run After) → Holds s → Ends Q HoldsAfter n next → Ends Q HoldsAfter (suc n) (ifSolved o b c s next)
+  ends-solved : (b : Bool) (c : List Float) (s : Current) (n : ℕ) (next : Run After) → Holds s → Ends Q HoldsAfter n next
+      → Ends Q HoldsAfter (suc n) (ifSolved o b c s next)
   unfolding ifSolved bind
   ends-solved true c s n next h r = later {n = n} {m = suc n} (omega arith) λ e q. ends-reduced (isReduction o e s) c e s n next refl q h r
   ends-solved false c s n next h r = Ends-more (suc n) (omega arith) r
@@ -57,7 +59,8 @@ module _ (o : Optimizer) (Q : Surfaces → MeritEvaluation → Type 0) (Holds : 
   ends-attempts : (left : ℕ) (jMat : List Float) (s : Current) → Holds s → Ends Q HoldsAfter left (attempts o left jMat s)
   unfolding attempts
   ends-attempts zero jMat s h = now h
-  ends-attempts (suc left) jMat s h = ends-solved (isSolved o jMat s) (candidateParams o jMat s) s left (attempts o left jMat (raised s)) h (ends-attempts left jMat (raised s) (raises s h))
+  ends-attempts (suc left) jMat s h =
+      ends-solved (isSolved o jMat s) (candidateParams o jMat s) s left (attempts o left jMat (raised s)) h (ends-attempts left jMat (raised s) (raises s h))
 
   ends-stationary : (b : Bool) (jMat : List Float) (s : Current) → Holds s → Ends Q HoldsAfter 10 (ifStationary o b jMat s)
   unfolding ifStationary
@@ -66,9 +69,11 @@ module _ (o : Optimizer) (Q : Surfaces → MeritEvaluation → Type 0) (Holds : 
 
   ends-iteration : (s : Current) → Holds s → Ends Q HoldsAfter (2 * p + 10) (iteration o s)
   unfolding iteration
-  ends-iteration s h = Ends-bind 10 _ (ends-columns p 0 (counted s) zeroJacobian) λ jMat t. ends-stationary (isStationary o jMat (counted s)) jMat (counted s) (counts s h)
+  ends-iteration s h =
+      Ends-bind 10 _ (ends-columns p 0 (counted s) zeroJacobian) λ jMat t. ends-stationary (isStationary o jMat (counted s)) jMat (counted s) (counts s h)
 
-  ends-going : (n : ℕ) (next : Current → Run After) → ((s : Current) → Holds s → Ends Q HoldsAfter n (next s)) → (end : After) → HoldsAfter end → Ends Q HoldsAfter n (goingOn next end)
+  ends-going : (n : ℕ) (next : Current → Run After) → ((s : Current) → Holds s → Ends Q HoldsAfter n (next s)) → (end : After) → HoldsAfter end
+      → Ends Q HoldsAfter n (goingOn next end)
   unfolding goingOn
   ends-going n next f (on s) h = f s h
   ends-going n next f (over converged s) h = now h

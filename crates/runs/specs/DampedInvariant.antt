@@ -34,13 +34,16 @@ pub record Invariant (o : Optimizer) : Type 1 where
   pub moves : (c : List Float) (e : MeritEvaluation) (s : Current) → Holds s → Candidate c → Answer e → Holds (moved o c e s)
   pub firstColumn : ltb 0 (numActive (o .variables)) ≡ true → AtColumn 0 zeroJacobian
   pub noColumn : ltb 0 (numActive (o .variables)) ≡ false → Full zeroJacobian
-  pub nextColumn : (s : Current) (q : ℕ) (jMat plusResiduals minusResiduals : List Float) → Holds s → AtColumn q jMat → Residuals plusResiduals → Residuals minusResiduals → ltb (suc q) (numActive (o .variables)) ≡ true → AtColumn (suc q) (withDifferences o s q jMat plusResiduals minusResiduals)
-  pub lastColumn : (s : Current) (q : ℕ) (jMat plusResiduals minusResiduals : List Float) → Holds s → AtColumn q jMat → Residuals plusResiduals → Residuals minusResiduals → ltb (suc q) (numActive (o .variables)) ≡ false → Full (withDifferences o s q jMat plusResiduals minusResiduals)
+  pub nextColumn : (s : Current) (q : ℕ) (jMat plusResiduals minusResiduals : List Float) → Holds s → AtColumn q jMat → Residuals plusResiduals
+      → Residuals minusResiduals → ltb (suc q) (numActive (o .variables)) ≡ true → AtColumn (suc q) (withDifferences o s q jMat plusResiduals minusResiduals)
+  pub lastColumn : (s : Current) (q : ℕ) (jMat plusResiduals minusResiduals : List Float) → Holds s → AtColumn q jMat → Residuals plusResiduals
+      → Residuals minusResiduals → ltb (suc q) (numActive (o .variables)) ≡ false → Full (withDifferences o s q jMat plusResiduals minusResiduals)
   pub solves : (jMat : List Float) (s : Current) → Holds s → Full jMat → Candidate (candidateParams o jMat s)
   pub answers : (e : MeritEvaluation) → Answer e → Residuals (e .residuals)
   -- the states
   pub statePlus : (s : Current) (jMat : List Float) (q : ℕ) → Holds s → AtColumn q jMat → State (atPlus s jMat q)
-  pub stateMinus : (s : Current) (jMat : List Float) (q : ℕ) (plusResiduals : List Float) → Holds s → AtColumn q jMat → Residuals plusResiduals → State (atMinus s jMat q plusResiduals)
+  pub stateMinus : (s : Current) (jMat : List Float) (q : ℕ) (plusResiduals : List Float) → Holds s → AtColumn q jMat → Residuals plusResiduals
+      → State (atMinus s jMat q plusResiduals)
   pub stateCandidate : (s : Current) (jMat : List Float) (k : ℕ) (c : List Float) → Holds s → Full jMat → Candidate c → k ≤ 10 → State (atCandidate s jMat k c)
   pub stateEnded : (converged : Bool) (s : Current) → Holds s → State (ended converged s)
 
@@ -55,7 +58,8 @@ module _ (o : Optimizer) (K : Invariant o) where
   Before candidate d = Holds (currentOf d) × Full (d .jacobian) × Candidate (d .candidate)
   Before finished d = Unit {0}
 
-  keeps-solved : (b : Bool) (c jMat : List Float) (s : Current) (k : ℕ) (next : DampedState) → Holds s → Full jMat → Candidate c → suc k ≤ 10 → State next → State (resumeSolved o b c jMat s k next)
+  keeps-solved : (b : Bool) (c jMat : List Float) (s : Current) (k : ℕ) (next : DampedState) → Holds s → Full jMat → Candidate c → suc k ≤ 10 → State next
+      → State (resumeSolved o b c jMat s k next)
   unfolding resumeSolved
   keeps-solved true c jMat s k next h f g l n = K .stateCandidate s jMat (suc k) c h f g l
   keeps-solved false c jMat s k next h f g l n = n
@@ -71,7 +75,8 @@ module _ (o : Optimizer) (K : Invariant o) where
   keeps-stationary true jMat s h f = K .stateEnded true s h
   keeps-stationary false jMat s h f = keeps-attempts 10 jMat s 0 refl h f
 
-  keeps-columns : (b : Bool) (jMat : List Float) (s : Current) (q : ℕ) → Holds s → (b ≡ true → AtColumn q jMat) → (b ≡ false → Full jMat) → State (resumeColumns o b jMat s q)
+  keeps-columns : (b : Bool) (jMat : List Float) (s : Current) (q : ℕ) → Holds s → (b ≡ true → AtColumn q jMat) → (b ≡ false → Full jMat)
+      → State (resumeColumns o b jMat s q)
   unfolding resumeColumns
   keeps-columns true jMat s q h c f = K .statePlus s jMat q h (c refl)
   keeps-columns false jMat s q h c f = keeps-stationary (isStationary o jMat s) jMat s h (f refl)

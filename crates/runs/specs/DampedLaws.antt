@@ -101,7 +101,9 @@ module _ (o : Optimizer) where
   resumes-reduced : (b : Bool) (d : DampedState) (e : MeritEvaluation) →
       resumption o (resumeReduced o b d e) ≡ bind (ifReduced o b (d .candidate) e (currentOf d) (attempts o (10 - d .attempt) (d .jacobian) (raised (currentOf d)))) (rest o (limit - d .iteration))
   unfolding resumeReduced ifReduced bind
-  resumes-reduced true d e = resumes-after (accepted o (d .candidate) e (currentOf d)) ∙ ap (λ (i : ℕ). rest o (limit - i) (accepted o (d .candidate) e (currentOf d))) (accepted-iteration (d .candidate) e (currentOf d))
+  resumes-reduced true d e =
+      resumes-after (accepted o (d .candidate) e (currentOf d))
+      ∙ ap (λ (i : ℕ). rest o (limit - i) (accepted o (d .candidate) e (currentOf d))) (accepted-iteration (d .candidate) e (currentOf d))
   resumes-reduced false d e = resumes-attempts (10 - d .attempt) (d .jacobian) (raised (currentOf d)) (d .attempt) (limit - d .iteration) refl refl
 
   -- ---- law 2: a state that is not at the end asks for its pending surfaces, and goes on as its advance
@@ -109,7 +111,8 @@ module _ (o : Optimizer) where
   unfolding resumptionAt pendingAt advanceAt finishedAt bind
   goes-on-at first d h = ap (ask (d .surfaces)) (fun-ext λ e. sym (rw sub-zero at (resumes-after (on (started o (d .surfaces) e)))))
   goes-on-at plus d h = unfold resumption phaseOf in refl
-  goes-on-at minus d h = ap (ask (prescMinus o (currentOf d) (d .column))) (fun-ext λ e. sym (resumes-columns (ltb (suc (d .column)) p) (withDifferences o (currentOf d) (d .column) (d .jacobian) (d .«plus_residuals») (e .residuals)) (currentOf d) (suc (d .column)) (limit - d .iteration) refl refl))
+  goes-on-at minus d h =
+      ap (ask (prescMinus o (currentOf d) (d .column))) (fun-ext λ e. sym (resumes-columns (ltb (suc (d .column)) p) (withDifferences o (currentOf d) (d .column) (d .jacobian) (d .«plus_residuals») (e .residuals)) (currentOf d) (suc (d .column)) (limit - d .iteration) refl refl))
   goes-on-at candidate d h = ap (ask (testPresc o (d .candidate) (currentOf d))) (fun-ext λ e. sym (resumes-reduced (isReduction o e (currentOf d)) d e))
   goes-on-at finished d h = absurd (true≢false h)
 

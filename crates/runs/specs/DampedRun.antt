@@ -75,11 +75,25 @@ resultOf end = record {
 
 -- `iteration += 1`
 abbrev pub counted : Current → Current
-counted s = record { surfaces = s .surfaces; params = s .params; evaluation = s .evaluation; initialMerit = s .initialMerit; damping = s .damping; iteration = suc (s .iteration) }
+counted s = record {
+  surfaces = s .surfaces;
+  params = s .params;
+  evaluation = s .evaluation;
+  initialMerit = s .initialMerit;
+  damping = s .damping;
+  iteration = suc (s .iteration);
+}
 
 -- "raised .. after each attempt not accepted", one without a merit too
 abbrev pub raised : Current → Current
-raised s = record { surfaces = s .surfaces; params = s .params; evaluation = s .evaluation; initialMerit = s .initialMerit; damping = raisedOf (s .damping); iteration = s .iteration }
+raised s = record {
+  surfaces = s .surfaces;
+  params = s .params;
+  evaluation = s .evaluation;
+  initialMerit = s .initialMerit;
+  damping = raisedOf (s .damping);
+  iteration = s .iteration;
+}
 
 -- `if rel_improvement < relative_merit_tolerance`
 unfoldable pub settled : Bool → Current → After

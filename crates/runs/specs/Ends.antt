@@ -29,12 +29,14 @@ module _ {A : Type 0} {Q : Surfaces → MeritEvaluation → Type 0} where
   Ends-map f (later {n = i} lt k) = later {n = i} lt (λ e q. Ends-map f (k e q))
 
   -- more is asked of the answers
-  pub Ends-for : {Q′ : Surfaces → MeritEvaluation → Type 0} {P : A → Type 0} {n : ℕ} {r : Run A} → ((s : Surfaces) (e : MeritEvaluation) → Q′ s e → Q s e) → Ends Q P n r → Ends Q′ P n r
+  pub Ends-for : {Q′ : Surfaces → MeritEvaluation → Type 0} {P : A → Type 0} {n : ℕ} {r : Run A} → ((s : Surfaces) (e : MeritEvaluation) → Q′ s e → Q s e)
+      → Ends Q P n r → Ends Q′ P n r
   Ends-for f (now p) = now p
   Ends-for f (later {n = i} {s = s} lt k) = later {n = i} lt (λ e q. Ends-for f (k e (f s e q)))
 
   -- what it says of a run under an evaluation
-  pub Ends-after : {P : A → Type 0} {n : ℕ} {r : Run A} (f : Surfaces → MeritEvaluation) → ((s : Surfaces) → Q s (f s)) → Ends Q P n r → (m : ℕ) → n ≤ m → (a : A) × P a × (afterMerits f m r ≡ done a)
+  pub Ends-after : {P : A → Type 0} {n : ℕ} {r : Run A} (f : Surfaces → MeritEvaluation) → ((s : Surfaces) → Q s (f s)) → Ends Q P n r → (m : ℕ) → n ≤ m
+      → (a : A) × P a × (afterMerits f m r ≡ done a)
   unfolding afterMerits afterMerit
   Ends-after f fine (now {a = a} p) m le = (a, p, after-done f m a)
   Ends-after f fine (later lt h) zero le = absurd (omega arith)

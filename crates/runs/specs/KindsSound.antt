@@ -45,7 +45,8 @@ module _ (job : Job)
   abbrev DampedPart : DlsConfig → DampedState → Type 0
   DampedPart config d = DampedSound.Sound (optimizerOf job config) Taken applies d
 
-  pub damped-sound : (config : DlsConfig) (s : State) (e : MeritEvaluation) → finishedBy (Damped config) s ≡ false → Sound (Damped config) job s → Sound (Damped config) job (advanceBy (Damped config) job s e)
+  pub damped-sound : (config : DlsConfig) (s : State) (e : MeritEvaluation) → finishedBy (Damped config) s ≡ false → Sound (Damped config) job s
+      → Sound (Damped config) job (advanceBy (Damped config) job s e)
   unfolding finishedBy advanceBy
   damped-sound config s e u h =
       let before : DampedPart config (s .damped) = record { isPhase = h .phaseUpTo; taken = h .current tt; columnBelow = h .columnBelow; attemptUpTo = h .attemptUpTo; iterationUpTo = h .iterationUpTo } in
@@ -67,7 +68,8 @@ module _ (job : Job)
   or-left true b t = tt
   or-left false b t = absurd t
 
-  merged-taken : (t : ℕ) (best result : OptimizationResult) → (T (ltb 0 t) → Taken (best .surfaces)) → Taken (result .surfaces) → Taken (merged (MultiRow.bestBefore t best) result .surfaces)
+  merged-taken : (t : ℕ) (best result : OptimizationResult) → (T (ltb 0 t) → Taken (best .surfaces)) → Taken (result .surfaces)
+      → Taken (merged (MultiRow.bestBefore t best) result .surfaces)
   unfolding merged MultiRow.bestBefore
   merged-taken zero best result h r = r
   merged-taken (suc t) best result h r = go (isLower result best)

@@ -77,13 +77,15 @@ module _ (o : Optimizer) where
   before candidate d h = (h, tt, tt)
   before finished d h = tt
 
-  pub damped-sixteen : (d : DampedState) (e : MeritEvaluation) → DampedRow.isFinished d ≡ false → Sixteen (d .surfaces) → Sixteen (DampedRow.advance o d e .surfaces)
+  pub damped-sixteen : (d : DampedState) (e : MeritEvaluation) → DampedRow.isFinished d ≡ false → Sixteen (d .surfaces)
+      → Sixteen (DampedRow.advance o d e .surfaces)
   unfolding sixteen
   damped-sixteen d e u h = keeps o sixteen d e u (before (phaseOf (d .phase)) d h) tt
 
 -- ---- multi-start
 module _ (o : Optimizer) (base : Surfaces) (based : Sixteen base) (trials : ℕ) where
-  merged-sixteen : (b : Bool) (result best : OptimizationResult) → Sixteen (result .surfaces) → Sixteen (best .surfaces) → Sixteen (cond b result best .surfaces)
+  merged-sixteen : (b : Bool) (result best : OptimizationResult) → Sixteen (result .surfaces) → Sixteen (best .surfaces)
+      → Sixteen (cond b result best .surfaces)
   merged-sixteen true result best h g = h
   merged-sixteen false result best h g = g
 
@@ -100,12 +102,14 @@ module _ (o : Optimizer) (base : Surfaces) (based : Sixteen base) (trials : ℕ)
 
   ended-whole : (b : Bool) (s : State) (d : DampedState) → Sixteen (d .surfaces) → Whole s → Whole (MultiStartRow.resumeDamped o base trials b s d)
   unfolding MultiStartRow.resumeDamped
-  ended-whole true s d h w = next-sixteen (ltb (s .trial) trials) _ (s .generator) (s .trial) (best-sixteen (s .trial) (s .best) (DampedRow.resultOf d) (w .best) h)
+  ended-whole true s d h w =
+      next-sixteen (ltb (s .trial) trials) _ (s .generator) (s .trial) (best-sixteen (s .trial) (s .best) (DampedRow.resultOf d) (w .best) h)
   ended-whole false s d h w = record { damped = h; best = w .best }
 
   multi-start-whole : (s : State) (e : MeritEvaluation) → MultiStartRow.isFinished s ≡ false → Whole s → Whole (MultiStartRow.advance o base trials s e)
   unfolding MultiStartRow.advance
-  multi-start-whole s e u w = let d = DampedRow.advance o (s .damped) e in ended-whole (DampedRow.isFinished d) s d (damped-sixteen o (s .damped) e u (w .damped)) w
+  multi-start-whole s e u w =
+      let d = DampedRow.advance o (s .damped) e in ended-whole (DampedRow.isFinished d) s d (damped-sixteen o (s .damped) e u (w .damped)) w
 
 -- ---- annealing
 module _ (a : Annealer) where
@@ -153,9 +157,11 @@ module _ (a : Annealer) where
   steps-whole : (b : Bool) (m : Float) (w : Walk) (c k : ℕ) → Walks w → Whole (AnnealingRow.resumeSteps a b m w c k)
   unfolding AnnealingRow.resumeSteps
   steps-whole true m w c k h = step-whole m w c k h
-  steps-whole false m w c k h = cycles-whole (AnnealingRow.isCycle a (suc c)) m (cooled (a .config .«cooling_rate») w) (suc c) record { here = h .here; best = h .best }
+  steps-whole false m w c k h =
+      cycles-whole (AnnealingRow.isCycle a (suc c)) m (cooled (a .config .«cooling_rate») w) (suc c) record { here = h .here; best = h .best }
 
-  advance-walk : (f : AnnealingRow.Phase) (s : State) (e : MeritEvaluation) → AnnealingRow.finishedAt f s ≡ false → Whole s → Whole (AnnealingRow.advanceAt a f s e)
+  advance-walk : (f : AnnealingRow.Phase) (s : State) (e : MeritEvaluation) → AnnealingRow.finishedAt f s ≡ false → Whole s
+      → Whole (AnnealingRow.advanceAt a f s e)
   unfolding AnnealingRow.advanceAt AnnealingRow.finishedAt
   advance-walk walkFirst s e u w = cycles-whole (AnnealingRow.isCycle a 0) (e .«total_merit») _ 0 record { here = w .damped; best = w .damped }
   advance-walk walk s e u w =
@@ -174,7 +180,8 @@ began-whole (Damped config) job h = record { damped = h; best = refl }
 began-whole (MultiStart config) job h = record { damped = h; best = refl }
 began-whole (Annealing config) job h = record { damped = h; best = refl }
 
-advance-whole : (m : Method) (job : Job) (s : State) (e : MeritEvaluation) → Sixteen (baseOf job) → finishedBy m s ≡ false → Whole s → Whole (advanceBy m job s e)
+advance-whole : (m : Method) (job : Job) (s : State) (e : MeritEvaluation) → Sixteen (baseOf job) → finishedBy m s ≡ false → Whole s
+    → Whole (advanceBy m job s e)
 unfolding advanceBy finishedBy
 advance-whole (Damped config) job s e b u w = record { damped = damped-sixteen (optimizerOf job config) (s .damped) e u (w .damped); best = w .best }
 advance-whole (MultiStart config) job s e b u w = multi-start-whole (optimizerOf job (config .«local_dls_config»)) (baseOf job) b (config .«num_trials») s e u w

@@ -34,7 +34,8 @@ module _ (f : Surfaces → MeritEvaluation) (o : Optimizer) (base : Surfaces) wh
   abbrev last : Best → Run OptimizationResult
   last best = done (theBest best)
 
-  trials-below : (left rng : ℕ) (best : OptimizationResult) → NotAbove (theBest (value f (trials o base left rng (some best))) .«final_merit») (best .«final_merit»)
+  trials-below : (left rng : ℕ) (best : OptimizationResult)
+      → NotAbove (theBest (value f (trials o base left rng (some best))) .«final_merit») (best .«final_merit»)
   unfolding trials value
   trials-below zero rng best = same refl
   trials-below (suc left) rng best =

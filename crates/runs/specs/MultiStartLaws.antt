@@ -29,7 +29,8 @@ module _ (o : Optimizer) (base : Surfaces) (n : ℕ) where
       ap (λ (r : Run OptimizationResult). bind r (rest o base n (began base seed))) (DampedLaws.begins o base)
       ∙ ap (λ (k : ℕ). bind (damped o base) (λ (result : OptimizationResult). bind (trials o base k (seeded seed) (some (merged none result))) last)) (sub-zero n)
 
-  resumes-trials : (b : Bool) (best : OptimizationResult) (g t : ℕ) → ltb t n ≡ b → resumption o base n (resumeTrials o base n b best g t) ≡ bind (trials o base (n - t) g (some best)) last
+  resumes-trials : (b : Bool) (best : OptimizationResult) (g t : ℕ) → ltb t n ≡ b
+      → resumption o base n (resumeTrials o base n b best g t) ≡ bind (trials o base (n - t) g (some best)) last
   unfolding resumption resumptionIf bestBefore resumeTrials trials bind Damped.isFinished Damped.finishedAt Damped.phaseOf
   resumes-trials true best g t h =
       let e : n - t ≡ suc (n - suc t) = omega (arith, ltb-true) in
@@ -38,15 +39,18 @@ module _ (o : Optimizer) (base : Surfaces) (n : ℕ) where
       let e : n - t ≡ 0 = omega (arith, ltb-false) in
       rw e
 
-  resumes-damped : (b : Bool) (s : State) (d : DampedState) → Damped.isFinished d ≡ b → resumption o base n (resumeDamped o base n b s d) ≡ bind (Damped′.resumption o d) (rest o base n s)
+  resumes-damped : (b : Bool) (s : State) (d : DampedState) → Damped.isFinished d ≡ b
+      → resumption o base n (resumeDamped o base n b s d) ≡ bind (Damped′.resumption o d) (rest o base n s)
   unfolding resumption resumptionIf resumeDamped bind
-  resumes-damped true s d h = rw (DampedLaws.ends o d h) (resumes-trials (ltb (s .trial) n) (merged (bestOf s) (Damped.resultOf d)) (s .generator) (s .trial) refl)
+  resumes-damped true s d h =
+      rw (DampedLaws.ends o d h) (resumes-trials (ltb (s .trial) n) (merged (bestOf s) (Damped.resultOf d)) (s .generator) (s .trial) refl)
   resumes-damped false s d h = rw h
 
   -- law 2
   pub goes-on : (s : State) → isFinished s ≡ false → resumption o base n s ≡ ask (Damped.pending o (s .damped)) λ e. resumption o base n (advance o base n s e)
   unfolding resumption resumptionIf advance bind
-  goes-on s h = rw (h, DampedLaws.goes-on o (s .damped) h) (ap (ask (Damped.pending o (s .damped))) (fun-ext λ e. sym (resumes-damped (Damped.isFinished (Damped.advance o (s .damped) e)) s (Damped.advance o (s .damped) e) refl)))
+  goes-on s h =
+      rw (h, DampedLaws.goes-on o (s .damped) h) (ap (ask (Damped.pending o (s .damped))) (fun-ext λ e. sym (resumes-damped (Damped.isFinished (Damped.advance o (s .damped) e)) s (Damped.advance o (s .damped) e) refl)))
 
   -- law 3
   pub ends : (s : State) → isFinished s ≡ true → resumption o base n s ≡ done (s .best)

@@ -31,9 +31,11 @@ never-lower : (x y : Float) → x ≡ overflowMerit → Worked y → lt x y ≡ 
 never-lower x y e w = ap (λ (z : Float). lt z y) e ∙ overflow-never-lower y (w .0) (finite-test y (w .1))
 
 -- a step of a damped run
-pub overflow-never-accepted : (o : Optimizer) (e : MeritEvaluation) (s : Current) → e .«total_merit» ≡ overflowMerit → Worked (currentMerit s) → isReduction o e s ≡ false
+pub overflow-never-accepted : (o : Optimizer) (e : MeritEvaluation) (s : Current) → e .«total_merit» ≡ overflowMerit → Worked (currentMerit s)
+    → isReduction o e s ≡ false
 unfolding isReduction
-overflow-never-accepted o e s q w = ap (λ (b : Bool). finiteOf (e .«total_merit») && b) (never-lower _ (currentMerit s) q w) ∙ neither (finiteOf (e .«total_merit»))
+overflow-never-accepted o e s q w =
+    ap (λ (b : Bool). finiteOf (e .«total_merit») && b) (never-lower _ (currentMerit s) q w) ∙ neither (finiteOf (e .«total_merit»))
   where
     neither : (b : Bool) → b && false ≡ false
     neither true = refl
@@ -46,6 +48,7 @@ overflowed-stays-out job o candidate current s e q =
     overflow-never-accepted o (evaluateOf job candidate) s q (subst (λ (v : MeritEvaluation). Worked (v .«total_merit»)) (sym e) (merit-worked job current))
 
 -- a trial of a multi-start
-pub overflow-never-wins : (result best : OptimizationResult) → result .«final_merit» ≡ overflowMerit → Worked (best .«final_merit») → isLower result best ≡ false
+pub overflow-never-wins : (result best : OptimizationResult) → result .«final_merit» ≡ overflowMerit → Worked (best .«final_merit»)
+    → isLower result best ≡ false
 unfolding isLower
 overflow-never-wins result best q w = never-lower (result .«final_merit») (best .«final_merit») q w

@@ -31,7 +31,8 @@ module _ (job : Job) (k : Usable job) where
   in-damped : (config : DlsConfig) (d : DampedState) → Taken (d .surfaces) → Taken (DampedRow.pending (optimizerOf job config) d)
   in-damped config d h = pending-taken (optimizerOf job config) Taken (k .applies) d h
 
-  in-annealing : (config : SimulatedAnnealingConfig) (f : Phase) (s : State) → Taken (s .damped .surfaces) → Taken (AnnealingRow.pendingAt (annealerOf job config) f s)
+  in-annealing : (config : SimulatedAnnealingConfig) (f : Phase) (s : State) → Taken (s .damped .surfaces)
+      → Taken (AnnealingRow.pendingAt (annealerOf job config) f s)
   unfolding AnnealingRow.pendingAt trialPresc
   in-annealing config walkFirst s h = h
   in-annealing config walk s h = k .applies (s .damped .candidate) (s .damped .surfaces) h

@@ -67,4 +67,5 @@ module _ (o : Optimizer) (base : Surfaces) where
   pub trials-from : (n seed t : ℕ) (best : Best) →
       trials o base (suc n) (before seed t) best ≡ bind (damped o (trialPresc o base (before seed t))) λ result. trials o base n (before seed (suc t)) (some (merged best result))
   unfolding trials
-  trials-from n seed t best = ap (λ (g : ℕ). bind (damped o (trialPresc o base (before seed t))) (λ (result : OptimizationResult). trials o base n g (some (merged best result)))) (before-next seed t)
+  trials-from n seed t best =
+      ap (λ (g : ℕ). bind (damped o (trialPresc o base (before seed t))) (λ (result : OptimizationResult). trials o base n g (some (merged best result)))) (before-next seed t)

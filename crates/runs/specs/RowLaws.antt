@@ -33,7 +33,8 @@ unfolding resumption admitted run
 resumption-admitted job back = ap (λ (j : Job). resumptionBy (j .method) j (began (job .method) job)) back ∙ begins-by (job .method) job
 
 -- ---- law 2: a row that is not finished asks for its pending surfaces, and goes on as its advance, whatever the answer
-goes-on-by : (m : Method) (job : Job) (s : State) → finishedBy m s ≡ false → resumptionBy m job s ≡ ask (pendingBy m job s) λ e. resumptionBy m job (advanceBy m job s e)
+goes-on-by : (m : Method) (job : Job) (s : State) → finishedBy m s ≡ false
+    → resumptionBy m job s ≡ ask (pendingBy m job s) λ e. resumptionBy m job (advanceBy m job s e)
 unfolding resumptionBy finishedBy pendingBy advanceBy
 goes-on-by (Damped config) job s h = DampedLaws.goes-on (optimizerOf job config) (s .damped) h
 goes-on-by (MultiStart config) job s h = MultiStartLaws.goes-on (optimizerOf job (config .«local_dls_config»)) (baseOf job) (config .«num_trials») s h

@@ -54,7 +54,8 @@ module _ (job : Job) (Q : Surfaces → MeritEvaluation → Type 0) (Sound : Surf
   ends-run h = ends-by (job .method) h
 
 -- ---- The bound, whatever is answered
-damped-bounded : (o : Optimizer) (initial : Surfaces) → Ends AnyAnswer Any (dampedBound (o .config .«max_iterations») (numActive (o .variables))) (damped o initial)
+damped-bounded : (o : Optimizer) (initial : Surfaces)
+    → Ends AnyAnswer Any (dampedBound (o .config .«max_iterations») (numActive (o .variables))) (damped o initial)
 damped-bounded o initial = ends-damped o AnyAnswer Any (λ s h. tt) (λ s h. tt) (λ c e s h q r. tt) Any initial (λ e q. tt) (λ end h. tt)
 
 pub run-bounded : (job : Job) → Ends AnyAnswer Any (bound job) (run job)
@@ -81,22 +82,28 @@ module _ (f : Surfaces → MeritEvaluation) where
     holds-moved c e s h q t = (q, applies c (s .surfaces) (h .1))
 
     evaluated : (end : After) → Holds (stateOf end) → Evaluated f (Rattle.runs.specs.DampedRun.resultOf end) × Sound (stateOf end .surfaces)
-    evaluated end h = (record { finalMerit = ap (λ (e : MeritEvaluation). e .«total_merit») (h .0); values = ap (λ (e : MeritEvaluation). e .values) (h .0); residuals = ap (λ (e : MeritEvaluation). e .residuals) (h .0) }, h .1)
+    evaluated end h =
+        (record { finalMerit = ap (λ (e : MeritEvaluation). e .«total_merit») (h .0); values = ap (λ (e : MeritEvaluation). e .values) (h .0); residuals = ap (λ (e : MeritEvaluation). e .residuals) (h .0) }, h .1)
 
-    pub damped-evaluated : (initial : Surfaces) → Sound initial → Ends By (λ (r : Result). Evaluated f r × Sound (r .surfaces)) (dampedBound (o .config .«max_iterations») (numActive (o .variables))) (damped o initial)
-    damped-evaluated initial h = ends-damped o By Holds (λ s k. k) (λ s k. k) holds-moved (λ (r : Result). Evaluated f r × Sound (r .surfaces)) initial (λ e q. (q, h)) evaluated
+    pub damped-evaluated : (initial : Surfaces) → Sound initial
+        → Ends By (λ (r : Result). Evaluated f r × Sound (r .surfaces)) (dampedBound (o .config .«max_iterations») (numActive (o .variables))) (damped o initial)
+    damped-evaluated initial h =
+        ends-damped o By Holds (λ s k. k) (λ s k. k) holds-moved (λ (r : Result). Evaluated f r × Sound (r .surfaces)) initial (λ e q. (q, h)) evaluated
 
   -- for all three kinds; what applying keeps, the result's surfaces have
-  pub run-evaluated : (job : Job) (Sound : Surfaces → Type 0) → ((values : List Float) (x : Surfaces) → Sound x → Sound (applied (job .variables) values x)) → Sound (baseOf job) →
+  pub run-evaluated : (job : Job) (Sound : Surfaces → Type 0) → ((values : List Float) (x : Surfaces) → Sound x → Sound (applied (job .variables) values x))
+      → Sound (baseOf job) →
       Ends By (λ (r : Result). Evaluated f r × Sound (r .surfaces)) (bound job) (run job)
   run-evaluated job Sound applies h =
       ends-run job By Sound (λ (r : Result). Evaluated f r × Sound (r .surfaces)) applies (λ config x s. damped-evaluated (optimizerOf job config) Sound applies x s) prior h
     where
-      prior : (a : Annealer) (initialMerit : Float) (r : Result) → Evaluated f r × Sound (r .surfaces) → Evaluated f (Annealing.withPrior a initialMerit r) × Sound (r .surfaces)
+      prior : (a : Annealer) (initialMerit : Float) (r : Result) → Evaluated f r × Sound (r .surfaces)
+          → Evaluated f (Annealing.withPrior a initialMerit r) × Sound (r .surfaces)
       prior a i r h = (record { finalMerit = h .0 .finalMerit; values = h .0 .values; residuals = h .0 .residuals }, h .1)
 
   -- its surfaces pass check 3 where the job's do, as applying keeps them
-  pub run-checked : (job : Job) → ((values : List Float) (x : Surfaces) → T (surfacesTaken x (job .prescription .«surface_count»)) → T (surfacesTaken (applied (job .variables) values x) (job .prescription .«surface_count»))) →
+  pub run-checked : (job : Job)
+      → ((values : List Float) (x : Surfaces) → T (surfacesTaken x (job .prescription .«surface_count»)) → T (surfacesTaken (applied (job .variables) values x) (job .prescription .«surface_count»))) →
       T (surfacesTaken (baseOf job) (job .prescription .«surface_count»)) →
       Ends By (λ (r : Result). Evaluated f r × T (surfacesTaken (r .surfaces) (job .prescription .«surface_count»))) (bound job) (run job)
   run-checked job applies h = run-evaluated job (λ (x : Surfaces). T (surfacesTaken x (job .prescription .«surface_count»))) applies h
@@ -112,12 +119,15 @@ module _ (o : Optimizer) where
   abbrev Lower : Current → Type 0
   Lower s = T (finiteOf (currentMerit s)) × T (le (currentMerit s) (s .initialMerit))
 
-  lower-moved : (c : List Float) (e : MeritEvaluation) (s : Current) → Lower s → FiniteAnswer (testPresc o c s) e → isReduction o e s ≡ true → Lower (moved o c e s)
+  lower-moved : (c : List Float) (e : MeritEvaluation) (s : Current) → Lower s → FiniteAnswer (testPresc o c s) e → isReduction o e s ≡ true
+      → Lower (moved o c e s)
   unfolding isReduction
   lower-moved c e s h q t =
       let x = e .«total_merit» in
       let less : T (lt x (currentMerit s)) = and-r (finiteOf x) (lt x (currentMerit s)) (subst T (sym t) tt) in
       (q, le-trans x (currentMerit s) (s .initialMerit) (lt→le x (currentMerit s) less) (h .1))
 
-  pub damped-descends : (initial : Surfaces) → Ends FiniteAnswer Descended (dampedBound (o .config .«max_iterations») (numActive (o .variables))) (damped o initial)
-  damped-descends initial = ends-damped o FiniteAnswer Lower (λ s k. k) (λ s k. k) lower-moved Descended initial (λ e q. (q, le-self (e .«total_merit») (finite-number (e .«total_merit») (finite-test (e .«total_merit») q)))) (λ end h. h)
+  pub damped-descends : (initial : Surfaces)
+      → Ends FiniteAnswer Descended (dampedBound (o .config .«max_iterations») (numActive (o .variables))) (damped o initial)
+  damped-descends initial =
+      ends-damped o FiniteAnswer Lower (λ s k. k) (λ s k. k) lower-moved Descended initial (λ e q. (q, le-self (e .«total_merit») (finite-number (e .«total_merit») (finite-test (e .«total_merit») q)))) (λ end h. h)

@@ -35,7 +35,8 @@ use Rattle.runs.specs.Unused.{ZeroFrom, CleanEvaluation}
 -- ---- every merit is finite
 pub merit-finite : (job : Job) (s : Surfaces) → FiniteAnswer s (evaluateOf job s)
 unfolding evaluateOf
-merit-finite job s = test-finite _ (total-finite (surfaceAt s) (slotIndex (job .prescription .indices)) (job .prescription .«entrance_pupil_diameter_mm») (job .prescription .«surface_count») (job .«merit_function»))
+merit-finite job s =
+    test-finite _ (total-finite (surfaceAt s) (slotIndex (job .prescription .indices)) (job .prescription .«entrance_pupil_diameter_mm») (job .prescription .«surface_count») (job .«merit_function»))
 
 -- ---- it is zero past the operands
 entries-zero : (g : ℕ → Float) (n : ℕ) → ZeroFrom n 12 (entries g n)
@@ -46,16 +47,19 @@ entries-zero g n i l b =
     split : (k : ℕ) → k ≡ n → i ≡ k + (i - n)
     split k e = omega arith
 
-pub evaluation-clean : (job : Job) (s : Surfaces) → CleanEvaluation (job .prescription .«surface_count») (numActive (job .variables)) (operandCountOf job) (evaluateOf job s)
+pub evaluation-clean : (job : Job) (s : Surfaces)
+    → CleanEvaluation (job .prescription .«surface_count») (numActive (job .variables)) (operandCountOf job) (evaluateOf job s)
 unfolding evaluateOf
 evaluation-clean job s = (entries-zero _ (operandCountOf job), entries-zero _ (operandCountOf job))
 
 -- ---- a finished row holds what its job's run comes to
-pub row-result : (f : Surfaces → MeritEvaluation) (job : Job) → ReadBack job → (k : ℕ) → isFinished (rowAfter f k job) ≡ true → resultOf (rowAfter f k job) ≡ value f (run job)
+pub row-result : (f : Surfaces → MeritEvaluation) (job : Job) → ReadBack job → (k : ℕ) → isFinished (rowAfter f k job) ≡ true
+    → resultOf (rowAfter f k job) ≡ value f (run job)
 row-result f job back k h = sym (value-done f k (run job) (resultOf (rowAfter f k job)) (sym (row-stands f job back k) ∙ resumption-done (rowAfter f k job) h))
 
 -- ---- "the surfaces handed back have the merit printed beside them", and pass check 3
-pub result-evaluated : (job : Job) → ((values : List Float) (x : Surfaces) → T (surfacesTaken x (job .prescription .«surface_count»)) → T (surfacesTaken (applied (job .variables) values x) (job .prescription .«surface_count»))) →
+pub result-evaluated : (job : Job)
+    → ((values : List Float) (x : Surfaces) → T (surfacesTaken x (job .prescription .«surface_count»)) → T (surfacesTaken (applied (job .variables) values x) (job .prescription .«surface_count»))) →
     T (surfacesTaken (baseOf job) (job .prescription .«surface_count»)) →
     Evaluated (evaluateOf job) (value (evaluateOf job) (run job)) × T (surfacesTaken (value (evaluateOf job) (run job) .surfaces) (job .prescription .«surface_count»))
 result-evaluated job applies h = Ends-value (evaluateOf job) (λ s. refl) (run-checked (evaluateOf job) job applies h)

@@ -77,7 +77,8 @@ module _ (f : Surfaces → MeritEvaluation) where
   turns-after job zero h = turns-admitted job
   turns-after job (suc k) h = go (isFinished (rowAfter k job)) refl h (λ e. turns-after job k e)
     where
-      go : (b : Bool) → isFinished (rowAfter k job) ≡ b → isFinished (turnedUnless b (rowAfter k job)) ≡ false → (isFinished (rowAfter k job) ≡ false → rowAfter k job .turns ≡ k) → turnedUnless b (rowAfter k job) .turns ≡ suc k
+      go : (b : Bool) → isFinished (rowAfter k job) ≡ b → isFinished (turnedUnless b (rowAfter k job)) ≡ false
+          → (isFinished (rowAfter k job) ≡ false → rowAfter k job .turns ≡ k) → turnedUnless b (rowAfter k job) .turns ≡ suc k
       go true e u ih = absurd (true≢false (sym e ∙ u))
       go false e u ih = turns-advance (rowAfter k job) (f (pendingSurfaces (rowAfter k job))) ∙ ap suc (ih e)
 

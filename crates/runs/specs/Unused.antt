@@ -67,11 +67,14 @@ module _ (n p m : ℕ) where
   -- ---- the run's state, for each kind
   pub data CleanState : Method → State → Type 0 where
     inDamped : {config : DlsConfig} {d : DampedState} → CleanDamped d → CleanState (Damped config) (alone d)
-    inBase : {config : MultiStartConfig} {d : DampedState} {g : ℕ} → isFinished d ≡ false → CleanDamped d → CleanState (MultiStart config) (inTrial d zeroResult g 0)
-    inTrials : {config : MultiStartConfig} {d : DampedState} {best : OptimizationResult} {g t : ℕ} → isFinished d ≡ false → CleanDamped d → CleanResult best → CleanState (MultiStart config) (inTrial d best g (suc t))
+    inBase : {config : MultiStartConfig} {d : DampedState} {g : ℕ} → isFinished d ≡ false → CleanDamped d
+        → CleanState (MultiStart config) (inTrial d zeroResult g 0)
+    inTrials : {config : MultiStartConfig} {d : DampedState} {best : OptimizationResult} {g t : ℕ} → isFinished d ≡ false → CleanDamped d → CleanResult best
+        → CleanState (MultiStart config) (inTrial d best g (suc t))
     atEnd : {config : MultiStartConfig} {best : OptimizationResult} → CleanResult best → CleanState (MultiStart config) (MultiRow.ended best)
     isWalkFirst : {config : SimulatedAnnealingConfig} {base : Surfaces} → ZeroSurfaces n base → CleanState (Annealing config) (atWalkFirst base)
-    isWalk : {config : SimulatedAnnealingConfig} {i : Float} {w : Walk} {trial : List Float} {c k : ℕ} → CleanWalk w → ZeroFrom p 8 trial → CleanState (Annealing config) (atWalk i w trial c k)
+    isWalk : {config : SimulatedAnnealingConfig} {i : Float} {w : Walk} {trial : List Float} {c k : ℕ} → CleanWalk w → ZeroFrom p 8 trial
+        → CleanState (Annealing config) (atWalk i w trial c k)
     inPolish : {config : SimulatedAnnealingConfig} {i : Float} {d : DampedState} → CleanDamped d → CleanState (Annealing config) (atPolish i d)
 
 -- a row's state is clean under the counts of its job

@@ -53,7 +53,8 @@ module _ (o : Optimizer) (n : ℕ)
   -- a column that is written leaves the rest as it was
   zero-differences : (s : Current) (q : ℕ) (jMat r r′ : List Float) → ZeroJacobian m q jMat → ZeroJacobian m (suc q) (withDifferences o s q jMat r r′)
   unfolding withDifferences
-  zero-differences s q jMat r r′ h i k a b c = getD-sets-out column jMat (jacobianPlace 0 q) (jacobianPlace i k) nan (outside (ltb k q) refl c) ∙ h i k a b (before c)
+  zero-differences s q jMat r r′ h i k a b c =
+      getD-sets-out column jMat (jacobianPlace 0 q) (jacobianPlace i k) nan (outside (ltb k q) refl c) ∙ h i k a b (before c)
     where
       column : List Float
       column = columnOf r r′ m (denom o s q)
@@ -62,7 +63,8 @@ module _ (o : Optimizer) (n : ℕ)
       behind e (inl l) g = omega arith
       behind e (inr l) g = omega arith
 
-      outside : (t : Bool) → ltb k q ≡ t → (m ≤ i) ⊎ (suc q ≤ k) → (jacobianPlace i k < jacobianPlace 0 q) ⊎ (jacobianPlace 0 q + length column ≤ jacobianPlace i k)
+      outside : (t : Bool) → ltb k q ≡ t → (m ≤ i) ⊎ (suc q ≤ k)
+          → (jacobianPlace i k < jacobianPlace 0 q) ⊎ (jacobianPlace 0 q + length column ≤ jacobianPlace i k)
       outside true e c = inl (omega (arith, ltb-true k q e))
       outside false e c = inr (behind (length-tab _ m) c (ltb-false k q e))
 
@@ -121,6 +123,7 @@ module _ (o : Optimizer) (n : ℕ)
   before (isCandidate h j c) = (h, j, c)
   before (isEnded converged s h) = tt
 
-  pub clean-advance : (d : DampedState) (e : MeritEvaluation) → isFinished d ≡ false → CleanDamped n p m d → CleanEvaluation n p m e → CleanDamped n p m (advance o d e)
+  pub clean-advance : (d : DampedState) (e : MeritEvaluation) → isFinished d ≡ false → CleanDamped n p m d → CleanEvaluation n p m e
+      → CleanDamped n p m (advance o d e)
   unfolding clean
   clean-advance d e u h a = keeps o clean d e u (before h) a

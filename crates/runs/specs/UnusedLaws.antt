@@ -42,7 +42,8 @@ use Rattle.runs.specs.UnusedDamped.{eight-zero, zero-extracted, clean-ad
 
 -- what a job as kept has: nothing past its surfaces, to which applying its variables keeps to, and no more operands than there is room for
 pub record Kept (job : Job) : Type 0 where
-  pub applies : (values : List Float) (x : Surfaces) → ZeroSurfaces (job .prescription .«surface_count») x → ZeroSurfaces (job .prescription .«surface_count») (applied (job .variables) values x)
+  pub applies : (values : List Float) (x : Surfaces) → ZeroSurfaces (job .prescription .«surface_count») x
+      → ZeroSurfaces (job .prescription .«surface_count») (applied (job .variables) values x)
   pub based : ZeroSurfaces (job .prescription .«surface_count») (baseOf job)
   pub fits : operandCountOf job ≤ 12
 
@@ -73,7 +74,8 @@ module _ (job : Job) (k : Kept job) where
       go true = b
       go false = a
 
-  trials-clean : (b : Bool) (config : MultiStartConfig) (best : OptimizationResult) (g t : ℕ) → CleanResult n p m best → CleanState n p m (MultiStart config) (resumeTrials (optimizerOf job (config .«local_dls_config»)) (baseOf job) (config .«num_trials») b best g t)
+  trials-clean : (b : Bool) (config : MultiStartConfig) (best : OptimizationResult) (g t : ℕ) → CleanResult n p m best
+      → CleanState n p m (MultiStart config) (resumeTrials (optimizerOf job (config .«local_dls_config»)) (baseOf job) (config .«num_trials») b best g t)
   unfolding resumeTrials trialPresc DampedRow.isFinished DampedRow.finishedAt DampedRow.phaseOf
   trials-clean true config best g t h = inTrials refl (isFirst (k .applies _ (baseOf job) (k .based))) h
   trials-clean false config best g t h = atEnd h
@@ -82,24 +84,29 @@ module _ (job : Job) (k : Kept job) where
     abbrev local : DlsConfig
     local = config .«local_dls_config»
 
-    resumed-base : (b : Bool) (d d′ : DampedState) (g : ℕ) → DampedRow.isFinished d′ ≡ b → CleanDamped n p m d′ → CleanState n p m (MultiStart config) (resumeDamped (optimizerOf job local) (baseOf job) (config .«num_trials») b (inTrial d zeroResult g 0) d′)
+    resumed-base : (b : Bool) (d d′ : DampedState) (g : ℕ) → DampedRow.isFinished d′ ≡ b → CleanDamped n p m d′
+        → CleanState n p m (MultiStart config) (resumeDamped (optimizerOf job local) (baseOf job) (config .«num_trials») b (inTrial d zeroResult g 0) d′)
     unfolding resumeDamped merged bestBefore
     resumed-base true d d′ g e h = trials-clean (ltb 0 (config .«num_trials»)) config (DampedRow.resultOf d′) g 0 (result-clean h e)
     resumed-base false d d′ g e h = inBase e h
 
-    resumed-trials : (b : Bool) (d d′ : DampedState) (best : OptimizationResult) (g t : ℕ) → DampedRow.isFinished d′ ≡ b → CleanDamped n p m d′ → CleanResult n p m best →
+    resumed-trials : (b : Bool) (d d′ : DampedState) (best : OptimizationResult) (g t : ℕ) → DampedRow.isFinished d′ ≡ b → CleanDamped n p m d′
+        → CleanResult n p m best →
         CleanState n p m (MultiStart config) (resumeDamped (optimizerOf job local) (baseOf job) (config .«num_trials») b (inTrial d best g (suc t)) d′)
     unfolding resumeDamped bestBefore
-    resumed-trials true d d′ best g t e h r = trials-clean (ltb (suc t) (config .«num_trials»)) config (merged (some best) (DampedRow.resultOf d′)) g (suc t) (merged-clean best (DampedRow.resultOf d′) r (result-clean h e))
+    resumed-trials true d d′ best g t e h r =
+        trials-clean (ltb (suc t) (config .«num_trials»)) config (merged (some best) (DampedRow.resultOf d′)) g (suc t) (merged-clean best (DampedRow.resultOf d′) r (result-clean h e))
     resumed-trials false d d′ best g t e h r = inTrials e h r
 
     abbrev next : DampedState → MeritEvaluation → DampedState
     next d e = DampedRow.advance (optimizerOf job local) d e
 
-    next-clean : (d : DampedState) (e : MeritEvaluation) → DampedRow.isFinished d ≡ false → CleanDamped n p m d → CleanEvaluation n p m e → CleanDamped n p m (next d e)
+    next-clean : (d : DampedState) (e : MeritEvaluation) → DampedRow.isFinished d ≡ false → CleanDamped n p m d → CleanEvaluation n p m e
+        → CleanDamped n p m (next d e)
     next-clean d e u h a = clean-advance (optimizerOf job local) n (k .applies) (k .fits) d e u h a
 
-    multi-clean : {s : State} (e : MeritEvaluation) → finishedBy (MultiStart config) s ≡ false → CleanEvaluation n p m e → CleanState n p m (MultiStart config) s → CleanState n p m (MultiStart config) (advanceBy (MultiStart config) job s e)
+    multi-clean : {s : State} (e : MeritEvaluation) → finishedBy (MultiStart config) s ≡ false → CleanEvaluation n p m e
+        → CleanState n p m (MultiStart config) s → CleanState n p m (MultiStart config) (advanceBy (MultiStart config) job s e)
     unfolding finishedBy advanceBy MultiRow.advance
     multi-clean e u a (inBase {d = d} {g = g} v h) = resumed-base (DampedRow.isFinished (next d e)) d (next d e) g refl (next-clean d e u h a)
     multi-clean e u a (inTrials {d = d} {best = best} {g = g} {t = t} v h r) = resumed-trials (DampedRow.isFinished (next d e)) d (next d e) best g t refl (next-clean d e u h a) r
@@ -164,7 +171,8 @@ module _ (job : Job) (k : Kept job) where
     in-polish (isCandidate h j c) = refl
     in-polish (isEnded converged s h) = refl
 
-    polish-clean : (i : Float) (d : DampedState) (e : MeritEvaluation) → AnnealingRow.isFinished (AnnealingRow.atPolish i d) ≡ false → CleanDamped n p m d → CleanEvaluation n p m e → CleanState n p m (Annealing config) (AnnealingRow.advance a (AnnealingRow.atPolish i d) e)
+    polish-clean : (i : Float) (d : DampedState) (e : MeritEvaluation) → AnnealingRow.isFinished (AnnealingRow.atPolish i d) ≡ false → CleanDamped n p m d
+        → CleanEvaluation n p m e → CleanState n p m (Annealing config) (AnnealingRow.advance a (AnnealingRow.atPolish i d) e)
     unfolding AnnealingRow.advance AnnealingRow.advanceAt AnnealingRow.isFinished AnnealingRow.finishedAt
     polish-clean i d e u h g =
         let s = AnnealingRow.atPolish i d in
@@ -172,14 +180,16 @@ module _ (job : Job) (k : Kept job) where
         let going : DampedRow.isFinished d ≡ false = sym (ap (λ (f : AnnealingRow.Phase). AnnealingRow.finishedAt f s) q) ∙ u in
         subst (λ (f : AnnealingRow.Phase). CleanState n p m (Annealing config) (AnnealingRow.advanceAt a f s e)) (sym q) (inPolish (clean-advance (polisher a) n (k .applies) (k .fits) d e going h g))
 
-    annealing-clean : {s : State} (e : MeritEvaluation) → finishedBy (Annealing config) s ≡ false → CleanEvaluation n p m e → CleanState n p m (Annealing config) s → CleanState n p m (Annealing config) (advanceBy (Annealing config) job s e)
+    annealing-clean : {s : State} (e : MeritEvaluation) → finishedBy (Annealing config) s ≡ false → CleanEvaluation n p m e
+        → CleanState n p m (Annealing config) s → CleanState n p m (Annealing config) (advanceBy (Annealing config) job s e)
     unfolding finishedBy advanceBy AnnealingRow.advance AnnealingRow.advanceAt AnnealingRow.phaseOf AnnealingRow.isFinished AnnealingRow.finishedAt
     annealing-clean e u g (isWalkFirst {base = base} h) = cycles-clean (isCycle a 0) (e .«total_merit») (started a base e) 0 (h, zero-extracted (polisher a) n (k .applies) (k .fits) base, h)
     annealing-clean e u g (isWalk {i = i} {w = w} {trial = trial} {c = c} {k = j} h t) = steps-clean (ltb (suc j) (config .«steps_per_temperature»)) i (judged a trial e w) c (suc j) (judged-clean trial e w h t)
     annealing-clean e u g (inPolish {i = i} {d = d} h) = polish-clean i d e u h g
 
   -- ---- all three kinds
-  clean-by : (t : Method) {s : State} (e : MeritEvaluation) → finishedBy t s ≡ false → CleanEvaluation n p m e → CleanState n p m t s → CleanState n p m t (advanceBy t job s e)
+  clean-by : (t : Method) {s : State} (e : MeritEvaluation) → finishedBy t s ≡ false → CleanEvaluation n p m e → CleanState n p m t s
+      → CleanState n p m t (advanceBy t job s e)
   unfolding finishedBy advanceBy
   clean-by (Damped config) e u g (inDamped {d = d} h) = inDamped (clean-advance (optimizerOf job config) n (k .applies) (k .fits) d e u h g)
   clean-by (MultiStart config) e u g h = multi-clean config e u g h
@@ -195,7 +205,8 @@ abbrev pub CleanAnswer : Job → MeritEvaluation → Type 0
 CleanAnswer job e = CleanEvaluation (job .prescription .«surface_count») (numActive (job .variables)) (operandCountOf job) e
 
 -- a turn
-pub advance-clean : (job : Job) → Kept job → (r : Row) (e : MeritEvaluation) → jobOfRow r ≡ job → isFinished r ≡ false → CleanAnswer job e → Clean job (stateOf r) → Clean job (stateOf (advance r e))
+pub advance-clean : (job : Job) → Kept job → (r : Row) (e : MeritEvaluation) → jobOfRow r ≡ job → isFinished r ≡ false → CleanAnswer job e
+    → Clean job (stateOf r) → Clean job (stateOf (advance r e))
 unfolding isFinished advance
 advance-clean job k r e q u g h =
     subst (λ (j : Job). finishedBy (j .method) (stateOf r) ≡ false → Clean job (advanceBy (j .method) j (stateOf r) e)) (sym q) (λ t. clean-by job k (job .method) e t g h) u
@@ -205,7 +216,8 @@ unfolding admitted
 admitted-clean job k = began-clean job k (job .method)
 
 -- under an evaluation that is zero past the operands, as the merit's is
-pub unused-zero : (f : Surfaces → MeritEvaluation) (job : Job) → ReadBack job → Kept job → ((s : Surfaces) → CleanAnswer job (f s)) → (j : ℕ) → Clean job (stateOf (rowAfter f j job))
+pub unused-zero : (f : Surfaces → MeritEvaluation) (job : Job) → ReadBack job → Kept job → ((s : Surfaces) → CleanAnswer job (f s)) → (j : ℕ)
+    → Clean job (stateOf (rowAfter f j job))
 unused-zero f job back k zeros j =
     reached f (λ (r : Row). (jobOfRow r ≡ job) × Clean job (stateOf r)) job (job-admitted job back, admitted-clean job k)
     (λ r u h. (job-advance r (f (pendingSurfaces r)) ∙ h .0, advance-clean job k r (f (pendingSurfaces r)) (h .0) u (zeros (pendingSurfaces r)) (h .1))) j .1
@@ -215,12 +227,16 @@ module _ (job : Job) (k : Kept job) where
   abbrev CleanOutcome : OptimizationResult → Type 0
   CleanOutcome r = CleanResult (job .prescription .«surface_count») (numActive (job .variables)) (operandCountOf job) r
 
-  polished-clean : (config : SimulatedAnnealingConfig) (i : Float) (d : DampedState) → CleanDamped (job .prescription .«surface_count») (numActive (job .variables)) (operandCountOf job) d → AnnealingRow.isFinished (AnnealingRow.atPolish i d) ≡ true →
+  polished-clean : (config : SimulatedAnnealingConfig) (i : Float) (d : DampedState)
+      → CleanDamped (job .prescription .«surface_count») (numActive (job .variables)) (operandCountOf job) d
+      → AnnealingRow.isFinished (AnnealingRow.atPolish i d) ≡ true →
       CleanOutcome (AnnealingRow.resultOf (annealerOf job config) (AnnealingRow.atPolish i d))
   unfolding AnnealingRow.isFinished AnnealingRow.finishedAt
-  polished-clean config i d h e = result-clean job k h (sym (ap (λ (f : AnnealingRow.Phase). AnnealingRow.finishedAt f (AnnealingRow.atPolish i d)) (in-polish job k config h)) ∙ e)
+  polished-clean config i d h e =
+      result-clean job k h (sym (ap (λ (f : AnnealingRow.Phase). AnnealingRow.finishedAt f (AnnealingRow.atPolish i d)) (in-polish job k config h)) ∙ e)
 
-  outcome-clean : (t : Method) {s : State} → CleanState (job .prescription .«surface_count») (numActive (job .variables)) (operandCountOf job) t s → finishedBy t s ≡ true → CleanOutcome (resultBy t job s)
+  outcome-clean : (t : Method) {s : State} → CleanState (job .prescription .«surface_count») (numActive (job .variables)) (operandCountOf job) t s
+      → finishedBy t s ≡ true → CleanOutcome (resultBy t job s)
   unfolding finishedBy resultBy AnnealingRow.isFinished AnnealingRow.finishedAt AnnealingRow.phaseOf
   outcome-clean (Damped config) (inDamped h) e = result-clean job k h e
   outcome-clean (MultiStart config) (inBase v h) e = absurd (true≢false (sym e ∙ v))
@@ -232,4 +248,5 @@ module _ (job : Job) (k : Kept job) where
 
   pub result-unused : (r : Row) → jobOfRow r ≡ job → Clean job (stateOf r) → isFinished r ≡ true → CleanOutcome (resultOf r)
   unfolding isFinished resultOf
-  result-unused r q h e = subst (λ (j : Job). finishedBy (j .method) (stateOf r) ≡ true → CleanOutcome (resultBy (j .method) j (stateOf r))) (sym q) (outcome-clean (job .method) h) e
+  result-unused r q h e =
+      subst (λ (j : Job). finishedBy (j .method) (stateOf r) ≡ true → CleanOutcome (resultBy (j .method) j (stateOf r))) (sym q) (outcome-clean (job .method) h) e

@@ -19,7 +19,8 @@ use Rattle.runs.specs.Run.{Surfaces}
 use Rattle.runs.specs.JobRun.{baseOf}
 
 pub record Usable (job : Job) : Type 0 where
-  pub applies : (values : List Float) (x : Surfaces) → T (surfacesTaken x (job .prescription .«surface_count»)) → T (surfacesTaken (applied (job .variables) values x) (job .prescription .«surface_count»))
+  pub applies : (values : List Float) (x : Surfaces) → T (surfacesTaken x (job .prescription .«surface_count»))
+      → T (surfacesTaken (applied (job .variables) values x) (job .prescription .«surface_count»))
   pub based : T (surfacesTaken (baseOf job) (job .prescription .«surface_count»))
   pub enabled : 0 < numActive (job .variables)
 

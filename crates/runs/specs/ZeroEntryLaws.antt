@@ -53,7 +53,8 @@ used e h = absurd (true≢false (sym e ∙ h))
 
 module _ (n p m : ℕ) where
   -- ---- the damped part: surfaces, parameters and a candidate alone, or in the loops
-  holding-zero : (b : Bool) (f : ℕ) {x : Surfaces} {params trial : List Float} → ZeroSurfaces (inUse b n) x → ZeroFrom (inUse (inLoops f || eqb f 6) p) 8 params → ZeroFrom (inUse (eqb f 3 || eqb f 6) p) 8 trial →
+  holding-zero : (b : Bool) (f : ℕ) {x : Surfaces} {params trial : List Float} → ZeroSurfaces (inUse b n) x → ZeroFrom (inUse (inLoops f || eqb f 6) p) 8 params
+      → ZeroFrom (inUse (eqb f 3 || eqb f 6) p) 8 trial →
       ZeroDamped n p m b (holding f x params trial)
   holding-zero b f s v c = record {
     surfaces = s;
@@ -72,7 +73,8 @@ module _ (n p m : ℕ) where
     converged = λ e. refl;
   }
 
-  within-zero : (f : ℕ) → inLoops f ≡ true → hasMerit f ≡ true → (s : Current) {jMat r c : List Float} {q k : ℕ} → CleanCurrent n p m s → ZeroJacobian m (filledColumns p (within f s jMat r c q k)) jMat → ZeroFrom (inUse (eqb f 2) m) 12 r →
+  within-zero : (f : ℕ) → inLoops f ≡ true → hasMerit f ≡ true → (s : Current) {jMat r c : List Float} {q k : ℕ} → CleanCurrent n p m s
+      → ZeroJacobian m (filledColumns p (within f s jMat r c q k)) jMat → ZeroFrom (inUse (eqb f 2) m) 12 r →
       ZeroFrom (inUse (eqb f 3 || eqb f 6) p) 8 c → NoneUnless (eqb f 1 || eqb f 2) q → NoneUnless (eqb f 3) k → ZeroDamped n p m true (within f s jMat r c q k)
   within-zero f l e s h j r c q k = record {
     surfaces = h .0;
@@ -150,12 +152,23 @@ module _ (n p m : ℕ) where
 
   -- ---- the whole state
   -- where it has nothing beside the damped part and the best so far
-  apart-zero : (t : Method) (d : DampedState) (r : OptimizationResult) → ZeroDamped n p m (usesCurrent t (withBest d r)) d → ZeroBest n p m (usesBest t (withBest d r)) (keepsResult t (withBest d r)) (keepsFirst t (withBest d r)) r →
+  apart-zero : (t : Method) (d : DampedState) (r : OptimizationResult) → ZeroDamped n p m (usesCurrent t (withBest d r)) d
+      → ZeroBest n p m (usesBest t (withBest d r)) (keepsResult t (withBest d r)) (keepsFirst t (withBest d r)) r →
       ZeroState n p m t (withBest d r)
-  apart-zero t d r h b = record { damped = h; best = b; generator = λ e. refl; trial = λ e. refl; cycle = λ e. refl; step = λ e. refl; temperature = λ e. refl; currentMerit = λ e. refl }
+  apart-zero t d r h b = record {
+    damped = h;
+    best = b;
+    generator = λ e. refl;
+    trial = λ e. refl;
+    cycle = λ e. refl;
+    step = λ e. refl;
+    temperature = λ e. refl;
+    currentMerit = λ e. refl;
+  }
 
   -- a run of a multi-start that is not over
-  run-zero : (config : MultiStartConfig) (d : DampedState) (r : OptimizationResult) (g t : ℕ) → isFinished d ≡ false → CleanDamped n p m d → ((b : Bool) → isFinished d ≡ b → ZeroBest n p m (ltb 0 t || b) (ltb 0 t || b) (ltb 0 t || b) r) →
+  run-zero : (config : MultiStartConfig) (d : DampedState) (r : OptimizationResult) (g t : ℕ) → isFinished d ≡ false → CleanDamped n p m d
+      → ((b : Bool) → isFinished d ≡ b → ZeroBest n p m (ltb 0 t || b) (ltb 0 t || b) (ltb 0 t || b) r) →
       ZeroState n p m (MultiStart config) (inTrial d r g t)
   unfolding finishedBy
   run-zero config d r g t v h b = record {
@@ -203,5 +216,7 @@ module _ (n p m : ℕ) where
       apart-zero (Annealing config) d (kept zeroSurfaces i zero64) (damped-zero h) (polish-best i (eqb (d .phase) 5) (eqb (d .phase) 6) (w .0) (w .1))
 
 -- under an evaluation that is zero past the operands, as the merit's is
-pub zero-entries : (f : Surfaces → MeritEvaluation) (job : Job) → ReadBack job → Kept job → ((s : Surfaces) → CleanAnswer job (f s)) → (k : ℕ) → ZeroEntries job (stateOf (rowAfter f k job))
-zero-entries f job back kept zeros k = state-zero (job .prescription .«surface_count») (numActive (job .variables)) (operandCountOf job) (job .method) (unused-zero f job back kept zeros k)
+pub zero-entries : (f : Surfaces → MeritEvaluation) (job : Job) → ReadBack job → Kept job → ((s : Surfaces) → CleanAnswer job (f s)) → (k : ℕ)
+    → ZeroEntries job (stateOf (rowAfter f k job))
+zero-entries f job back kept zeros k =
+    state-zero (job .prescription .«surface_count») (numActive (job .variables)) (operandCountOf job) (job .method) (unused-zero f job back kept zeros k)

@@ -60,7 +60,11 @@ take-min (suc w) (x ∷ out) = ap (λ (n : ℕ). take n (x ∷ out)) (suc-min-su
 
 -- another number of bytes alone
 pub same-lines : {w r : Waiting} (n : ℕ) → r ≡ withBytes n w → Onward w r
-same-lines n e = record { refused = ap (λ (z : Waiting). z .refused) e; unknown = ap (λ (z : Waiting). z .unknown) e; lost = λ h. ap (λ (z : Waiting). z .«is_good») e ∙ h }
+same-lines n e = record {
+  refused = ap (λ (z : Waiting). z .refused) e;
+  unknown = ap (λ (z : Waiting). z .unknown) e;
+  lost = λ h. ap (λ (z : Waiting). z .«is_good») e ∙ h;
+}
 
 pub nothing-put : (w : Waiting) (out : List ℕ) → Put w out [] w out
 unfolding addedAll

@@ -50,7 +50,8 @@ module _ (v : VariableSet) where
       subst (λ (k : ℕ). enabledCount k ≤ k) (add-one n) (split n (λ e. omega (arith, count-more n e)) (λ e. omega (arith, count-past n e)))
 
   -- an enabled variable below n stands among the enabled ones, after those before it
-  pub place : (n i : ℕ) → i < n → variableAt v i .enabled ≡ true → (enabledCount i < enabledCount n) × (getD (enabledOf v n) (enabledCount i) noVariable ≡ variableAt v i)
+  pub place : (n i : ℕ) → i < n → variableAt v i .enabled ≡ true
+      → (enabledCount i < enabledCount n) × (getD (enabledOf v n) (enabledCount i) noVariable ≡ variableAt v i)
   unfolding enabledOf
   place zero i h e = absurd (no i h)
     where
@@ -61,14 +62,16 @@ module _ (v : VariableSet) where
     | inr l ↦ let r = place n i l e in (grown (r .0), List·getD-append (enabledOf v n) (ifEnabled (variableAt v n)) noVariable (enabledCount i) (r .0) ∙ r .1)
   ]
     where
-      last : variableAt v n .enabled ≡ true → (enabledCount n < enabledCount (suc n)) × (getD (enabledOf v (suc n)) (enabledCount n) noVariable ≡ variableAt v n)
+      last : variableAt v n .enabled ≡ true
+          → (enabledCount n < enabledCount (suc n)) × (getD (enabledOf v (suc n)) (enabledCount n) noVariable ≡ variableAt v n)
       last t = rw (enabled-more n t) (rw length-append (omega arith), getD-at (enabledOf v n) (variableAt v n) [] noVariable (enabledCount n) refl)
 
       grown : enabledCount i < enabledCount n → enabledCount i < enabledCount (suc n)
       grown l = rw length-append (omega arith)
 
   -- what holds of each enabled variable below n holds of each that stands among the enabled ones
-  pub each : (P : VariableDef → Type 0) (n q : ℕ) → ((i : ℕ) → i < n → variableAt v i .enabled ≡ true → P (variableAt v i)) → q < enabledCount n → P (getD (enabledOf v n) q noVariable)
+  pub each : (P : VariableDef → Type 0) (n q : ℕ) → ((i : ℕ) → i < n → variableAt v i .enabled ≡ true → P (variableAt v i)) → q < enabledCount n
+      → P (getD (enabledOf v n) q noVariable)
   unfolding enabledOf
   each P zero q h l = absurd (no q l)
     where
@@ -84,7 +87,8 @@ module _ (v : VariableSet) where
       past : (q < enabledCount n → P (getD (enabledOf v n) q noVariable)) → variableAt v n .enabled ≡ false → P (getD (enabledOf v (suc n)) q noVariable)
       past earlier e = rw (enabled-past n e) (earlier (rw (enabled-past n e) at l))
 
-      ends : (q < enabledCount n → P (getD (enabledOf v n) q noVariable)) → variableAt v n .enabled ≡ true → (q ≡ enabledCount n) ⊎ (q < enabledCount n) → P (getD (enabledOf v n ++ (variableAt v n ∷ [])) q noVariable)
+      ends : (q < enabledCount n → P (getD (enabledOf v n) q noVariable)) → variableAt v n .enabled ≡ true → (q ≡ enabledCount n) ⊎ (q < enabledCount n)
+          → P (getD (enabledOf v n ++ (variableAt v n ∷ [])) q noVariable)
       ends earlier e (inl s) = rw (getD-at (enabledOf v n) (variableAt v n) [] noVariable q (sym s)) (h n (omega arith) e)
       ends earlier e (inr k) = rw (List·getD-append (enabledOf v n) (variableAt v n ∷ []) noVariable q k) (earlier k)
 

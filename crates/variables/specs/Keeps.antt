@@ -68,10 +68,14 @@ radius-number x t = go (lt (magnitude x) leastCurvature) refl
 
 -- ---- one surface with an allowed value
 pub with-value-taken : (s : OpticalSurface) (kind : VariableType) (x : Float) → T (allowed kind x) → T (surfaceTaken s) → T (surfaceTaken (withValue s kind x))
-with-value-taken s (Curvature i) x a t = let p = surface-parts s t in surface-from _ (record { radius = radius-number x a; conic = p .conic; thickness = p .thickness; semiDiameter = p .semiDiameter })
-with-value-taken s (Thickness i) x a t = let p = surface-parts s t in surface-from _ (record { radius = p .radius; conic = p .conic; thickness = a; semiDiameter = p .semiDiameter })
-with-value-taken s (Conic i) x a t = let p = surface-parts s t in surface-from _ (record { radius = p .radius; conic = finite-test x a; thickness = p .thickness; semiDiameter = p .semiDiameter })
-with-value-taken s (SemiDiameter i) x a t = let p = surface-parts s t in surface-from _ (record { radius = p .radius; conic = p .conic; thickness = p .thickness; semiDiameter = a })
+with-value-taken s (Curvature i) x a t =
+    let p = surface-parts s t in surface-from _ (record { radius = radius-number x a; conic = p .conic; thickness = p .thickness; semiDiameter = p .semiDiameter })
+with-value-taken s (Thickness i) x a t =
+    let p = surface-parts s t in surface-from _ (record { radius = p .radius; conic = p .conic; thickness = a; semiDiameter = p .semiDiameter })
+with-value-taken s (Conic i) x a t =
+    let p = surface-parts s t in surface-from _ (record { radius = p .radius; conic = finite-test x a; thickness = p .thickness; semiDiameter = p .semiDiameter })
+with-value-taken s (SemiDiameter i) x a t =
+    let p = surface-parts s t in surface-from _ (record { radius = p .radius; conic = p .conic; thickness = p .thickness; semiDiameter = a })
 
 -- what holds of an entry holds of it after a store that keeps it
 set-keeps : {A : Type 0} (P : A → Type 0) (l : List A) (j i : ℕ) (a d : A) → (P (getD l j d) → P a) → P (getD l i d) → P (getD (set l j a) i d)
@@ -82,8 +86,10 @@ set-keeps P (x ∷ xs) (suc j) zero a d k h = h
 set-keeps P (x ∷ xs) (suc j) (suc i) a d k h = set-keeps P xs j i a d k h
 
 -- any surface, after a value was stored in one of them
-pub put-taken : (s : List OpticalSurface) (kind : VariableType) (x : Float) (i : ℕ) → T (allowed kind x) → T (surfaceTaken (surfaceAt s i)) → T (surfaceTaken (surfaceAt (put s kind x) i))
-put-taken s kind x i a t = set-keeps (λ (u : OpticalSurface). T (surfaceTaken u)) s (surfaceIndex kind) i (withValue (surfaceAt s (surfaceIndex kind)) kind x) noSurface (λ h. with-value-taken _ kind x a h) t
+pub put-taken : (s : List OpticalSurface) (kind : VariableType) (x : Float) (i : ℕ) → T (allowed kind x) → T (surfaceTaken (surfaceAt s i))
+    → T (surfaceTaken (surfaceAt (put s kind x) i))
+put-taken s kind x i a t =
+    set-keeps (λ (u : OpticalSurface). T (surfaceTaken u)) s (surfaceIndex kind) i (withValue (surfaceAt s (surfaceIndex kind)) kind x) noSurface (λ h. with-value-taken _ kind x a h) t
 
 -- ---- what applying clamps to lies between the bounds, a NaN too
 module _ (x lo hi : Float) (order : T (le lo hi)) where
@@ -137,7 +143,8 @@ module _ (n : ℕ) (d : VariableDef) (taken : VariableTaken n d) (x : Float) whe
 
 -- ---- applying any values at all
 module _ (n : ℕ) (v : VariableSet) (taken : T (variablesTaken n v)) where
-  applied-to-taken : (values : List Float) (s : List OpticalSurface) (i m : ℕ) → m ≤ numActive v → T (surfaceTaken (surfaceAt s i)) → T (surfaceTaken (surfaceAt (appliedTo v values s m) i))
+  applied-to-taken : (values : List Float) (s : List OpticalSurface) (i m : ℕ) → m ≤ numActive v → T (surfaceTaken (surfaceAt s i))
+      → T (surfaceTaken (surfaceAt (appliedTo v values s m) i))
   unfolding appliedTo
   applied-to-taken values s i zero h t = t
   applied-to-taken values s i (suc m) h t =
@@ -145,6 +152,7 @@ module _ (n : ℕ) (v : VariableSet) (taken : T (variablesTaken n v)) where
       (apply-allowed n (activeAt v m) (active-taken n v taken m h) (getD values m nan))
       (applied-to-taken values s i m (omega arith) t)
 
-  pub applied-taken : (values : List Float) (s : List OpticalSurface) (i : ℕ) → T (surfaceTaken (surfaceAt s i)) → T (surfaceTaken (surfaceAt (applied v values s) i))
+  pub applied-taken : (values : List Float) (s : List OpticalSurface) (i : ℕ) → T (surfaceTaken (surfaceAt s i))
+      → T (surfaceTaken (surfaceAt (applied v values s) i))
   unfolding applied
   applied-taken values s i t = applied-to-taken values s i (numActive v) (omega arith) t
