@@ -1,11 +1,12 @@
 -- For each number of each call a law: it is answered exactly when its cause holds and none in front of it in the call's list does. And what a refused call
 -- was lent stays. Assumes nothing.
 use mathlib.Core.Path.{_≡_, ap}
-use mathlib.Core.Bool.{true, not}
+use mathlib.Core.Bool.{true, false, not}
 use mathlib.Core.List.{List, _++_}
 use mathlib.Core.Logic.{_↔_}
-use Prim.Native.Nat.{ℕ, suc}
+use Prim.Native.Nat.{ℕ, suc, _≤_, _<_}
 use lib.Ieee.{Float}
+use borrow.Author.Tests.{lt-ltb, le-ltb}
 use lib.ListN.{length, drop, replicate}
 use Rattle.floats.specs.Constants.{zero64}
 use Rattle.lists.specs.Refusals.{Refusal, NoneOf, before, answers, answers-none}
@@ -22,6 +23,13 @@ use Rattle.bench.specs.Refusals.{noPlace, scratchShort, admitRefusals}
 use Rattle.bench.specs.Benches.{rowAt}
 use Rattle.bench.specs.Calls.{isVacant, admitNumber, turnRefusals, turnNumber, scratchAfter, fetchRefusals, fetchNumber, fetchedResult, releaseRefusals}
 use Rattle.bench.specs.Calls.{releaseNumber}
+
+-- "Scratch from 128 upward is taken, and 9 is now given below 128." (request 11)
+pub short-below : (length : ℕ) → length < 128 → scratchShort length ≡ true
+short-below length h = lt-ltb length 128 h
+
+pub enough-from : (length : ℕ) → 128 ≤ length → scratchShort length ≡ false
+enough-from length h = le-ltb length 128 h
 
 -- "nothing lent changes"
 pub stays : {A : Type 0} (m n : ℕ) (new old : A) → m ≡ suc n → unlessRefused m new old ≡ old

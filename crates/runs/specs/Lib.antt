@@ -56,3 +56,4 @@ pub mod ShorterLoops
 pub mod ShorterLaws
 -- Request 6: an overflowed total is never accepted.
 pub mod OverflowLaws
+pub mod ClearedLaws
