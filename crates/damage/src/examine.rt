@@ -5,13 +5,14 @@ use crate::table::ENTRIES;
 use crate::tally;
 use crate::tally::Tally;
 use crate::verdict;
+use held::HeldRow;
 use jobs::JobRequest;
 use runs::Row;
 
 // A row that a run left, the same run's last row, which the other places hold, and the place for the damaged one.
 pub(crate) struct Case {
     pub row: Row,
-    pub finished: Row,
+    pub finished: HeldRow,
     pub request: JobRequest,
     pub place: usize,
 }

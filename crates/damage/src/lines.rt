@@ -6,6 +6,7 @@ use crate::examine::Case;
 use crate::tally;
 use crate::tally::Tally;
 use bench::Bench;
+use held::HeldRow;
 use jobs::JobRequest;
 use runs::Row;
 use text::cursor;
@@ -111,10 +112,14 @@ pub(crate) fn examine_all(buf: &mut [u8], out: &mut [u8]) {
     session::finish(out, waiting, input);
 }
 
-// The row at place 0.
-fn first_row(bench: Bench) -> Row {
+// The row at place 0, as it is held and as a run's.
+fn first_held(bench: Bench) -> HeldRow {
     let held = bench.rows[0];
-    held::row_of(held)
+    held
+}
+
+fn first_row(bench: Bench) -> Row {
+    held::row_of(first_held(bench))
 }
 
 // The bench after so many turns of place 0, or as many as there are.
@@ -128,7 +133,7 @@ fn played(bench: Bench, count: u64) -> Bench {
 // The run's rows after 0, 1, 3, 7, .. turns, up to the last, which may come more than once.
 fn examine_job(tally: Tally, admitted: Bench, request: JobRequest) -> Tally {
     let mut bench = admitted;
-    let finished = first_row(played(bench, u64::MAX));
+    let finished = first_held(played(bench, u64::MAX));
     let mut t = tally;
     let mut stop: usize = 0;
     let mut count = 1;

@@ -1,28 +1,29 @@
 // The entries that are whole numbers.
 ghost use Prim.Native.Nat.{_≤_};
 use jobs::JobRecord;
+use jobs::SettingsRecord;
+use jobs::VariableRecord;
 use runs::Row;
 
-// How many variables are enabled.
-fn enabled(row: Row) -> u64
+// How many of the first variables are enabled.
+fn enabled(variables: [VariableRecord; 8], count: u64) -> u64
     ensures { λ r. ⌜ r ≤ 8 ⌝ }
 {
     let mut n: u64 = 0;
     let mut i = 0;
     while i < 8 {
-        n = n + enabled_at(row, i);
+        n = n + enabled_at(variables, count, i);
         i += 1;
     }
     n
 }
 
-fn enabled_at(row: Row, i: usize) -> u64
+fn enabled_at(variables: [VariableRecord; 8], count: u64, i: usize) -> u64
     ensures { λ r. ⌜ r ≤ 1 ⌝ }
 {
-    if i >= row.job.variable_count as usize {
+    if i >= count as usize {
         return 0;
     }
-    let variables = row.job.variables;
     let v = variables[i % 8];
     if v.enabled == 1 { 1 } else { 0 }
 }
@@ -45,18 +46,22 @@ fn product(a: u64, b: u64) -> u64 {
 }
 
 // The most turns of a damped run.
-fn damped_bound(row: Row, a_step: u64) -> u64 {
-    one_more(product(row.job.settings.max_iterations, a_step))
+fn damped_bound(iterations: u64, a_step: u64) -> u64 {
+    one_more(product(iterations, a_step))
 }
 
 // The job's bound on turns (01).
-fn bound(row: Row) -> u64 {
-    let settings = row.job.settings;
-    let a_step = 2 * enabled(row) + 10;
-    let kind = row.kind;
+fn bound(kind: u64, settings: SettingsRecord, p: u64) -> u64
+    requires { ⌜ p ≤ 8 ⌝ }
+{
+    let a_step = 2 * p + 10;
+    let iterations = settings.max_iterations;
     match kind {
-        1 => damped_bound(row, a_step),
-        2 => product(one_more(settings.num_trials), damped_bound(row, a_step)),
+        1 => damped_bound(iterations, a_step),
+        2 => product(
+            one_more(settings.num_trials),
+            damped_bound(iterations, a_step),
+        ),
         _ => {
             let walk = product(settings.max_cooling_cycles, settings.steps_per_temperature);
             std::num::wrapping_add_u64(one_more(walk), 1 + 25 * a_step)
@@ -73,36 +78,39 @@ fn at_least_one(x: u64) -> u64 {
 }
 
 // Of a counter that its kind lacks the limit is 0.
-fn if_kind(row: Row, kind: u64, x: u64) -> u64 {
-    if row.kind == kind { x } else { 0 }
+fn if_kind(kind: u64, its: u64, x: u64) -> u64 {
+    if kind == its { x } else { 0 }
 }
 
 // The least value of a counter that is damage.
-fn least_counter(row: Row, e: usize) -> u64 {
-    let settings = row.job.settings;
+fn least_counter(kind: u64, settings: SettingsRecord, p: u64, e: usize) -> u64 {
     match e {
-        3 => enabled(row),
+        3 => p,
         4 => 11,
         5 => {
-            if row.kind == 3 {
+            if kind == 3 {
                 26
             } else {
                 one_more(settings.max_iterations)
             }
         }
-        6 => one_more(if_kind(row, 2, settings.num_trials)),
-        7 => at_least_one(if_kind(row, 3, settings.max_cooling_cycles)),
-        _ => at_least_one(if_kind(row, 3, settings.steps_per_temperature)),
+        6 => one_more(if_kind(kind, 2, settings.num_trials)),
+        7 => at_least_one(if_kind(kind, 3, settings.max_cooling_cycles)),
+        _ => at_least_one(if_kind(kind, 3, settings.steps_per_temperature)),
     }
 }
 
 // The least value of an entry that is damage, with all that are greater.
 fn least_damage(row: Row, e: usize) -> u64 {
+    let kind = row.kind;
+    let settings = row.job.settings;
+    let variables = row.job.variables;
+    let p = enabled(variables, row.job.variable_count);
     match e {
         0 => 4,
-        1 => if row.kind == 3 { 7 } else { 5 },
-        2 => bound(row),
-        3..=8 => least_counter(row, e),
+        1 => if kind == 3 { 7 } else { 5 },
+        2 => bound(kind, settings, p),
+        3..=8 => least_counter(kind, settings, p, e),
         9 => 17,
         10 => 5,
         11 => 9,

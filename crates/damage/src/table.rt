@@ -9,44 +9,46 @@ pub(crate) const ENTRIES: usize = 52;
 // At how many places the row has the entry in use.
 pub(crate) fn places(row: Row, e: usize) -> usize {
     match e {
-        2 => is_unfinished(row) as usize,
+        2 => is_unfinished(row.damped.phase) as usize,
         13 => (row.kind < 3) as usize,
         14 => (row.kind == 2) as usize,
         15 | 16 | 46 | 47 => (row.kind == 3) as usize,
         17..=19 | 36..=38 | 48 | 49 => row.job.variable_count as usize,
         20 | 21 | 39..=41 => row.job.operand_count as usize,
         22..=25 => row.job.surface_count as usize,
-        26..=29 => if_used(uses_current(row), row),
-        30..=33 => if_used(uses_best(row), row),
+        26..=29 => if_used(
+            uses_current(row.kind, row.damped.phase),
+            row.job.surface_count,
+        ),
+        30..=33 => if_used(
+            uses_best(row.kind, row.damped.phase, row.trial),
+            row.job.surface_count,
+        ),
         34 => 64,
         42..=45 => (row.kind < 3) as usize,
         _ => 1,
     }
 }
 
-fn is_unfinished(row: Row) -> bool {
-    row.damped.phase != 4
+fn is_unfinished(phase: u64) -> bool {
+    phase != 4
 }
 
-fn if_used(used: bool, row: Row) -> usize {
-    if used {
-        row.job.surface_count as usize
-    } else {
-        0
-    }
+fn if_used(used: bool, count: u64) -> usize {
+    if used { count as usize } else { 0 }
 }
 
 // "the current surfaces in every phase but multi-start finished"
-fn uses_current(row: Row) -> bool {
-    row.kind != 2 || is_unfinished(row)
+fn uses_current(kind: u64, phase: u64) -> bool {
+    kind != 2 || is_unfinished(phase)
 }
 
 // "the best surfaces in multi-start from trial 1 on and when finished, and in annealing's walk"
-fn uses_best(row: Row) -> bool {
-    if row.kind == 2 {
-        return row.trial > 0 || !is_unfinished(row);
+fn uses_best(kind: u64, phase: u64, trial: u64) -> bool {
+    if kind == 2 {
+        return trial > 0 || !is_unfinished(phase);
     }
-    row.kind == 3 && row.damped.phase == 6
+    kind == 3 && phase == 6
 }
 
 // Whether the entry at that place bears on the job: the slot of an operand that has one, an index of a surface and slot that
@@ -54,7 +56,7 @@ fn uses_best(row: Row) -> bool {
 pub(crate) fn is_in_use(row: Row, e: usize, i: usize) -> bool {
     match e {
         21 => has_slot(number::operand_kind(row, i)),
-        34 => is_index(row, i),
+        34 => is_index(row.job.surface_count, row.job.slot_count, i),
         39 => number::operand_kind(row, i) > 4,
         49 => number::variable_kind(row, i) == 3,
         _ => true,
@@ -62,8 +64,8 @@ pub(crate) fn is_in_use(row: Row, e: usize, i: usize) -> bool {
 }
 
 // An index of surface i / 4 in slot i % 4.
-fn is_index(row: Row, i: usize) -> bool {
-    i / 4 < row.job.surface_count as usize && i % 4 < row.job.slot_count as usize
+fn is_index(surfaces: u64, slots: u64, i: usize) -> bool {
+    i / 4 < surfaces as usize && i % 4 < slots as usize
 }
 
 fn has_slot(kind: u64) -> bool {

@@ -22,39 +22,47 @@ fn row_of(bench: Bench, place: usize) -> Row {
 // The changed row at its place, finished ones at the others.
 fn bench_with(case: Case, changed: Row) -> Bench {
     let finished = case.finished;
-    let held = held::held_of(finished);
-    let rows = [held; 4];
+    let rows = [finished; 4];
     with_row(Bench { rows: rows }, case.place, changed)
 }
 
 pub(crate) fn is_right(case: Case, changed: Row, e: usize) -> bool {
     let bench = bench_with(case, changed);
     let request = case.request;
+    let answers = answers_of(bench, case.place);
     match e {
-        50 => is_taken(bench, case.place),
-        51 => is_empty(bench, case.place, request),
-        _ => is_refused(bench, case.place, request),
+        50 => is_taken(answers),
+        51 => is_empty(bench, case.place, request, answers),
+        _ => is_refused(bench, case.place, request, answers),
     }
 }
 
 // Damage: a turn and a fetch give 12, an admission 10, the place is not listed, and a release empties it.
-fn is_refused(bench: Bench, place: usize, request: JobRequest) -> bool {
+fn is_refused(bench: Bench, place: usize, request: JobRequest, a: Answers) -> bool {
     let answer = benchcalls::admitted(bench, place, request);
     let left = answer.bench;
-    if answer.number != 10 || !same::same_benches(left, bench) {
-        return false;
-    }
-    keeps(bench, place, 12) && lists_others(bench, place) && empties(bench, place)
+    let refused = answer.number == 10;
+    let kept = same::same_benches(left, bench);
+    let damaged = keeps(a, 12);
+    let unlisted = lists_others(a, place);
+    let released = empties(bench, place);
+    all(all(refused, kept, damaged), unlisted, released)
+}
+
+fn all(a: bool, b: bool, c: bool) -> bool {
+    a && b && c
 }
 
 // An empty place: a turn, a fetch and a release give 11, and an admission leaves nothing of what the row had.
-fn is_empty(bench: Bench, place: usize, request: JobRequest) -> bool {
+fn is_empty(bench: Bench, place: usize, request: JobRequest, a: Answers) -> bool {
     let answer = benchcalls::released(bench, place);
     let left = answer.bench;
-    if answer.number != 11 || !same::same_benches(left, bench) {
-        return false;
-    }
-    keeps(bench, place, 11) && lists_others(bench, place) && admits(bench, place, request)
+    let refused = answer.number == 11;
+    let kept = same::same_benches(left, bench);
+    let empty = keeps(a, 11);
+    let unlisted = lists_others(a, place);
+    let admitted = admits(bench, place, request);
+    all(all(refused, kept, empty), unlisted, admitted)
 }
 
 // What a turn, a fetch and the listing answer; whether bench, scratch and result are what they were; and whether scratch is
@@ -63,6 +71,7 @@ struct Answers {
     turn: u32,
     fetch: u32,
     listed: usize,
+    places: [usize; 4],
     is_kept: bool,
     is_cleared: bool,
 }
@@ -82,21 +91,23 @@ fn answers_of(bench: Bench, place: usize) -> Answers {
     let left = turn.bench;
     let result = fetch.result;
     let finished = finished::listed(bench);
-    let is_kept = same::same_benches(left, bench)
-        && same::same_floats(&scratch, &before)
-        && same::same_results(result, marked());
+    let places = finished.places;
+    let bench_kept = same::same_benches(left, bench);
+    let scratch_kept = same::same_floats(&scratch, &before);
+    let result_kept = same::same_results(result, marked());
+    let is_kept = all(bench_kept, scratch_kept, result_kept);
     Answers {
         turn: turn.number,
         fetch: fetch.number,
         listed: finished.count,
+        places: places,
         is_kept: is_kept,
         is_cleared: is_cleared(scratch, before),
     }
 }
 
 // No damage: a place is at its end or not, and all three calls say the same of it.
-fn is_taken(bench: Bench, place: usize) -> bool {
-    let a = answers_of(bench, place);
+fn is_taken(a: Answers) -> bool {
     let turn = a.turn;
     match turn {
         0 => a.fetch == 14 && a.listed == 3 && a.is_cleared,
@@ -106,19 +117,17 @@ fn is_taken(bench: Bench, place: usize) -> bool {
 }
 
 // A turn and a fetch give the number, and nothing is changed.
-fn keeps(bench: Bench, place: usize, number: u32) -> bool {
-    let a = answers_of(bench, place);
+fn keeps(a: Answers, number: u32) -> bool {
     a.turn == number && a.fetch == number && a.is_kept
 }
 
 // The listing has the three other places: 0 to 3 but this one make 6 less this one.
-fn lists_others(bench: Bench, place: usize) -> bool {
-    let finished = finished::listed(bench);
-    let places = finished.places;
+fn lists_others(a: Answers, place: usize) -> bool {
+    let places = a.places;
     let low = std::num::wrapping_add_usize(places[0], places[1]);
     let high = std::num::wrapping_add_usize(places[2], places[3]);
     let all = std::num::wrapping_add_usize(low, high);
-    finished.count == 3 && std::num::wrapping_add_usize(all, place) == 6
+    a.listed == 3 && std::num::wrapping_add_usize(all, place) == 6
 }
 
 fn empties(bench: Bench, place: usize) -> bool {

@@ -13,14 +13,14 @@ abbrev μ-loop : tie.MeasureT-loop
 played-requires : tie.Need-played-requires Inv-loop μ-loop
 played-requires c κs = search needs
 
-first-row-requires : tie.Need-first-row-requires Inv-loop μ-loop
-first-row-requires c κs = search needs
+first-held-requires : tie.Need-first-held-requires Inv-loop μ-loop
+first-held-requires c κs = search needs
 
 loop-holds : tie.Need-loop-holds Inv-loop μ-loop
 loop-holds c = search needs
 
-first-row-requires-2 : tie.Need-first-row-requires-2 Inv-loop μ-loop
-first-row-requires-2 c κs = search needs
+first-row-requires : tie.Need-first-row-requires Inv-loop μ-loop
+first-row-requires c κs = search needs
 
 examine-row-requires : tie.Need-examine-row-requires Inv-loop μ-loop
 examine-row-requires c κs = search needs
@@ -50,9 +50,9 @@ examine-job-spec =
     Inv-loop
     μ-loop
     played-requires
-    first-row-requires
+    first-held-requires
     loop-holds
-    first-row-requires-2
+    first-row-requires
     examine-row-requires
     played-requires-2
     wrapping-add-u64-requires
