@@ -50,7 +50,7 @@ fn by_state() {
     assert_eq!(bench.release(here), Err(Refusal::Empty));
     bench.admit(here, &good()).unwrap();
     assert_eq!(bench.admit(here, &good()), Err(Refusal::Taken));
-    assert_eq!(bench.turn_with(here, &mut [0.0; 255]), Err(Refusal::ShortScratch));
+    assert_eq!(bench.turn_with(here, &mut [0.0; 127]), Err(Refusal::ShortScratch));
     assert_eq!(bench.fetch(here), Err(Refusal::Unfinished));
     bench.play(here).unwrap();
     assert_eq!(bench.turn(here), Err(Refusal::Finished));
