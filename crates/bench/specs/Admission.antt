@@ -39,7 +39,10 @@ admit-list place r b = refl
 
 pub passed-request : (place : ℕ) (r : JobRequest) (b : Bool) → NoneOf (admitRefusals place r b) → firstRefusal (admissionRefusals r) ≡ 0
 passed-request place r b n =
-    not-refused (filled r) .1 (none-of (admitRefusals place r b) 1 n, none-front (behind 1 (admissionRefusals r)) (refusal 10 b ∷ []) (subst NoneOf (admit-list place r b) n .1 .1))
+    not-refused (filled r) .1 (
+      none-of (admitRefusals place r b) 1 n,
+      none-front (behind 1 (admissionRefusals r)) (refusal 10 b ∷ []) (subst NoneOf (admit-list place r b) n .1 .1),
+    )
 
 -- a job as kept has every entry
 full-record : (j : Job) → FullJob (recordOf (keptJob j))

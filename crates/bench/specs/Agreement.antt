@@ -44,7 +44,8 @@ state-number v false d f g n e s h =
 module _ (b : Bench) (k : Book) (a : Agree b k) where
   pub alike-at : (place : ℕ) → Alike (rowAt b place) (entryAt k place)
   alike-at place =
-      pair-getD {R = λ (h : HeldRow) (e : Entry). Alike (rowFrom h) e} noRow empty (pair-map (λ h e k. alike (rowFrom h) e (k .row)) (a .places)) alike-past place
+      pair-getD {R = λ (h : HeldRow) (e : Entry). Alike (rowFrom h) e} noRow empty (pair-map (λ h e k. alike (rowFrom h) e (k .row)) (a .places)) alike-past
+      place
 
   pub kept-at : (place : ℕ) → place < 4 → Kept (heldAt b place) (entryAt k place)
   kept-at place h = pair-at noRow empty (a .places) place (subst (λ (n : ℕ). place < n) (sym (a .four)) h)
@@ -58,14 +59,16 @@ module _ (b : Bench) (k : Book) (a : Agree b k) where
   turn-number place n =
       let h = alike-at place in
       ap (λ (x : ℕ). cond (noPlace place) 2 (cond (scratchShort n) 9 x))
-      (state-number (isVacant (rowAt b place)) (isEmpty (entryAt k place)) (damaged (rowAt b place)) (Rows.isFinished (rowAt b place)) (isFinished (entryAt k place)) 13 (h .vacant) (h .sound) (h .finished))
+      (state-number (isVacant (rowAt b place)) (isEmpty (entryAt k place)) (damaged (rowAt b place)) (Rows.isFinished (rowAt b place))
+      (isFinished (entryAt k place)) 13 (h .vacant) (h .sound) (h .finished))
 
   fetch-number : (place : ℕ) → Calls.fetchNumber b place ≡ Book.fetchNumber k place
   unfolding Calls.fetchNumber
   fetch-number place =
       let h = alike-at place in
       ap (λ (x : ℕ). cond (noPlace place) 2 x)
-      (state-number (isVacant (rowAt b place)) (isEmpty (entryAt k place)) (damaged (rowAt b place)) (not (Rows.isFinished (rowAt b place))) (not (isFinished (entryAt k place))) 14 (h .vacant) (h .sound)
+      (state-number (isVacant (rowAt b place)) (isEmpty (entryAt k place)) (damaged (rowAt b place)) (not (Rows.isFinished (rowAt b place)))
+      (not (isFinished (entryAt k place))) 14 (h .vacant) (h .sound)
       (λ e. ap not (h .finished e)))
 
   release-number : (place : ℕ) → Calls.releaseNumber b place ≡ Book.releaseNumber k place
@@ -134,13 +137,15 @@ module _ (b : Bench) (k : Book) (a : Agree b k) where
       let m = answers-none (Book.turnRefusals k place n) tt .0 e in
       let rs = Book.turnRefusals k place n in
       let there = none-of rs 11 m in
-      turned-kept (rowAt b place) (entryAt k place) (kept-at place (ltb-true place 4 (not-false (ltb place 4) (none-of rs 2 m))) .row) there (alike-at place .finished there ∙ none-of rs 13 m)
+      turned-kept (rowAt b place) (entryAt k place) (kept-at place (ltb-true place 4 (not-false (ltb place 4) (none-of rs 2 m))) .row) there
+      (alike-at place .finished there ∙ none-of rs 13 m)
 
   pub agree-step : (c : Call) → Agree (benchStep b c) (bookStep k c)
   unfolding benchStep bookStep
   agree-step (admit place r) =
       unless _ _ _ _ (admit-number place r) λ e.
-      agree-set place _ _ (kept-admitted (jobFrom r) (admissible r (passed-request place r _ (answers-none (admitRefusals place r (not (isEmpty (entryAt k place)))) tt .0 e))))
+      agree-set place _ _ (kept-admitted (jobFrom r) (admissible r
+      (passed-request place r _ (answers-none (admitRefusals place r (not (isEmpty (entryAt k place)))) tt .0 e))))
   agree-step (turn place n) = unless _ _ _ _ (turn-number place n) λ e. agree-set place _ _ (turn-done place n e)
   agree-step (fetch place) = a
   agree-step (release place) = unless _ _ _ _ (release-number place) λ e. agree-set place zeroRow empty refl

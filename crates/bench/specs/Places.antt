@@ -111,15 +111,19 @@ module _ (job : Job) (a : Admissible job) where
 
   pub not-vacant : (count : ℕ) → isVacant (rowAfter f count job) ≡ false
   not-vacant count =
-      reached f (λ (r : Row). isVacant r ≡ false) job (ap (λ (k : ℕ). eqb k 0) (kind-admitted job) ∙ kind-taken (job .method)) (λ r u h. ap (λ (k : ℕ). eqb k 0) (kind-advance r (f (pendingSurfaces r))) ∙ h) count
+      reached f (λ (r : Row). isVacant r ≡ false) job (ap (λ (k : ℕ). eqb k 0) (kind-admitted job) ∙ kind-taken (job .method))
+      (λ r u h. ap (λ (k : ℕ). eqb k 0) (kind-advance r (f (pendingSurfaces r))) ∙ h) count
 
   result-after : (count : ℕ) → Rows.isFinished (rowAfter f count job) ≡ true → Rows.resultOf (rowAfter f count job) ≡ value f (run job)
   result-after count h =
-      sym (value-done f count (run job) (Rows.resultOf (rowAfter f count job)) (sym (row-stands f job (a .back) count) ∙ resumption-done (rowAfter f count job) h))
+      sym (value-done f count (run job) (Rows.resultOf (rowAfter f count job))
+      (sym (row-stands f job (a .back) count) ∙ resumption-done (rowAfter f count job) h))
 
   pub undamaged : (count : ℕ) → damaged (rowAfter f count job) ≡ false
   undamaged count =
-      never-damaged f job (a .back) (usable job (a .taken)) (and-i (jobTaken (jobOf (kindOf job) (recordOf job))) (knownKinds (recordOf job)) (subst T (sym (ap jobTaken (a .back) ∙ a .taken)) tt) (kinds-known job a)) count
+      never-damaged f job (a .back) (usable job (a .taken))
+      (and-i (jobTaken (jobOf (kindOf job) (recordOf job))) (knownKinds (recordOf job)) (subst T (sym (ap jobTaken (a .back) ∙ a .taken)) tt)
+      (kinds-known job a)) count
 
   alike-after : (count : ℕ) → rowAfter f count job .turns ≡ count → Alike (rowAfter f count job) (holds job count)
   alike-after count t = record {

@@ -89,7 +89,8 @@ pending-evaluable : (job : Job) → Admissible job → (count : ℕ) → Rows.is
     → evaluateNumber (lensWith job (pendingSurfaces (rowAfter (evaluateOf job) count job))) (job .«merit_function») ≡ 0
 pending-evaluable job a count u =
     let r = rowAfter (evaluateOf job) count job in
-    evaluable job a (pendingSurfaces r) (subst (λ (j : Job). T (surfacesTaken (pendingSurfaces r) (j .prescription .«surface_count»))) (job-after (evaluateOf job) job (a .back) count) (pending-checked r (undamaged job a count) u))
+    evaluable job a (pendingSurfaces r) (subst (λ (j : Job). T (surfacesTaken (pendingSurfaces r) (j .prescription .«surface_count»)))
+    (job-after (evaluateOf job) job (a .back) count) (pending-checked r (undamaged job a count) u))
 
 said : (r : Row) (e : Entry) → KeptRow r e → SamePlace r e
 said r empty h = h
@@ -102,8 +103,11 @@ said r (holds job count) h =
       resumes = ap resumption (h .row) ∙ row-stands (evaluateOf job) job (a .back) count;
       row = h .row;
       recordClean = subst (λ (r : Row). CleanRecord (r .kind) (r .job)) (sym (h .row)) (record-after job a count);
-      stateClean = subst (λ (r : Row). ZeroEntries job (stateOf r)) (sym (h .row)) (zero-entries (evaluateOf job) job (a .back) (a .kept) (evaluation-clean job) count);
-      evaluable = subst (λ (r : Row). Rows.isFinished r ≡ false → evaluateNumber (lensWith job (pendingSurfaces r)) (job .«merit_function») ≡ 0) (sym (h .row)) (pending-evaluable job a count);
+      stateClean =
+          subst (λ (r : Row). ZeroEntries job (stateOf r)) (sym (h .row)) (zero-entries (evaluateOf job) job (a .back) (a .kept) (evaluation-clean job) count);
+      evaluable =
+          subst (λ (r : Row). Rows.isFinished r ≡ false → evaluateNumber (lensWith job (pendingSurfaces r)) (job .«merit_function») ≡ 0) (sym (h .row))
+          (pending-evaluable job a count);
     }
 
 same-place : (calls : List Call) (place : ℕ) → place < 4 → SamePlace (rowAt (benchAfter calls) place) (entryAt (bookAfter calls) place)
@@ -127,7 +131,8 @@ entry-said r s (holds i m) (holds j n) p h g =
 module _ (some others : List Call) where
   entries-equal : SameBench (benchAfter some) (benchAfter others) → (place : ℕ) → place < 4 → entryAt (bookAfter some) place ≡ entryAt (bookAfter others) place
   entries-equal p place h =
-      entry-said _ _ (entryAt (bookAfter some) place) (entryAt (bookAfter others) place) (ap (λ (rows : List HeldRow). rowFrom (getD rows place noRow)) p) (same-place some place h) (same-place others place h)
+      entry-said _ _ (entryAt (bookAfter some) place) (entryAt (bookAfter others) place) (ap (λ (rows : List HeldRow). rowFrom (getD rows place noRow)) p)
+      (same-place some place h) (same-place others place h)
 
   rows-equal : ((place : ℕ) → place < 4 → entryAt (bookAfter some) place ≡ entryAt (bookAfter others) place) → SameBench (benchAfter some) (benchAfter others)
   rows-equal q =
@@ -136,7 +141,8 @@ module _ (some others : List Call) where
     where
       row-at : (place : ℕ) → place < 4 → rowAt (benchAfter some) place ≡ rowAt (benchAfter others) place
       row-at place h =
-          row-said _ _ (entryAt (bookAfter others) place) (subst (λ (e : Entry). SamePlace (rowAt (benchAfter some) place) e) (q place h) (same-place some place h)) (same-place others place h)
+          row-said _ _ (entryAt (bookAfter others) place) (subst (λ (e : Entry). SamePlace (rowAt (benchAfter some) place) e) (q place h)
+          (same-place some place h)) (same-place others place h)
 
       held-at : (calls : List Call) (place : ℕ) → place < 4 → heldAt (benchAfter calls) place ≡ heldFrom (rowAt (benchAfter calls) place)
       held-at calls place h = kept-at (benchAfter calls) (bookAfter calls) (agree-after calls) place h .same
@@ -185,7 +191,8 @@ turns-bounded f job back (suc k) = go (Rows.isFinished (rowAfter f k job)) refl 
     go : (b : Bool) → Rows.isFinished (rowAfter f k job) ≡ b → rowAfter f k job .turns ≤ bound job → turnedUnless f b (rowAfter f k job) .turns ≤ bound job
     go true e h = h
     go false e h =
-        subst (λ (n : ℕ). n ≤ bound job) (sym (turns-advance (rowAfter f k job) (f (pendingSurfaces (rowAfter f k job))) ∙ ap suc (turns-after f job k e))) (unfinished-below f job back k e)
+        subst (λ (n : ℕ). n ≤ bound job) (sym (turns-advance (rowAfter f k job) (f (pendingSurfaces (rowAfter f k job))) ∙ ap suc (turns-after f job k e)))
+        (unfinished-below f job back k e)
 
 -- what a place's row says of its entry
 abbrev Bounded : Entry → Type 0
@@ -194,12 +201,15 @@ Bounded (holds job count) = (count ≤ bound job) × Admissible job
 
 bounded-by : (r : Row) (e : Entry) → KeptRow r e → Bounded e
 bounded-by r empty h = tt
-bounded-by r (holds job count) h =
-    (subst (λ (n : ℕ). n ≤ bound job) (ap (λ (r : Row). r .turns) (sym (h .row)) ∙ h .turns) (turns-bounded (evaluateOf job) job (h .admissible .back) count), h .admissible)
+bounded-by r (holds job count) h = (
+  subst (λ (n : ℕ). n ≤ bound job) (ap (λ (r : Row). r .turns) (sym (h .row)) ∙ h .turns) (turns-bounded (evaluateOf job) job (h .admissible .back) count),
+  h .admissible,
+)
 
 bounded-at : (calls : List Call) (place : ℕ) → Bounded (entryAt (bookAfter calls) place)
 bounded-at calls place =
-    pair-getD {R = λ (h : HeldRow) (e : Entry). Bounded e} noRow empty (pair-map (λ h e k. bounded-by (rowFrom h) e (k .row)) (agree-after calls .places)) tt place
+    pair-getD {R = λ (h : HeldRow) (e : Entry). Bounded e} noRow empty (pair-map (λ h e k. bounded-by (rowFrom h) e (k .row)) (agree-after calls .places)) tt
+    place
 
 run-ended : (job : Job) (count : ℕ) → bound job ≤ count → isDone (runAfter job count) ≡ true
 unfolding isDone
@@ -234,7 +244,8 @@ fetched-returned : (calls : List Call) (place : ℕ) (r : Result) → benchAnswe
 unfolding bookAnswer
 fetched-returned calls place r e =
     let k = bookAfter calls in
-    let p = fetched-is (Book.fetchNumber k place) (resultOf (entryAt k place)) r (sym (same-answer (benchAfter calls) k (agree-after calls) (fetch place)) ∙ e) in
+    let p = fetched-is (Book.fetchNumber k place) (resultOf (entryAt k place)) r
+    (sym (same-answer (benchAfter calls) k (agree-after calls) (fetch place)) ∙ e) in
     let n = answers-none (Book.fetchRefusals k place) tt .0 (p .0) in
     returned-by (entryAt k place) r (none-of (Book.fetchRefusals k place) 11 n) (bounded-at calls place) (p .1)
 

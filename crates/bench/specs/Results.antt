@@ -40,7 +40,8 @@ module _ (job : Job) where
   first-merit : (o : Optimizer) (initial : Surfaces) → value (evaluateOf job) (damped o initial) .«initial_merit» ≡ evaluateOf job initial .«total_merit»
   first-merit o initial =
       Ends-value (evaluateOf job) (λ s. refl)
-      (ends-damped o (By (evaluateOf job)) (λ (s : Current). s .initialMerit ≡ evaluateOf job initial .«total_merit») (λ s k. k) (λ s k. k) (λ c e s k q t. k) (λ (r : Result). r .«initial_merit» ≡ evaluateOf job initial .«total_merit») initial
+      (ends-damped o (By (evaluateOf job)) (λ (s : Current). s .initialMerit ≡ evaluateOf job initial .«total_merit») (λ s k. k) (λ s k. k) (λ c e s k q t. k)
+      (λ (r : Result). r .«initial_merit» ≡ evaluateOf job initial .«total_merit») initial
       (λ e q. ap (λ (e : MeritEvaluation). e .«total_merit») q)
       (λ end h. h))
 
@@ -61,7 +62,11 @@ module _ (job : Job) where
     lens-with : (s : Surfaces) → T (surfacesTaken s (job .prescription .«surface_count»)) → T (lensTaken (lensWith job s))
     lens-with s t =
         let l = lens-parts (job .prescription) (passed job (a .taken) .lens) in
-        lens-from (lensWith job s) (record { pupil = l .pupil; surfaces = λ i h. all-at (λ (k : ℕ). surfaceTaken (surfaceAt s k)) (job .prescription .«surface_count») i t h; indices = l .indices })
+        lens-from (lensWith job s) (record {
+          pupil = l .pupil;
+          surfaces = λ i h. all-at (λ (k : ℕ). surfaceTaken (surfaceAt s k)) (job .prescription .«surface_count») i t h;
+          indices = l .indices;
+        })
 
     is-taken : (b : Bool) → T b → not b ≡ false
     is-taken true t = refl
@@ -72,9 +77,17 @@ module _ (job : Job) where
         let has = passed job (a .taken) in
         let n = has .counted in
         let p = job .prescription in
-        let counted : leb (p .«surface_count») 16 && leb 1 (p .«slot_count») && leb (p .«slot_count») 4 && leb (job .«merit_function» .«operand_count») 12 ≡ true =
-        (λ i. le-leb (p .«surface_count») 16 (n .surfaces) i && le-leb 1 (p .«slot_count») (n .some-slot) i && le-leb (p .«slot_count») 4 (n .slots) i && le-leb (job .«merit_function» .«operand_count») 12 (n .operands) i) in
-        evaluate-0 (lensWith job s) (job .«merit_function») .1 (ap not counted, (is-taken (lensTaken (lensWith job s)) (lens-with s t), (is-taken (operandsTaken (p .«slot_count») (job .«merit_function»)) (has .operands), tt)))
+        let counted : leb (p .«surface_count») 16 && leb 1 (p .«slot_count») && leb (p .«slot_count») 4 && leb (job .«merit_function» .«operand_count») 12
+        ≡ true =
+        (λ i. le-leb (p .«surface_count») 16 (n .surfaces) i && le-leb 1 (p .«slot_count») (n .some-slot) i && le-leb (p .«slot_count») 4 (n .slots) i
+        && le-leb (job .«merit_function» .«operand_count») 12 (n .operands) i) in
+        evaluate-0 (lensWith job s) (job .«merit_function») .1 (
+          ap not counted,
+          (
+            is-taken (lensTaken (lensWith job s)) (lens-with s t),
+            (is-taken (operandsTaken (p .«slot_count») (job .«merit_function»)) (has .operands), tt),
+          ),
+        )
 
     -- a finished row is clean, and holds the result
     come-clean : CleanResult (job .prescription .«surface_count») (numActive (job .variables)) (operandCountOf job) come
@@ -96,5 +109,6 @@ module _ (job : Job) where
           checked = h .1;
           evaluable = evaluable (come .surfaces) (h .1);
           descended = damped-result-descends job;
-          first = λ config e. come-damped (λ (r : Result). r .«initial_merit» ≡ evaluateOf job (baseOf job) .«total_merit») config e (first-merit (optimizerOf job config) (baseOf job));
+          first = λ config e. come-damped (λ (r : Result). r .«initial_merit» ≡ evaluateOf job (baseOf job) .«total_merit») config e
+              (first-merit (optimizerOf job config) (baseOf job));
         }

@@ -122,7 +122,8 @@ pub record Demand3 : Type 0 where
   -- no entry's count passes its job's bound, and there its run is at its end
   pub bounded : (calls : List Call) (place count : ℕ) (job : Job) → entryAt (bookAfter calls) place ≡ holds job count → count ≤ bound job
   pub ended : (job : Job) (count : ℕ) → bound job ≤ count → isDone (runAfter job count) ≡ true
-  -- "p counting enabled variables, is B = 1 + iterations limit × (2p + 10); (1 + trials) × B for multi-start; for annealing 1 + cycles × steps + 1 + 25 × (2p + 10)"
+  -- "p counting enabled variables, is B = 1 + iterations limit × (2p + 10); (1 + trials) × B for multi-start; for annealing 1 + cycles × steps + 1 + 25 × (2p +
+  -- 10)"
   pub dampedBound : (job : Job) (c : DlsConfig) → job .method ≡ Damped c → bound job ≡ 1 + c .«max_iterations» * (2 * numActive (job .variables) + 10)
   pub multiStartBound : (job : Job) (c : MultiStartConfig) → job .method ≡ MultiStart c →
       bound job ≡ (1 + c .«num_trials») * (1 + c .«local_dls_config» .«max_iterations» * (2 * numActive (job .variables) + 10))

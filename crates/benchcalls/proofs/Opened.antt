@@ -19,7 +19,8 @@ use base.Logic.{SProp, ent, sep, wand, all, guard, id⊢, emp, monoR, allE, appl
 use base.Fml.{Lft, GName, Share, fsep, feq, fat, flft, fobs, fauth, fbor, fobor, fshr-bor}
 use prog.Wp.{Heap}
 use ghost.Atoms.{Atoms, sem}
-use types.Kit.{Goal, Soaks, Step, step, Given, Go, Item, Seq, ‵, raw, given, _⊛_, _$_, _∵_, !, qed, move, keep, drop, use1, use2, split, learn, rewrite, check, fsplit, fjoin, fpick, fpack, feqI, done}
+use types.Kit.{Goal, Soaks, Step, step, Given, Go, Item, Seq, ‵, raw, given, _⊛_, _$_, _∵_, !, qed, move, keep, drop, use1, use2, split, learn, rewrite, check}
+use types.Kit.{fsplit, fjoin, fpick, fpack, feqI, done}
 use types.Part.{whole, sub}
 use types.SemTy.{Body}
 use denote.RattleType.{RattleType}
@@ -128,23 +129,28 @@ module _ {M : Type 1} (𝓤 : URA M) (H : Heap 𝓤) (A : Atoms 𝓤) (W : Given
   abbrev pub Back : SProp 𝓤
   Back = all 𝓤 Field0
 
-  pub bench-out : (rs : List HeldRow) → ent 𝓤 (sep 𝓤 (sem 𝓤 H A (cellAt s (Bn .mir) (valsB n rs) b o)) (sem 𝓤 H A (Bn .own (bn n rs) (valsB n rs)))) (sep 𝓤 (sem 𝓤 H A (row R s rs b (o + 0))) Back)
+  pub bench-out : (rs : List HeldRow) → ent 𝓤 (sep 𝓤 (sem 𝓤 H A (cellAt s (Bn .mir) (valsB n rs) b o)) (sem 𝓤 H A (Bn .own (bn n rs) (valsB n rs))))
+      (sep 𝓤 (sem 𝓤 H A (row R s rs b (o + 0))) Back)
   unfolding partOf
   bench-out rs =
       qed W (‵ (cellAt s (Bn .mir) (valsB n rs) b o) ∷ ‵ (Bn .own (bn n rs) (valsB n rs)) ∷ []) ∵
       use1 W (‵ (fat s B′.mir b o (only (valsB n rs)))) (W .laws .raw-at s B′.mir b o (only (valsB n rs))) $
       use1 W (‵ (fat s arr b (o + 0) (only (vals4 rs))) ⊛ raw Back) ((sub {K = Go {0}} {W = W} ! 0 refl (whole !)) .out) $ split ! $
       use1 W (‵ (cellAt s (A4 .mir) (vals4 rs) b (o + 0))) (W .laws .at-raw s arr b (o + 0) (only (vals4 rs))) $
-      move ! (2 ∷ []) $ use1 W (given (valsB n rs ≡ valsB n rs) (‵ (all-own (B.the-type .parts) B′.the-laws (rs, rest-parts n)))) (own-open 𝓤 H A W B.the-type B′.the-laws (rs, rest-parts n) (only (valsB n rs))) $ learn ! (λ _. fsplit ! $
+      move ! (2 ∷ []) $ use1 W (given (valsB n rs ≡ valsB n rs) (‵ (all-own (B.the-type .parts) B′.the-laws (rs, rest-parts n))))
+      (own-open 𝓤 H A W B.the-type B′.the-laws (rs, rest-parts n) (only (valsB n rs))) $ learn ! (λ _. fsplit ! $
       move ! (2 ∷ 0 ∷ []) $ fjoin ! $ fpack ! (List Val) (λ vs. fsep (cellAt s (A4 .mir) vs b (o + 0)) (A4 .own (inner rs) vs)) (vals4 rs) $
-      use1 W (‵ (fsep (feq ℕ (length (inner rs)) 4) (row (F .row) s (inner rs) b (o + 0)))) (array-apart 𝓤 H A W (F .row) s tt 4 (inner rs) b (o + 0)) $ fsplit ! $ drop ! $
+      use1 W (‵ (fsep (feq ℕ (length (inner rs)) 4) (row (F .row) s (inner rs) b (o + 0)))) (array-apart 𝓤 H A W (F .row) s tt 4 (inner rs) b (o + 0)) $
+      fsplit ! $ drop ! $
       use1 W (‵ (row R s rs b (o + 0))) (to-rows rs (o + 0)) $ keep ! (0 ∷ 2 ∷ []) $ done !)
 
-  pub bench-back : (rs : List HeldRow) → length rs ≡ 4 → ent 𝓤 (sep 𝓤 (sem 𝓤 H A (row R s rs b (o + 0))) Back) (guard 𝓤 (Is A4 (inner rs) (vals4 rs)) (sem 𝓤 H A (cellAt s (Bn .mir) (valsB n rs) b o)))
+  pub bench-back : (rs : List HeldRow) → length rs ≡ 4
+      → ent 𝓤 (sep 𝓤 (sem 𝓤 H A (row R s rs b (o + 0))) Back) (guard 𝓤 (Is A4 (inner rs) (vals4 rs)) (sem 𝓤 H A (cellAt s (Bn .mir) (valsB n rs) b o)))
   unfolding partOf
   bench-back rs long =
       qed W (‵ (row R s rs b (o + 0)) ∷ raw Back ∷ []) ∵ use1 W (‵ (row (F .row) s (inner rs) b (o + 0))) (of-rows rs (o + 0)) $
-      feqI ! ℕ (length (inner rs)) 4 (length-map rs (F .into) ∙ long) $ fjoin ! $ use1 W (‵ (partAt A4 s (inner rs) b (o + 0))) (array-whole 𝓤 H A W (F .row) s 4 (inner rs) b (o + 0)) $
+      feqI ! ℕ (length (inner rs)) 4 (length-map rs (F .into) ∙ long) $ fjoin ! $
+      use1 W (‵ (partAt A4 s (inner rs) b (o + 0))) (array-whole 𝓤 H A W (F .row) s 4 (inner rs) b (o + 0)) $
       fpick ! (λ vs. fsplit ! $ move ! (1 ∷ []) $ peeks ! A4 (Is A4) (shows 𝓤 H A A4) (inner rs) vs (λ is. drop ! $
       rewrite ! 0 (λ (us : List Val). ‵ (cellAt s (A4 .mir) us b (o + 0))) (told vs is) refl $
       use1 W (‵ (fat s arr b (o + 0) (only (vals4 rs)))) (W .laws .raw-at s arr b (o + 0) (only (vals4 rs))) $
@@ -157,7 +163,8 @@ module _ {M : Type 1} (𝓤 : URA M) (H : Heap 𝓤) (A : Atoms 𝓤) (W : Given
       told vs is = array-tells (F .row) (λ y. S′.the-field-laws .val y ∷ []) (S′.the-field-laws .tells) 4 (inner rs) vs is
 
 -- ---- a row's answer: its machine value is the struct of its row's, whatever that is, and its number's
-pub in-parts : {G : Type 1} (r : RowAnswer) (v : Val) → Is An.the-row r (v ∷ []) → ((w : Val) → v ≡ vstruct (vcons w (vcons (vint w32 (r .number)) vnil)) → Is R (r .row) (w ∷ []) → G) → G
+pub in-parts : {G : Type 1} (r : RowAnswer) (v : Val) → Is An.the-row r (v ∷ [])
+    → ((w : Val) → v ≡ vstruct (vcons w (vcons (vint w32 (r .number)) vnil)) → Is R (r .row) (w ∷ []) → G) → G
 in-parts r v is go = go (only (valsR (r .row))) (ap only (LL.tells An.the-type An′.the-laws r _ is)) (LL.owed An.the-type An′.the-laws r _ is .0)
 
 -- the machine value of a number
@@ -171,38 +178,54 @@ within i n l e = omega arith
 module _ {M : Type 1} {𝓤 : URA M} {H : Heap 𝓤} {A : Atoms 𝓤} {K : Type 0} {W : Given 𝓤 H A} {Γ : List (Item 𝓤)} {G : Goal 𝓤 H} where
   pub opens-row : K → Soaks G → {κ : Lft} {q : Share} {γ : GName} (b o : ℕ) (n : Rest) (rs : List HeldRow) (i : ℕ) → i ≤ 3
       → (Is Bn (bn n rs) (valsB n rs) → Is R (getD rs i noRow) (valsR (getD rs i noRow))
-      → Seq K W (‵ (cellAt fullShare (R .mir) (valsR (getD rs i noRow)) b (place (mem R .size) (o + 0) i)) ∷ ‵ (R .own (getD rs i noRow) (valsR (getD rs i noRow))) ∷ ‵ (others (shares R) fullShare rs i b (o + 0)) ∷ raw (Back 𝓤 H A W fullShare b o n) ∷ ‵ (fobor κ q (Body (mem Bn) b o γ)) ∷ ‵ (fobs γ (Bn .coded .code (bn n rs))) ∷ ‵ (fauth γ (Bn .coded .code (bn n rs))) ∷ Γ) G)
+      → Seq K W (‵ (cellAt fullShare (R .mir) (valsR (getD rs i noRow)) b (place (mem R .size) (o + 0) i)) ∷ ‵
+      (R .own (getD rs i noRow) (valsR (getD rs i noRow))) ∷ ‵ (others (shares R) fullShare rs i b (o + 0)) ∷ raw (Back 𝓤 H A W fullShare b o n) ∷ ‵
+      (fobor κ q (Body (mem Bn) b o γ)) ∷ ‵ (fobs γ (Bn .coded .code (bn n rs))) ∷ ‵ (fauth γ (Bn .coded .code (bn n rs))) ∷ Γ) G)
       → Seq K W (‵ (fobs γ (Bn .coded .code (bn n rs))) ∷ ‵ (fbor κ (Body (mem Bn) b o γ)) ∷ ‵ (flft κ q) ∷ Γ) G
   opens-row t z b o n rs i l k =
-      opens t z Bn {h = bn n rs} b o (λ vs. spelt t Bn (Is Bn) (shows 𝓤 H A Bn) (LL.vals B.the-type B′.the-laws) (LL.tells B.the-type B′.the-laws) fullShare (bn n rs) vs b o $
+      opens t z Bn {h = bn n rs} b o (λ vs. spelt t Bn (Is Bn) (shows 𝓤 H A Bn) (LL.vals B.the-type B′.the-laws) (LL.tells B.the-type B′.the-laws) fullShare
+      (bn n rs) vs b o $
       move t (1 ∷ []) $ peeks t Bn (Is Bn) (shows 𝓤 H A Bn) (bn n rs) (valsB n rs) (λ was. move t (1 ∷ 0 ∷ []) $
       use2 W (‵ (row R fullShare rs b (o + 0)) ⊛ raw (Back 𝓤 H A W fullShare b o n)) (bench-out 𝓤 H A W fullShare b o n rs) $ split t $
-      elem-out t R (Is R) (shows 𝓤 H A R) valsR (LL.tells S.the-type S′.the-laws) fullShare rs i noRow b (o + 0) (within i (length rs) l (four rs (opened n rs was))) (k was)))
+      elem-out t R (Is R) (shows 𝓤 H A R) valsR (LL.tells S.the-type S′.the-laws) fullShare rs i noRow b (o + 0)
+      (within i (length rs) l (four rs (opened n rs was))) (k was)))
 
-  pub closes-row : K → Soaks G → {κ : Lft} {q : Share} {γ : GName} (b o : ℕ) (n : Rest) (rs : List HeldRow) (i : ℕ) → i ≤ 3 → Is Bn (bn n rs) (valsB n rs) → (r : HeldRow) (v : Val) → Is R r (v ∷ [])
+  pub closes-row : K → Soaks G → {κ : Lft} {q : Share} {γ : GName} (b o : ℕ) (n : Rest) (rs : List HeldRow) (i : ℕ) → i ≤ 3 → Is Bn (bn n rs) (valsB n rs)
+      → (r : HeldRow) (v : Val) → Is R r (v ∷ [])
       → Step K W (‵ (fobs γ (Bn .coded .code (bn n (set rs i r)))) ∷ ‵ (fbor κ (Body (mem Bn) b o γ)) ∷ ‵ (flft κ q) ∷ Γ) G
-      (‵ (cellAt fullShare (R .mir) (v ∷ []) b (place (mem R .size) (o + 0) i)) ∷ ‵ (others (shares R) fullShare rs i b (o + 0)) ∷ raw (Back 𝓤 H A W fullShare b o n) ∷ ‵ (fobor κ q (Body (mem Bn) b o γ)) ∷ ‵ (fobs γ (Bn .coded .code (bn n rs))) ∷ ‵ (fauth γ (Bn .coded .code (bn n rs))) ∷ Γ) G
+      (‵ (cellAt fullShare (R .mir) (v ∷ []) b (place (mem R .size) (o + 0) i)) ∷ ‵ (others (shares R) fullShare rs i b (o + 0)) ∷ raw
+      (Back 𝓤 H A W fullShare b o n) ∷ ‵ (fobor κ q (Body (mem Bn) b o γ)) ∷ ‵ (fobs γ (Bn .coded .code (bn n rs))) ∷ ‵
+      (fauth γ (Bn .coded .code (bn n rs))) ∷ Γ) G
   closes-row t z b o n rs i l was r v isr = step (λ s.
       owned t R (Is R) ((LL.makes S.the-type S′.the-plain) 𝓤 H A) r (v ∷ []) isr $ move t (1 ∷ 0 ∷ []) $
       elem-put t R fullShare rs i r (v ∷ []) b (o + 0) (within i (length rs) l (four rs (opened n rs was))) $
-      use2 W (given (Is A4 (inner (set rs i r)) (vals4 (set rs i r))) (‵ (cellAt fullShare (Bn .mir) (valsB n (set rs i r)) b o))) (bench-back 𝓤 H A W fullShare b o n (set rs i r) (length-set rs i r ∙ four rs (opened n rs was))) $ learn t (λ is4.
-      owned t Bn (Is Bn) ((LL.makes B.the-type B′.the-plain) 𝓤 H A) (bn n (set rs i r)) _ (shut n rs (set rs i r) was is4) $ move t (1 ∷ 0 ∷ []) $ closes t z Bn (bn n (set rs i r)) (valsB n (set rs i r)) b o $ s))
+      use2 W (given (Is A4 (inner (set rs i r)) (vals4 (set rs i r))) (‵ (cellAt fullShare (Bn .mir) (valsB n (set rs i r)) b o)))
+      (bench-back 𝓤 H A W fullShare b o n (set rs i r) (length-set rs i r ∙ four rs (opened n rs was))) $ learn t (λ is4.
+      owned t Bn (Is Bn) ((LL.makes B.the-type B′.the-plain) 𝓤 H A) (bn n (set rs i r)) _ (shut n rs (set rs i r) was is4) $ move t (1 ∷ 0 ∷ []) $
+      closes t z Bn (bn n (set rs i r)) (valsB n (set rs i r)) b o $ s))
 
   pub looks-row : K → Soaks G → {κ : Lft} {q : Share} (b o : ℕ) (n : Rest) (rs : List HeldRow) (i : ℕ) → i ≤ 3
       → ((s : Share) → Is Bn (bn n rs) (valsB n rs) → Is R (getD rs i noRow) (valsR (getD rs i noRow))
-      → Seq K W (‵ (cellAt s (R .mir) (valsR (getD rs i noRow)) b (place (mem R .size) (o + 0) i)) ∷ ‵ (R .own (getD rs i noRow) (valsR (getD rs i noRow))) ∷ ‵ (others (shares R) s rs i b (o + 0)) ∷ raw (Back 𝓤 H A W s b o n) ∷ ‵ (fobor κ q (partAt Bn s (bn n rs) b o)) ∷ ‵ (fshr-bor κ (λ s. partAt Bn s (bn n rs) b o)) ∷ Γ) G)
+      → Seq K W (‵ (cellAt s (R .mir) (valsR (getD rs i noRow)) b (place (mem R .size) (o + 0) i)) ∷ ‵ (R .own (getD rs i noRow) (valsR (getD rs i noRow))) ∷ ‵
+      (others (shares R) s rs i b (o + 0)) ∷ raw (Back 𝓤 H A W s b o n) ∷ ‵ (fobor κ q (partAt Bn s (bn n rs) b o)) ∷ ‵
+      (fshr-bor κ (λ s. partAt Bn s (bn n rs) b o)) ∷ Γ) G)
       → Seq K W (‵ (fshr-bor κ (λ s. partAt Bn s (bn n rs) b o)) ∷ ‵ (flft κ q) ∷ Γ) G
   looks-row t z b o n rs i l k =
-      looks t z Bn (Is Bn) (shows 𝓤 H A Bn) (LL.vals B.the-type B′.the-laws) (LL.tells B.the-type B′.the-laws) ((LL.copy B.the-type B′.the-copy) 𝓤 H A W) (bn n rs) b o (λ s vs.
+      looks t z Bn (Is Bn) (shows 𝓤 H A Bn) (LL.vals B.the-type B′.the-laws) (LL.tells B.the-type B′.the-laws) ((LL.copy B.the-type B′.the-copy) 𝓤 H A W)
+      (bn n rs) b o (λ s vs.
       spelt t Bn (Is Bn) (shows 𝓤 H A Bn) (LL.vals B.the-type B′.the-laws) (LL.tells B.the-type B′.the-laws) s (bn n rs) vs b o $
       move t (1 ∷ []) $ peeks t Bn (Is Bn) (shows 𝓤 H A Bn) (bn n rs) (valsB n rs) (λ was. move t (1 ∷ 0 ∷ []) $
       use2 W (‵ (row R s rs b (o + 0)) ⊛ raw (Back 𝓤 H A W s b o n)) (bench-out 𝓤 H A W s b o n rs) $ split t $
-      elem-out t R (Is R) (shows 𝓤 H A R) valsR (LL.tells S.the-type S′.the-laws) s rs i noRow b (o + 0) (within i (length rs) l (four rs (opened n rs was))) (k s was)))
+      elem-out t R (Is R) (shows 𝓤 H A R) valsR (LL.tells S.the-type S′.the-laws) s rs i noRow b (o + 0) (within i (length rs) l (four rs (opened n rs was)))
+      (k s was)))
 
   pub shuts-row : K → Soaks G → {κ : Lft} {q : Share} (s : Share) (b o : ℕ) (n : Rest) (rs : List HeldRow) (i : ℕ) → i ≤ 3 → Is Bn (bn n rs) (valsB n rs)
       → Step K W (‵ (flft κ q) ∷ ‵ (fshr-bor κ (λ s. partAt Bn s (bn n rs) b o)) ∷ Γ) G
-      (‵ (cellAt s (R .mir) (valsR (getD rs i noRow)) b (place (mem R .size) (o + 0) i)) ∷ ‵ (R .own (getD rs i noRow) (valsR (getD rs i noRow))) ∷ ‵ (others (shares R) s rs i b (o + 0)) ∷ raw (Back 𝓤 H A W s b o n) ∷ ‵ (fobor κ q (partAt Bn s (bn n rs) b o)) ∷ ‵ (fshr-bor κ (λ s. partAt Bn s (bn n rs) b o)) ∷ Γ) G
+      (‵ (cellAt s (R .mir) (valsR (getD rs i noRow)) b (place (mem R .size) (o + 0) i)) ∷ ‵ (R .own (getD rs i noRow) (valsR (getD rs i noRow))) ∷ ‵
+      (others (shares R) s rs i b (o + 0)) ∷ raw (Back 𝓤 H A W s b o n) ∷ ‵ (fobor κ q (partAt Bn s (bn n rs) b o)) ∷ ‵
+      (fshr-bor κ (λ s. partAt Bn s (bn n rs) b o)) ∷ Γ) G
   shuts-row t z s b o n rs i l was = step (λ k.
       elem-back t R s rs i noRow (valsR (getD rs i noRow)) b (o + 0) (within i (length rs) l (four rs (opened n rs was))) $
-      use2 W (given (Is A4 (inner rs) (vals4 rs)) (‵ (cellAt s (Bn .mir) (valsB n rs) b o))) (bench-back 𝓤 H A W s b o n rs (four rs (opened n rs was))) $ learn t (λ _.
+      use2 W (given (Is A4 (inner rs) (vals4 rs)) (‵ (cellAt s (Bn .mir) (valsB n rs) b o))) (bench-back 𝓤 H A W s b o n rs (four rs (opened n rs was))) $
+      learn t (λ _.
       owned t Bn (Is Bn) ((LL.makes B.the-type B′.the-plain) 𝓤 H A) (bn n rs) _ was $ move t (1 ∷ 0 ∷ []) $ shuts t z Bn s (bn n rs) (valsB n rs) b o $ k))

@@ -91,8 +91,11 @@ module _ (b : Bench) (place : ℕ) where
     unfolding admitNumber
     admit-past request =
         let taken = not (isVacant (rowAt b place)) in
-        let new = withRow b place (admitted (jobFrom request)) in
-        (no-admit false request ∙ sym (no-admit taken request), admits-nothing new request ∙ ap (λ (n : ℕ). unlessRefused n new b) (sym (no-admit taken request)))
+        let new = withRow b place (admitted (jobFrom request)) in (
+          no-admit false request ∙ sym (no-admit taken request),
+          admits-nothing new request
+              ∙ ap (λ (n : ℕ). unlessRefused n new b) (sym (no-admit taken request)),
+        )
 
   module _ (h : place ≤ 3) where
     some : noPlace place ≡ false

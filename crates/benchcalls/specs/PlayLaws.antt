@@ -26,7 +26,8 @@ pub refused : (i t j : ℕ) (bk bk′ : Bench) (ss us : List Float) (r : ℕ) �
     → us ≡ scratchAfter bk i ss → T (ltb 0 r) → played bk′ j r us ≡ playFrom i (suc t) j bk ss
 unfolding playFrom
 refused i t j bk bk′ ss us r er eb es big =
-    refused-by (turnNumber bk i (length ss)) r j bk bk′ (withRow bk i (turned (rowAt bk i))) ss us (cleared ss) (playFrom i t (suc j) (turnedBench bk i (length ss)) (scratchAfter bk i ss)) er big eb es
+    refused-by (turnNumber bk i (length ss)) r j bk bk′ (withRow bk i (turned (rowAt bk i))) ss us (cleared ss)
+    (playFrom i t (suc j) (turnedBench bk i (length ss)) (scratchAfter bk i ss)) er big eb es
 
 nothing-below : (r : ℕ) → T (not (ltb 0 r)) → r ≡ 0
 nothing-below zero small = refl

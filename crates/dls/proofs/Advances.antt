@@ -15,7 +15,8 @@ use Rattle.merit.specs.declared.types.MeritEvaluation.{MeritEvaluation}
 use Rattle.runs.specs.declared.types.DampedState.{DampedState}
 use Rattle.runs.specs.Run.{Surfaces}
 use Rattle.runs.specs.DampedRun.{Optimizer, Current, on, settled, started, raised, withDifferences, isStationary, isReduction, relImprovement, moved, accepted}
-use Rattle.runs.specs.DampedRow.{Phase, first, minus, candidate, finished, phaseOf, currentOf, atPlus, ended, resumeAttempts, resumeStationary, resumeColumns, resumeAfter, resumeReduced, pendingAt, advanceAt, pending, advance, resumeIterations}
+use Rattle.runs.specs.DampedRow.{Phase, first, minus, candidate, finished, phaseOf, currentOf, atPlus, ended, resumeAttempts, resumeStationary, resumeColumns}
+use Rattle.runs.specs.DampedRow.{resumeAfter, resumeReduced, pendingAt, advanceAt, pending, advance, resumeIterations}
 use Rattle.dls.specs.DampedSteps.{withJacobian, withCurrent, relativeGain, iterationEntered}
 
 -- ---- a run with a variable enters an iteration at its first column
@@ -68,7 +69,8 @@ module _ (o : Optimizer) (d : DampedState) (e : MeritEvaluation) where
 
   module _ {next : DampedState} (written : next ≡ withJacobian d jMat) where
     -- another column follows
-    pub column-on : {r : DampedState} → d .column + 1 < numActive (o .variables) → r ≡ atPlus (currentOf next) (next .jacobian) (d .column + 1) → r ≡ advanceAt o minus d e
+    pub column-on : {r : DampedState} → d .column + 1 < numActive (o .variables) → r ≡ atPlus (currentOf next) (next .jacobian) (d .column + 1) → r
+        ≡ advanceAt o minus d e
     unfolding advanceAt resumeColumns
     column-on t f =
         f
@@ -77,7 +79,8 @@ module _ (o : Optimizer) (d : DampedState) (e : MeritEvaluation) where
         ∙ ap (λ (q : ℕ). columnsIf (ltb q (numActive (o .variables))) q) (add-one (d .column))
 
     -- it was the last
-    pub column-over : {r : DampedState} → numActive (o .variables) ≤ d .column + 1 → r ≡ resumeStationary o (isStationary o (next .jacobian) (currentOf next)) (next .jacobian) (currentOf next) → r ≡ advanceAt o minus d e
+    pub column-over : {r : DampedState} → numActive (o .variables) ≤ d .column + 1 → r
+        ≡ resumeStationary o (isStationary o (next .jacobian) (currentOf next)) (next .jacobian) (currentOf next) → r ≡ advanceAt o minus d e
     unfolding advanceAt resumeColumns
     column-over t f =
         f
@@ -95,7 +98,8 @@ module _ (o : Optimizer) (d : DampedState) (e : MeritEvaluation) where
     unfolding advanceAt resumeReduced
     candidate-taken y f = f ∙ ap (λ (b : Bool). resumeReduced o b d e) (sym y ∙ told)
 
-    pub candidate-left : {r : DampedState} → t ≡ false → r ≡ resumeAttempts o (10 - d .attempt) (d .jacobian) (raised (currentOf d)) (d .attempt) → r ≡ advanceAt o candidate d e
+    pub candidate-left : {r : DampedState} → t ≡ false → r ≡ resumeAttempts o (10 - d .attempt) (d .jacobian) (raised (currentOf d)) (d .attempt) → r
+        ≡ advanceAt o candidate d e
     unfolding advanceAt resumeReduced
     candidate-left y f = f ∙ ap (λ (b : Bool). resumeReduced o b d e) (sym y ∙ told)
 
@@ -110,15 +114,30 @@ module _ (o : Optimizer) (d : DampedState) (e : MeritEvaluation) where
 
     -- after the first merit
     pub first-on : {params : List Float} {r : DampedState} → params ≡ extracted (o .variables) (d .surfaces) →
-        r ≡ entered (record { surfaces = d .surfaces; params = params; evaluation = e; initialMerit = e .«total_merit»; damping = o .config .«initial_damping»; iteration = 0 }) → r ≡ advanceAt o first d e
+        r ≡ entered (record {
+          surfaces = d .surfaces;
+          params = params;
+          evaluation = e;
+          initialMerit = e .«total_merit»;
+          damping = o .config .«initial_damping»;
+          iteration = 0;
+        }) → r ≡ advanceAt o first d e
     unfolding advanceAt
     first-on x f =
         f
-        ∙ ap (λ (p : List Float). entered (record { surfaces = d .surfaces; params = p; evaluation = e; initialMerit = e .«total_merit»; damping = o .config .«initial_damping»; iteration = 0 })) x
+        ∙ ap (λ (p : List Float). entered (record {
+          surfaces = d .surfaces;
+          params = p;
+          evaluation = e;
+          initialMerit = e .«total_merit»;
+          damping = o .config .«initial_damping»;
+          iteration = 0;
+        })) x
         ∙ iterations-on (started o (d .surfaces) e)
 
     -- after an accepted step
-    module _ {gain : Float} {next : DampedState} (gained : gain ≡ relativeGain (e .«total_merit») (d .evaluation .«total_merit»)) (stepped : next ≡ withCurrent d (moved o (d .candidate) e (currentOf d))) where
+    module _ {gain : Float} {next : DampedState} (gained : gain ≡ relativeGain (e .«total_merit») (d .evaluation .«total_merit»))
+        (stepped : next ≡ withCurrent d (moved o (d .candidate) e (currentOf d))) where
       abbrev s : Current
       s = moved o (d .candidate) e (currentOf d)
 
@@ -135,4 +154,5 @@ module _ (o : Optimizer) (d : DampedState) (e : MeritEvaluation) where
 
       pub accepted-on : {r : DampedState} → small ≡ false → r ≡ entered (currentOf next) → r ≡ resumeAfter o (accepted o (d .candidate) e (currentOf d))
       unfolding settled
-      accepted-on t f = f ∙ ap (λ (w : DampedState). entered (currentOf w)) stepped ∙ iterations-on s ∙ ap (λ (b : Bool). resumeAfter o (settled b s)) (sym t) ∙ settles
+      accepted-on t f =
+          f ∙ ap (λ (w : DampedState). entered (currentOf w)) stepped ∙ iterations-on s ∙ ap (λ (b : Bool). resumeAfter o (settled b s)) (sym t) ∙ settles

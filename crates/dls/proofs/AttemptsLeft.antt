@@ -49,18 +49,24 @@ module _ (config : DlsConfig) (v : VariableSet) (m : ℕ) (d : DampedState) wher
   abbrev pub left : ℕ → Float → DampedState
   left k damping = resumeAttempts o (10 - k) (d .jacobian) (s damping) k
 
-  begun : (damping : Float) (k : ℕ) → k < 10 → left k damping ≡ resumeSolved o (stepFound (numActive v) damping h g) (candidateParams o (d .jacobian) (s damping)) (d .jacobian) (s damping) k (left (k + 1) (raisedOf damping))
+  begun : (damping : Float) (k : ℕ) → k < 10 → left k damping
+      ≡ resumeSolved o (stepFound (numActive v) damping h g) (candidateParams o (d .jacobian) (s damping)) (d .jacobian) (s damping) k
+      (left (k + 1) (raisedOf damping))
   unfolding resumeAttempts isSolved
   begun damping k b =
       let q : 10 - k ≡ suc (10 - (k + 1)) = omega arith in
       ap (λ (n : ℕ). resumeAttempts o n (d .jacobian) (s damping) k) q
-      ∙ ap (λ (n : ℕ). resumeSolved o (stepFound (numActive v) damping h g) (candidateParams o (d .jacobian) (s damping)) (d .jacobian) (s damping) k (resumeAttempts o (10 - (k + 1)) (d .jacobian) (s (raisedOf damping)) n)) (sym (add-one k))
+      ∙ ap (λ (n : ℕ). resumeSolved o (stepFound (numActive v) damping h g) (candidateParams o (d .jacobian) (s damping)) (d .jacobian) (s damping) k
+      (resumeAttempts o (10 - (k + 1)) (d .jacobian) (s (raisedOf damping)) n)) (sym (add-one k))
 
   pub attempt-none : (damping : Float) (k : ℕ) → k < 10 → stepFound (numActive v) damping h g ≡ false → left k damping ≡ left (k + 1) (raisedOf damping)
   unfolding resumeSolved
-  attempt-none damping k b e = begun damping k b ∙ ap (λ (t : Bool). resumeSolved o t (candidateParams o (d .jacobian) (s damping)) (d .jacobian) (s damping) k (left (k + 1) (raisedOf damping))) e
+  attempt-none damping k b e =
+      begun damping k b ∙ ap (λ (t : Bool). resumeSolved o t (candidateParams o (d .jacobian) (s damping)) (d .jacobian) (s damping) k
+      (left (k + 1) (raisedOf damping))) e
 
-  pub attempt-found : (damping : Float) (k : ℕ) → k < 10 → stepFound (numActive v) damping h g ≡ true → left k damping ≡ atCandidate (s damping) (d .jacobian) (k + 1) (candidateParams o (d .jacobian) (s damping))
+  pub attempt-found : (damping : Float) (k : ℕ) → k < 10 → stepFound (numActive v) damping h g ≡ true → left k damping
+      ≡ atCandidate (s damping) (d .jacobian) (k + 1) (candidateParams o (d .jacobian) (s damping))
   unfolding resumeSolved
   attempt-found damping k b e =
       begun damping k b
@@ -74,7 +80,9 @@ module _ (config : DlsConfig) (v : VariableSet) (m : ℕ) (d : DampedState) wher
       ap (λ (n : ℕ). resumeAttempts o n (d .jacobian) (s damping) k) q
 
   -- the step that stands in scratch makes the candidate
-  pub candidate-made : (damping : Float) (l : List Float) → ((k : ℕ) → k < numActive v → getD l (stepAt + k) nan ≡ getD (stepOf (numActive v) damping h g) k nan) → candidateIn v (d .params) l ≡ candidateParams o (d .jacobian) (s damping)
+  pub candidate-made : (damping : Float) (l : List Float)
+      → ((k : ℕ) → k < numActive v → getD l (stepAt + k) nan ≡ getD (stepOf (numActive v) damping h g) k nan) → candidateIn v (d .params) l
+      ≡ candidateParams o (d .jacobian) (s damping)
   unfolding candidateParams
   candidate-made damping l e = ap (clampedValues v) (tab-same _ _ mostVariables (λ q b. entry q (ltb q (numActive v)) refl))
     where
@@ -84,6 +92,7 @@ module _ (config : DlsConfig) (v : VariableSet) (m : ℕ) (d : DampedState) wher
       dx : ℕ → Float
       dx q = getD (stepOf (numActive v) damping h g) q nan
 
-      entry : (q : ℕ) (b : Bool) → ltb q (numActive v) ≡ b → cond b (add binary64 (x q) (getD l (stepAt + q) nan)) (x q) ≡ cond b (add binary64 (x q) (dx q)) (x q)
+      entry : (q : ℕ) (b : Bool) → ltb q (numActive v) ≡ b → cond b (add binary64 (x q) (getD l (stepAt + q) nan)) (x q)
+          ≡ cond b (add binary64 (x q) (dx q)) (x q)
       entry q true t = ap (add binary64 (x q)) (e q (ltb-true q (numActive v) t))
       entry q false t = refl

@@ -34,21 +34,26 @@ module _ (config : DlsConfig) (v : VariableSet) (m : ℕ) (d : DampedState) {var
   abbrev moved : Float → List OpticalSurface
   moved x = applied v (set (d .params) (d .column) x) (d .surfaces)
 
-  pub plus-surfaces : {x : Float} {r : List OpticalSurface} → x ≡ movedUp x0 relative variable → r ≡ moved x → r ≡ prescPlus (optimizer config v m) (currentOf d) (d .column)
+  pub plus-surfaces : {x : Float} {r : List OpticalSurface} → x ≡ movedUp x0 relative variable → r ≡ moved x → r
+      ≡ prescPlus (optimizer config v m) (currentOf d) (d .column)
   unfolding prescPlus
   plus-surfaces e f = f ∙ ap moved (up e)
 
-  pub minus-surfaces : {x : Float} {r : List OpticalSurface} → x ≡ movedDown x0 relative variable → r ≡ moved x → r ≡ prescMinus (optimizer config v m) (currentOf d) (d .column)
+  pub minus-surfaces : {x : Float} {r : List OpticalSurface} → x ≡ movedDown x0 relative variable → r ≡ moved x → r
+      ≡ prescMinus (optimizer config v m) (currentOf d) (d .column)
   unfolding prescMinus
   minus-surfaces e f = f ∙ ap moved (down e)
 
-  pub between-both : {x y r : Float} → x ≡ movedUp x0 relative variable → y ≡ movedDown x0 relative variable → r ≡ denominatorOf x0 x y → r ≡ denom (optimizer config v m) (currentOf d) (d .column)
+  pub between-both : {x y r : Float} → x ≡ movedUp x0 relative variable → y ≡ movedDown x0 relative variable → r ≡ denominatorOf x0 x y → r
+      ≡ denom (optimizer config v m) (currentOf d) (d .column)
   unfolding denom
   between-both e f g = g ∙ (λ i. denominatorOf x0 (up e i) (down f i))
 
 -- the state with its column written
 pub column-written : (config : DlsConfig) (v : VariableSet) (m : ℕ) (d : DampedState) (below jMat : List Float) (between : Float) →
-    between ≡ denom (optimizer config v m) (currentOf d) (d .column) → jMat ≡ withColumn (d .jacobian) (d .column) (columnOf (d .«plus_residuals») below m between) →
+    between ≡ denom (optimizer config v m) (currentOf d) (d .column) → jMat
+    ≡ withColumn (d .jacobian) (d .column) (columnOf (d .«plus_residuals») below m between) →
     withJacobian d jMat ≡ withJacobian d (withDifferences (optimizer config v m) (currentOf d) (d .column) (d .jacobian) (d .«plus_residuals») below)
 unfolding withDifferences
-column-written config v m d below jMat between e f = ap (withJacobian d) (f ∙ ap (λ (x : Float). withColumn (d .jacobian) (d .column) (columnOf (d .«plus_residuals») below m x)) e)
+column-written config v m d below jMat between e f =
+    ap (withJacobian d) (f ∙ ap (λ (x : Float). withColumn (d .jacobian) (d .column) (columnOf (d .«plus_residuals») below m x)) e)

@@ -15,7 +15,8 @@ kept-same l = record { long = refl; rest = refl }
 pub kept-on : {l l' l'' : List Float} → ScratchKept l l' → ScratchKept l' l'' → ScratchKept l l''
 kept-on a b = record { long = b .long ∙ a .long; rest = b .rest ∙ a .rest }
 
-pub kept-equations : {m p : ℕ} {jacobian : Matrix} {residuals : Vector} {l l' : List Float} {r : Float} → Equations m p jacobian residuals l l' r → ScratchKept l l'
+pub kept-equations : {m p : ℕ} {jacobian : Matrix} {residuals : Vector} {l l' : List Float} {r : Float} → Equations m p jacobian residuals l l' r
+    → ScratchKept l l'
 kept-equations e = record { long = e .long; rest = equations-behind _ _ _ _ _ _ _ e }
 
 pub kept-attempt : {p : ℕ} {damping : Float} {l l' : List Float} {r : Solved} → Attempt p damping l l' r → ScratchKept l l'

@@ -18,7 +18,9 @@ module _ (params l : List Float) where
   at q = add binary64 (getD params q nan) (getD l (stepAt + q) nan)
 
   pub stepped-none : length params ≡ mostVariables → params ≡ steppedIn params 0 l
-  stepped-none e = sym (tab-self params nan) ∙ rw e (tab-same _ _ mostVariables (λ q h. ap (λ (b : Bool). cond b (at q) (getD params q nan)) (sym (le-ltb q 0 (omega arith)))))
+  stepped-none e =
+      sym (tab-self params nan)
+      ∙ rw e (tab-same _ _ mostVariables (λ q h. ap (λ (b : Bool). cond b (at q) (getD params q nan)) (sym (le-ltb q 0 (omega arith)))))
 
   pub stepped-more : (q : ℕ) → q < mostVariables → set (steppedIn params q l) q (at q) ≡ steppedIn params (q + 1) l
   stepped-more q h =
@@ -29,7 +31,8 @@ module _ (params l : List Float) where
       further k n true e = e ∙ sym (lt-ltb k (q + 1) (omega (arith, ltb-true k q e)))
       further k n false e = e ∙ sym (le-ltb k (q + 1) (omega (arith, ltb-false k q e)))
 
-      entry : (k : ℕ) → k < mostVariables → (b : Bool) → eqb k q ≡ b → getD (set (steppedIn params q l) q (at q)) k nan ≡ getD (steppedIn params (q + 1) l) k nan
+      entry : (k : ℕ) → k < mostVariables → (b : Bool) → eqb k q ≡ b → getD (set (steppedIn params q l) q (at q)) k nan
+          ≡ getD (steppedIn params (q + 1) l) k nan
       entry k g true e =
           let s : k ≡ q = eqb-true k q e in
           rw s

@@ -25,7 +25,8 @@ use Rattle.normal.proofs.Kept.{attempt-stands}
 use Rattle.dls.proofs.Kept.{kept-same, kept-on, kept-attempt}
 
 -- scratch l₀ has become l, the damping another, and k attempts are over
-pub record Trying (v : VariableSet) (d : DampedState) (l₀ : List Float) (damping₀ : Damping) (k₀ : ℕ) (l : List Float) (damping : Damping) (k : ℕ) : Type 0 where
+pub record Trying (v : VariableSet) (d : DampedState) (l₀ : List Float) (damping₀ : Damping) (k₀ : ℕ) (l : List Float) (damping : Damping) (k : ℕ) : Type
+    0 where
   pub goes : (config : DlsConfig) (m : ℕ) → EquationsIn v m d l₀ → left config v m d k₀ (damping₀ .value) ≡ left config v m d k (damping .value)
   pub stand : (h : Matrix) (g : Vector) → Stands (numActive v) l₀ h g → Stands (numActive v) l h g
   pub kept : ScratchKept l₀ l
@@ -43,20 +44,24 @@ module _ {v : VariableSet} {d : DampedState} {l₀ : List Float} {damping₀ : D
       answer config m s = a .attempted _ _ (t .stand _ _ s)
 
       -- an attempt without a step
-      pub trying-on : {more : Damping} → numActive v ≤ mostVariables → x ≡ No → more .value ≡ raisedOf (damping .value) → Trying v d l₀ damping₀ k₀ l' more (k + 1)
+      pub trying-on : {more : Damping} → numActive v ≤ mostVariables → x ≡ No → more .value ≡ raisedOf (damping .value)
+          → Trying v d l₀ damping₀ k₀ l' more (k + 1)
       trying-on few none e = record {
-        goes = λ config m s. t .goes config m s ∙ attempt-none config v m d (damping .value) k b (solved-no _ (sym none ∙ answer config m s .answer)) ∙ ap (left config v m d (k + 1)) (sym e);
+        goes = λ config m s. t .goes config m s ∙ attempt-none config v m d (damping .value) k b (solved-no _ (sym none ∙ answer config m s .answer))
+            ∙ ap (left config v m d (k + 1)) (sym e);
         stand = λ h g s. attempt-stands _ _ h g _ _ _ few a (t .stand h g s);
         kept = kept-on (t .kept) (kept-attempt a);
       }
 
       -- one with a step: the candidate
-      pub trying-found : {c : List Float} {r : DampedState} → x ≡ Yes → c ≡ candidateIn v (d .params) l' → r ≡ atCandidate (withDamping (damping .value) (currentOf d)) (d .jacobian) (k + 1) c → AttemptsMade v d damping₀ k₀ l₀ l' r
+      pub trying-found : {c : List Float} {r : DampedState} → x ≡ Yes → c ≡ candidateIn v (d .params) l' → r
+          ≡ atCandidate (withDamping (damping .value) (currentOf d)) (d .jacobian) (k + 1) c → AttemptsMade v d damping₀ k₀ l₀ l' r
       trying-found some e f = record {
         reached = λ config m s.
             let found = solved-yes _ (sym some ∙ answer config m s .answer) in
             f
-            ∙ ap (atCandidate (withDamping (damping .value) (currentOf d)) (d .jacobian) (k + 1)) (e ∙ candidate-made config v m d (damping .value) l' (answer config m s .step (rw found tt)))
+            ∙ ap (atCandidate (withDamping (damping .value) (currentOf d)) (d .jacobian) (k + 1))
+            (e ∙ candidate-made config v m d (damping .value) l' (answer config m s .step (rw found tt)))
             ∙ sym (t .goes config m s ∙ attempt-found config v m d (damping .value) k b found);
         kept = kept-on (t .kept) (kept-attempt a);
       }
@@ -83,12 +88,14 @@ module _ (config : DlsConfig) (v : VariableSet) (m : ℕ) (d : DampedState) {p :
     told = tested ∙ ap (λ (n : Float). not (finiteOf n) || lt n (config .«gradient_tolerance»)) (equations .norm)
 
     -- the gradient stops the run
-    pub stationary-over : {r : DampedState} → t ≡ true → r ≡ ended true (currentOf d) → r ≡ resumeStationary (optimizer config v m) test (d .jacobian) (currentOf d)
+    pub stationary-over : {r : DampedState} → t ≡ true → r ≡ ended true (currentOf d) → r
+        ≡ resumeStationary (optimizer config v m) test (d .jacobian) (currentOf d)
     unfolding resumeStationary
     stationary-over e f = f ∙ ap (λ (b : Bool). resumeStationary (optimizer config v m) b (d .jacobian) (currentOf d)) (sym e ∙ told)
 
     -- it does not, and the attempts follow
-    pub stationary-on : {damping : Damping} {l₂ : List Float} {r : DampedState} → t ≡ false → damping .value ≡ d .damping → AttemptsMade v d damping 0 l₁ l₂ r → r ≡ resumeStationary (optimizer config v m) test (d .jacobian) (currentOf d)
+    pub stationary-on : {damping : Damping} {l₂ : List Float} {r : DampedState} → t ≡ false → damping .value ≡ d .damping → AttemptsMade v d damping 0 l₁ l₂ r
+        → r ≡ resumeStationary (optimizer config v m) test (d .jacobian) (currentOf d)
     unfolding resumeStationary
     stationary-on e q a =
         a .reached config m (equations .stand)
@@ -96,6 +103,9 @@ module _ (config : DlsConfig) (v : VariableSet) (m : ℕ) (d : DampedState) {p :
         ∙ ap (λ (b : Bool). resumeStationary (optimizer config v m) b (d .jacobian) (currentOf d)) (sym e ∙ told)
 
   -- the attempts go on after one that was not accepted
-  pub rejected-on : {damping : Damping} {l₂ : List Float} {r : DampedState} → damping .value ≡ raisedOf (d .damping) → AttemptsMade v d damping (d .attempt) l₁ l₂ r →
+  pub rejected-on : {damping : Damping} {l₂ : List Float} {r : DampedState} → damping .value ≡ raisedOf (d .damping)
+      → AttemptsMade v d damping (d .attempt) l₁ l₂ r →
       r ≡ resumeAttempts (optimizer config v m) (10 - d .attempt) (d .jacobian) (raised (currentOf d)) (d .attempt)
-  rejected-on q a = a .reached config m (equations .stand) ∙ ap (λ (x : Float). resumeAttempts (optimizer config v m) (10 - d .attempt) (d .jacobian) (withDamping x (currentOf d)) (d .attempt)) q
+  rejected-on q a =
+      a .reached config m (equations .stand) ∙ ap (λ (x : Float). resumeAttempts (optimizer config v m) (10 - d .attempt) (d .jacobian)
+      (withDamping x (currentOf d)) (d .attempt)) q

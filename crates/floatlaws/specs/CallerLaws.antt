@@ -1,4 +1,5 @@
--- What callers of the functions on floats may use of them, beside the order's laws (`Order`, `Monotone`): they need not look into the definitions. Assumes nothing.
+-- What callers of the functions on floats may use of them, beside the order's laws (`Order`, `Monotone`): they need not look into the definitions. Assumes
+-- nothing.
 use mathlib.Core.Path.{_≡_, refl, sym, ap, _∙_, subst}
 use Prim.Native.Nat.{ℕ, zero, suc, _+_, _*_, _/_, _^_, _<_}
 use native.Mathlib.Nat.{zero-lt-suc, mul-comm, mul-right-comm, mul-pos, zero-mul, mul-div-mul-right}
@@ -135,7 +136,8 @@ root-same (fin false (suc m) u) (fin true n d) e p =
 root-same (fin false (suc m) u) (fin false zero d) e p =
     absurd (no-nought (above m u d) (level-same (suc m * up u * down d) (0 * up d * down u) _ (is-so _ e) ∙ nothing (up d) (down u)))
 root-same (fin false (suc m) u) (fin false (suc n) d) e p =
-    ap (λ (k : ℕ). rootAt (k * 2 ^ 1074)) (same-quotient (suc m * up u) (suc n * up d) (2 ^ 1074) (down u) (down d) (down-pos u) (down-pos d) (level-same (suc m * up u * down d) (suc n * up d * down u) _ (is-so _ e)))
+    ap (λ (k : ℕ). rootAt (k * 2 ^ 1074)) (same-quotient (suc m * up u) (suc n * up d) (2 ^ 1074) (down u) (down d) (down-pos u) (down-pos d)
+    (level-same (suc m * up u * down d) (suc n * up d * down u) _ (is-so _ e)))
 
 -- the root of 1
 pub root-one : sqrtOf one64 ≡ one64

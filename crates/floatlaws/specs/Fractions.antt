@@ -59,7 +59,11 @@ le-of a b t = elim (or-split (ltb a b) (eqb a b && true) t) [ inl u ↦ le-of-lt
 
 of-le : (a b : ℕ) → a ≤ b → T (ltb a b || (eqb a b && true))
 of-le a b h =
-    elim (eq-or-lt-of-le h) [ inl p ↦ or-r (ltb a b) (eqb a b && true) (and-i (eqb a b) true (eq→eqb p) tt) | inr q ↦ or-l (ltb a b) (eqb a b && true) (lt→ltb a b q) ]
+    elim (eq-or-lt-of-le h) [
+      | inl p ↦ or-r (ltb a b) (eqb a b && true) (and-i (eqb a b) true (eq→eqb p) tt)
+      | inr q ↦ or-l (ltb a b) (eqb a b
+          && true) (lt→ltb a b q)
+    ]
 
 le-of-neg : (a b : ℕ) → T (ltb b a || (eqb a b && true)) → b ≤ a
 le-of-neg a b t =
@@ -67,7 +71,11 @@ le-of-neg a b t =
 
 of-le-neg : (a b : ℕ) → b ≤ a → T (ltb b a || (eqb a b && true))
 of-le-neg a b h =
-    elim (eq-or-lt-of-le h) [ inl p ↦ or-r (ltb b a) (eqb a b && true) (and-i (eqb a b) true (eq→eqb (sym p)) tt) | inr q ↦ or-l (ltb b a) (eqb a b && true) (lt→ltb b a q) ]
+    elim (eq-or-lt-of-le h) [
+      | inl p ↦ or-r (ltb b a) (eqb a b && true) (and-i (eqb a b) true (eq→eqb (sym p)) tt)
+      | inr q ↦ or-l (ltb b a) (eqb a b
+          && true) (lt→ltb b a q)
+    ]
 
 pub both-zero : (a b : ℕ) → T (eqb a b && eqb a 0) → (a ≡ 0) × (b ≡ 0)
 both-zero a b t =

@@ -59,13 +59,17 @@ add-rounded f (inf s) y p q = absurd p
 add-rounded f (fin s m e) nan p q = absurd q
 add-rounded f (fin s m e) (inf t) p q = absurd q
 add-rounded f (fin false m e) (fin false n d) p q =
-    moved f (add f (fin false m e) (fin false n d)) (down e * down d) refl (omega arith) (sum-rounded f false (m * up e * down d) false (n * up d * down e) (down e * down d))
+    moved f (add f (fin false m e) (fin false n d)) (down e * down d) refl (omega arith)
+    (sum-rounded f false (m * up e * down d) false (n * up d * down e) (down e * down d))
 add-rounded f (fin false m e) (fin true n d) p q =
-    moved f (add f (fin false m e) (fin true n d)) (down e * down d) (omega arith) (omega arith) (sum-rounded f false (m * up e * down d) true (n * up d * down e) (down e * down d))
+    moved f (add f (fin false m e) (fin true n d)) (down e * down d) (omega arith) (omega arith)
+    (sum-rounded f false (m * up e * down d) true (n * up d * down e) (down e * down d))
 add-rounded f (fin true m e) (fin false n d) p q =
-    moved f (add f (fin true m e) (fin false n d)) (down e * down d) (omega arith) (omega arith) (sum-rounded f true (m * up e * down d) false (n * up d * down e) (down e * down d))
+    moved f (add f (fin true m e) (fin false n d)) (down e * down d) (omega arith) (omega arith)
+    (sum-rounded f true (m * up e * down d) false (n * up d * down e) (down e * down d))
 add-rounded f (fin true m e) (fin true n d) p q =
-    moved f (add f (fin true m e) (fin true n d)) (down e * down d) (omega arith) refl (sum-rounded f true (m * up e * down d) true (n * up d * down e) (down e * down d))
+    moved f (add f (fin true m e) (fin true n d)) (down e * down d) (omega arith) refl
+    (sum-rounded f true (m * up e * down d) true (n * up d * down e) (down e * down d))
 
 split2 : (a b c : ℕ) → (a + b) * c ≡ a * c + b * c
 split2 a b c = add-mul a b c
@@ -78,22 +82,28 @@ add-cross : (px qx dx px' qx' dx' py qy dy py' qy' dy' : ℕ) → px * dx' + qx'
 add-cross px qx dx px' qx' dx' py qy dy py' qy' dy' h k =
     let a = scaled (px * dx') (qx' * dx) (px' * dx) (qx * dx') (dy * dy') h in
     let b = scaled (py * dy') (qy' * dy) (py' * dy) (qy * dy') (dx * dx') k in
-    let m1 : (px * dy + py * dx) * (dx' * dy') ≡ px * dx' * (dy * dy') + py * dy' * (dx * dx') = split2 (px * dy) (py * dx) (dx' * dy') ∙ ap₂ (λ (u v : ℕ). u + v) (swap px dy dx' dy') (swap-far py dx dx' dy') in
+    let m1 : (px * dy + py * dx) * (dx' * dy') ≡ px * dx' * (dy * dy') + py * dy' * (dx * dx') =
+    split2 (px * dy) (py * dx) (dx' * dy') ∙ ap₂ (λ (u v : ℕ). u + v) (swap px dy dx' dy') (swap-far py dx dx' dy') in
     let m2 : (qx' * dy' + qy' * dx') * (dx * dy) ≡ qx' * dx * (dy * dy') + qy' * dy * (dx * dx') =
     split2 (qx' * dy') (qy' * dx') (dx * dy)
-    ∙ ap₂ (λ (u v : ℕ). u + v) (swap qx' dy' dx dy ∙ ap (λ (u : ℕ). qx' * dx * u) (mul-comm dy' dy)) (swap-far qy' dx' dx dy ∙ ap (λ (u : ℕ). qy' * dy * u) (mul-comm dx' dx)) in
+    ∙ ap₂ (λ (u v : ℕ). u + v) (swap qx' dy' dx dy ∙ ap (λ (u : ℕ). qx' * dx * u) (mul-comm dy' dy))
+    (swap-far qy' dx' dx dy ∙ ap (λ (u : ℕ). qy' * dy * u) (mul-comm dx' dx)) in
     let m3 : (px' * dy' + py' * dx') * (dx * dy) ≡ px' * dx * (dy * dy') + py' * dy * (dx * dx') =
     split2 (px' * dy') (py' * dx') (dx * dy)
-    ∙ ap₂ (λ (u v : ℕ). u + v) (swap px' dy' dx dy ∙ ap (λ (u : ℕ). px' * dx * u) (mul-comm dy' dy)) (swap-far py' dx' dx dy ∙ ap (λ (u : ℕ). py' * dy * u) (mul-comm dx' dx)) in
-    let m4 : (qx * dy + qy * dx) * (dx' * dy') ≡ qx * dx' * (dy * dy') + qy * dy' * (dx * dx') = split2 (qx * dy) (qy * dx) (dx' * dy') ∙ ap₂ (λ (u v : ℕ). u + v) (swap qx dy dx' dy') (swap-far qy dx dx' dy') in
+    ∙ ap₂ (λ (u v : ℕ). u + v) (swap px' dy' dx dy ∙ ap (λ (u : ℕ). px' * dx * u) (mul-comm dy' dy))
+    (swap-far py' dx' dx dy ∙ ap (λ (u : ℕ). py' * dy * u) (mul-comm dx' dx)) in
+    let m4 : (qx * dy + qy * dx) * (dx' * dy') ≡ qx * dx' * (dy * dy') + qy * dy' * (dx * dx') =
+    split2 (qx * dy) (qy * dx) (dx' * dy') ∙ ap₂ (λ (u v : ℕ). u + v) (swap qx dy dx' dy') (swap-far qy dx dx' dy') in
     omega arith
 
 -- a sum grows with both terms
 pub add-mono : (f : Format) (x x' y y' : Float) → Finite x → Finite x' → Finite y → Finite y' → T (le x x') → T (le y y') → T (le (add f x y) (add f x' y'))
 add-mono f x x' y y' p p' q q' h k =
-    rounded-mono f (add f x y) (add f x' y') (plus x * den y + plus y * den x) (less x * den y + less y * den x) (den x * den y) (plus x' * den y' + plus y' * den x') (less x' * den y' + less y' * den x') (den x' * den y')
+    rounded-mono f (add f x y) (add f x' y') (plus x * den y + plus y * den x) (less x * den y + less y * den x) (den x * den y)
+    (plus x' * den y' + plus y' * den x') (less x' * den y' + less y' * den x') (den x' * den y')
     (mul-pos (den-pos x) (den-pos y)) (mul-pos (den-pos x') (den-pos y')) (add-rounded f x y p q) (add-rounded f x' y' p' q')
-    (add-cross (plus x) (less x) (den x) (plus x') (less x') (den x') (plus y) (less y) (den y) (plus y') (less y') (den y') (le→under x x' p p' h) (le→under y y' q q' k))
+    (add-cross (plus x) (less x) (den x) (plus x') (less x') (den x') (plus y) (less y) (den y) (plus y') (less y') (den y') (le→under x x' p p' h)
+    (le→under y y' q q' k))
 
 pub neg-finite : (x : Float) → Finite x → Finite (neg x)
 unfolding neg
@@ -152,16 +162,20 @@ pub mul-mono : (f : Format) (x x' y : Float) → Finite x → Finite x' → Fini
 mul-mono f x x' y p p' q u h =
     rounded-mono f (mul f x y) (mul f x' y) (plus x * plus y) (less x * plus y) (den x * den y) (plus x' * plus y) (less x' * plus y) (den x' * den y)
     (mul-pos (den-pos x) (den-pos y)) (mul-pos (den-pos x') (den-pos y))
-    (moved f (mul f x y) (den x * den y) (by-plus (plus x) (less x) (plus y) (less y) u) (by-less (plus x) (less x) (less y) (plus y) u) (mul-rounded f x y p q))
-    (moved f (mul f x' y) (den x' * den y) (by-plus (plus x') (less x') (plus y) (less y) u) (by-less (plus x') (less x') (less y) (plus y) u) (mul-rounded f x' y p' q))
+    (moved f (mul f x y) (den x * den y) (by-plus (plus x) (less x) (plus y) (less y) u) (by-less (plus x) (less x) (less y) (plus y) u)
+    (mul-rounded f x y p q))
+    (moved f (mul f x' y) (den x' * den y) (by-plus (plus x') (less x') (plus y) (less y) u) (by-less (plus x') (less x') (less y) (plus y) u)
+    (mul-rounded f x' y p' q))
     (mul-cross (plus x) (less x) (den x) (plus x') (less x') (den x') (plus y) (den y) (le→under x x' p p' h))
 
 pub mul-anti : (f : Format) (x x' y : Float) → Finite x → Finite x' → Finite y → Down y → T (le x x') → T (le (mul f x' y) (mul f x y))
 mul-anti f x x' y p p' q u h =
     rounded-mono f (mul f x' y) (mul f x y) (less x' * less y) (plus x' * less y) (den x' * den y) (less x * less y) (plus x * less y) (den x * den y)
     (mul-pos (den-pos x') (den-pos y)) (mul-pos (den-pos x) (den-pos y))
-    (moved f (mul f x' y) (den x' * den y) (by-less (plus x') (less x') (plus y) (less y) u) (by-plus (plus x') (less x') (less y) (plus y) u) (mul-rounded f x' y p' q))
-    (moved f (mul f x y) (den x * den y) (by-less (plus x) (less x) (plus y) (less y) u) (by-plus (plus x) (less x) (less y) (plus y) u) (mul-rounded f x y p q))
+    (moved f (mul f x' y) (den x' * den y) (by-less (plus x') (less x') (plus y) (less y) u) (by-plus (plus x') (less x') (less y) (plus y) u)
+    (mul-rounded f x' y p' q))
+    (moved f (mul f x y) (den x * den y) (by-less (plus x) (less x) (plus y) (less y) u) (by-plus (plus x) (less x) (less y) (plus y) u)
+    (mul-rounded f x y p q))
     (omega (arith, mul-cross (plus x) (less x) (den x) (plus x') (less x') (den x') (less y) (den y) (le→under x x' p p' h)))
 
 -- ---- a quotient by a divisor above zero

@@ -32,8 +32,11 @@ lt-units (fin false m e) (inf t) r u l lp p q h = absurd q
 lt-units (fin false m e) (fin true n d) r u l lp p q h = absurd (true≢false (q .0))
 lt-units (fin false m e) (fin false n d) r u l lp p q h =
     let c : m * up e * down d * l < n * up d * down e * l = mul-lt-mul-of-pos-right (ltb→lt (m * up e * down d) (n * up d * down e) h) lp in
-    let a : m * up e * down d * l ≡ r * (down e * down d) = mul-right-comm (m * up e) (down d) l ∙ ap (λ (x : ℕ). x * down d) (p .1) ∙ mul-assoc r (down e) (down d) in
-    let b : n * up d * down e * l ≡ u * (down e * down d) = mul-right-comm (n * up d) (down e) l ∙ ap (λ (x : ℕ). x * down e) (q .1) ∙ mul-assoc u (down d) (down e) ∙ ap (λ (x : ℕ). u * x) (mul-comm (down d) (down e)) in
+    let a : m * up e * down d * l ≡ r * (down e * down d) =
+    mul-right-comm (m * up e) (down d) l ∙ ap (λ (x : ℕ). x * down d) (p .1) ∙ mul-assoc r (down e) (down d) in
+    let b : n * up d * down e * l ≡ u * (down e * down d) =
+    mul-right-comm (n * up d) (down e) l ∙ ap (λ (x : ℕ). x * down e) (q .1) ∙ mul-assoc u (down d) (down e)
+    ∙ ap (λ (x : ℕ). u * x) (mul-comm (down d) (down e)) in
     lt-of-mul-lt-mul-right (down e * down d) (subst (λ (x : ℕ). x < u * (down e * down d)) a (subst (λ (x : ℕ). m * up e * down d * l < x) b c))
 
 -- a value of some units is above zero
@@ -132,10 +135,13 @@ module _ (m : ℕ) (e : ℤ) (f : T (fits binary64 (fin false (suc m) e))) where
       let near : Nears w q = nearest-law w (omega arith) small in
       let few : k ≤ 2000 = omega (arith, s .near) in
       let twice : 2 * k ≡ k + k = omega arith in
-      let whole : n * 2 ^ 1074 ≡ w * (2 ^ k * 2 ^ k) = sym (s .is) ∙ spread (s .d) (s .j) (s .lo) (s .hi) (s .far) ∙ ap (λ (x : ℕ). w * x) (ap (λ (x : ℕ). 2 ^ x) twice ∙ pow-add 2 k k) in
-      let same : sqrtOf (fin false (suc m) e) ≡ r = sqrt-finite m e ∙ ap (λ (x : ℕ). rootAt (x * 2 ^ 1074)) (counted m e f) ∙ ap rootAt (sym (s .is)) ∙ root-at (s .d) (s .j) (s .lo) (s .hi) (s .far) in
+      let whole : n * 2 ^ 1074 ≡ w * (2 ^ k * 2 ^ k) =
+      sym (s .is) ∙ spread (s .d) (s .j) (s .lo) (s .hi) (s .far) ∙ ap (λ (x : ℕ). w * x) (ap (λ (x : ℕ). 2 ^ x) twice ∙ pow-add 2 k k) in
+      let same : sqrtOf (fin false (suc m) e) ≡ r =
+      sqrt-finite m e ∙ ap (λ (x : ℕ). rootAt (x * 2 ^ 1074)) (counted m e f) ∙ ap rootAt (sym (s .is)) ∙ root-at (s .d) (s .j) (s .lo) (s .hi) (s .far) in
       let ex : suc m * up e * (2 ^ 1074 * 2 ^ 1074) ≡ w * (2 ^ k * 2 ^ k) * down e =
-      sym (mul-assoc (suc m * up e) (2 ^ 1074) (2 ^ 1074)) ∙ ap (λ (x : ℕ). x * 2 ^ 1074) (units m e f .value) ∙ mul-right-comm n (down e) (2 ^ 1074) ∙ ap (λ (x : ℕ). x * down e) whole in
+      sym (mul-assoc (suc m * up e) (2 ^ 1074) (2 ^ 1074)) ∙ ap (λ (x : ℕ). x * 2 ^ 1074) (units m e f .value) ∙ mul-right-comm n (down e) (2 ^ 1074)
+      ∙ ap (λ (x : ℕ). x * down e) whole in
       let val : HasValue r false (q * 2 ^ k) (2 ^ 1074) = odd-sign 54 false q k 1074 in
       subst (λ (z : Float). Nearest (fin false (suc m) e) z) (sym same)
       (record {
@@ -143,14 +149,18 @@ module _ (m : ℕ) (e : ℤ) (f : T (fits binary64 (fin false (suc m) e))) where
         above-zero = value-positive r (q * 2 ^ k) (2 ^ 1074) val (mul-pos (lt-of-lt-of-le (pow-pos 52) (nears-least w q near big)) (pow-pos k));
         above = λ y fy uy h.
             let y' = spaced y fy uy in
-            to-above (suc m * up e) (down e) (num r) (den r) (num y) (den y) (w * (2 ^ k * 2 ^ k)) (q * 2 ^ k) (y' .p * 2 ^ (y' .i)) (2 ^ 1074) (pow-pos 1074) (down-pos e) (den-pos r) (den-pos y) ex
+            to-above (suc m * up e) (down e) (num r) (den r) (num y) (den y) (w * (2 ^ k * 2 ^ k)) (q * 2 ^ k) (y' .p * 2 ^ (y' .i)) (2 ^ 1074) (pow-pos 1074)
+            (down-pos e) (den-pos r) (den-pos y) ex
             (value→cross r (q * 2 ^ k) (2 ^ 1074) val) (value→cross y (y' .p * 2 ^ (y' .i)) (2 ^ 1074) (y' .value))
-            (above-units w q k (y' .p) (y' .i) near big (y' .short) (lt-units r y (q * 2 ^ k) (y' .p * 2 ^ (y' .i)) (2 ^ 1074) (pow-pos 1074) val (y' .value) h));
+            (above-units w q k (y' .p) (y' .i) near big (y' .short)
+            (lt-units r y (q * 2 ^ k) (y' .p * 2 ^ (y' .i)) (2 ^ 1074) (pow-pos 1074) val (y' .value) h));
         below = λ y fy uy h.
             let y' = spaced y fy uy in
-            to-below (suc m * up e) (down e) (num r) (den r) (num y) (den y) (w * (2 ^ k * 2 ^ k)) (q * 2 ^ k) (y' .p * 2 ^ (y' .i)) (2 ^ 1074) (pow-pos 1074) (down-pos e) (den-pos r) (den-pos y) ex
+            to-below (suc m * up e) (down e) (num r) (den r) (num y) (den y) (w * (2 ^ k * 2 ^ k)) (q * 2 ^ k) (y' .p * 2 ^ (y' .i)) (2 ^ 1074) (pow-pos 1074)
+            (down-pos e) (den-pos r) (den-pos y) ex
             (value→cross r (q * 2 ^ k) (2 ^ 1074) val) (value→cross y (y' .p * 2 ^ (y' .i)) (2 ^ 1074) (y' .value))
-            (below-units w q k (y' .p) (y' .i) near big (y' .short) (lt-units y r (y' .p * 2 ^ (y' .i)) (q * 2 ^ k) (2 ^ 1074) (pow-pos 1074) (y' .value) val h));
+            (below-units w q k (y' .p) (y' .i) near big (y' .short)
+            (lt-units y r (y' .p * 2 ^ (y' .i)) (q * 2 ^ k) (2 ^ 1074) (pow-pos 1074) (y' .value) val h));
       })
     where
       wide : (d t : ℕ) → 2 ^ 52 ≤ d → 2 ^ 104 ≤ d * 2 ^ t * 2 ^ 52

@@ -1,4 +1,5 @@
--- The nearest root over whole numbers: what the whole number nearest to a root says of multiples of powers of two, and the step from these to fractions. Assumes nothing.
+-- The nearest root over whole numbers: what the whole number nearest to a root says of multiples of powers of two, and the step from these to fractions.
+-- Assumes nothing.
 use mathlib.Core.Path.{_≡_, sym, ap, _∙_, subst}
 use mathlib.Core.Logic.{_⊎_, inl, inr}
 use Prim.Native.Nat.{ℕ, _+_, _-_, _*_, _^_, _≤_, _<_}
@@ -26,7 +27,8 @@ grid q k p i h l = go (leb k i) (leb→le k i) (nleb→lt k i)
     go : (b : Bool) → (T b → k ≤ i) → (T (not b) → i < k) → (p * 2 ^ i ≤ q * 2 ^ k) ⊎ ((q + 1) * 2 ^ k ≤ p * 2 ^ i)
     go true f g =
         let t : ℕ = p * 2 ^ (i - k) in
-        let e : t * 2 ^ k ≡ p * 2 ^ i = mul-assoc p (2 ^ (i - k)) (2 ^ k) ∙ ap (λ (x : ℕ). p * x) (sym (pow-add 2 (i - k) k) ∙ ap (λ (x : ℕ). 2 ^ x) (back i k (f tt))) in
+        let e : t * 2 ^ k ≡ p * 2 ^ i =
+        mul-assoc p (2 ^ (i - k)) (2 ^ k) ∙ ap (λ (x : ℕ). p * x) (sym (pow-add 2 (i - k) k) ∙ ap (λ (x : ℕ). 2 ^ x) (back i k (f tt))) in
         multiple t e (ltb q t) (ltb→lt q t) (nltb→le q t)
     go false f g =
         let a : i < k = g tt in
@@ -92,7 +94,8 @@ module _ (w q k p i : ℕ) (near : Nears w q) (big : 2 ^ 104 ≤ w) (short : p <
       ]
 
 -- ---- from units to fractions: l is 2 ^ 1074
-module _ (X dx R dr Y dy n r u l : ℕ) (lp : 0 < l) (px : 0 < dx) (pr : 0 < dr) (py : 0 < dy) (ex : X * (l * l) ≡ n * dx) (er : R * l ≡ r * dr) (ey : Y * l ≡ u * dy) where
+module _ (X dx R dr Y dy n r u l : ℕ) (lp : 0 < l) (px : 0 < dx) (pr : 0 < dr) (py : 0 < dy) (ex : X * (l * l) ≡ n * dx) (er : R * l ≡ r * dr)
+    (ey : Y * l ≡ u * dy) where
   sum-is : (R * dy + Y * dr) * l ≡ (r + u) * (dr * dy)
   sum-is =
       let a : (R * dy + Y * dr) * l ≡ R * dy * l + Y * dr * l = add-mul (R * dy) (Y * dr) l in
@@ -103,7 +106,8 @@ module _ (X dx R dr Y dy n r u l : ℕ) (lp : 0 < l) (px : 0 < dx) (pr : 0 < dr)
   left-is : 4 * X * (dr * dy * (dr * dy)) * (l * l) ≡ 4 * n * (dr * dy * (dr * dy) * dx)
   left-is =
       let p : ℕ = dr * dy * (dr * dy) in
-      mul-right-comm (4 * X) p (l * l) ∙ ap (λ (x : ℕ). x * p) (mul-assoc 4 X (l * l) ∙ ap (λ (x : ℕ). 4 * x) ex ∙ sym (mul-assoc 4 n dx)) ∙ mul-assoc (4 * n) dx p ∙ ap (λ (x : ℕ). 4 * n * x) (mul-comm dx p)
+      mul-right-comm (4 * X) p (l * l) ∙ ap (λ (x : ℕ). x * p) (mul-assoc 4 X (l * l) ∙ ap (λ (x : ℕ). 4 * x) ex ∙ sym (mul-assoc 4 n dx))
+      ∙ mul-assoc (4 * n) dx p ∙ ap (λ (x : ℕ). 4 * n * x) (mul-comm dx p)
 
   right-is : (R * dy + Y * dr) * (R * dy + Y * dr) * dx * (l * l) ≡ (r + u) * (r + u) * (dr * dy * (dr * dy) * dx)
   right-is =

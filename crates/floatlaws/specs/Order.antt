@@ -24,7 +24,17 @@ under-trans px qx dx py qy dy pz qz dz D h k =
     let m4 = mul-right-comm qx dy dz in
     let m5 = mul-right-comm qz dy dx in
     let m6 = mul-right-comm pz dy dx in
-    le-of-mul-le-mul-right (nat-le-trans (le-of-eq (add-mul (px * dz) (qz * dx) dy)) (nat-le-trans (omega (arith, a, b, m1, m2, m3, m4, m5, m6)) (le-of-eq (sym (add-mul (pz * dx) (qx * dz) dy))))) D
+    le-of-mul-le-mul-right (nat-le-trans (le-of-eq (add-mul (px * dz) (qz * dx) dy)) (nat-le-trans (omega (
+      arith,
+      a,
+      b,
+      m1,
+      m2,
+      m3,
+      m4,
+      m5,
+      m6,
+    )) (le-of-eq (sym (add-mul (pz * dx) (qx * dz) dy))))) D
 
 pub le-trans : (x y z : Float) → T (le x y) → T (le y z) → T (le x z)
 unfolding le
@@ -60,7 +70,8 @@ le-trans (fin s m e) (fin t n d) (fin u l f) h k =
     let x = fin s m e in
     let y = fin t n d in
     let z = fin u l f in
-    under→le x z tt tt (under-trans (plus x) (less x) (den x) (plus y) (less y) (den y) (plus z) (less z) (den z) (den-pos y) (le→under x y tt tt h) (le→under y z tt tt k))
+    under→le x z tt tt (under-trans (plus x) (less x) (den x) (plus y) (less y) (den y) (plus z) (less z) (den z) (den-pos y) (le→under x y tt tt h)
+    (le→under y z tt tt k))
 
 -- ---- the strict order is transitive
 cross : (a b c p q r : ℕ) → 0 < p → 0 < r → a * q < b * p → b * r < c * q → a * r < c * p

@@ -111,7 +111,8 @@ Rounded f z p q c = (u : Bool) × (w : ℕ) × (z ≡ round f u w c) × Is u w p
 -- ---- zero, rounded at either sign
 zero-value : (f : Format) (s : Bool) (c : ℕ) → 0 < c → HasValue (round f s 0 c) s 0 c
 zero-value f s c C =
-    round-exact f s 0 c 0 0 C (pow-pos (prec f)) (subst (λ (x : ℕ). x < 2 ^ (low f + suc (emax f))) (sym (zero-mul (2 ^ 0))) (pow-pos (low f + suc (emax f)))) (zero-mul (2 ^ low f) ∙ sym (ap (λ (x : ℕ). x * c) (zero-mul (2 ^ 0)) ∙ zero-mul c))
+    round-exact f s 0 c 0 0 C (pow-pos (prec f)) (subst (λ (x : ℕ). x < 2 ^ (low f + suc (emax f))) (sym (zero-mul (2 ^ 0))) (pow-pos (low f + suc (emax f))))
+    (zero-mul (2 ^ low f) ∙ sym (ap (λ (x : ℕ). x * c) (zero-mul (2 ^ 0)) ∙ zero-mul c))
 
 gone : (a c e : ℕ) → 0 < c → a * c ≡ 0 * e → a ≡ 0
 gone zero c e C h = refl
@@ -159,7 +160,8 @@ rounded-mono f z z' p q c p' q' d C D (u, w, e, i) (u', w', e', i') h =
         (subst (λ (y : Float). T (le (neg (round f false w c)) y)) (sym (round-neg f w' d))
         (neg-anti (round f false w' d) (round f false w c) (round-mono f w' d w c D C (pp q' p' w' q p w d c b a (omega (arith, h))))))
     go true false a b =
-        subst (λ (x : Float). T (le x (round f false w' d))) (sym (round-neg f w c)) (opposite (round f false w c) (round f false w' d) (round-plus f w c) (round-plus f w' d))
+        subst (λ (x : Float). T (le x (round f false w' d))) (sym (round-neg f w c))
+        (opposite (round f false w c) (round f false w' d) (round-plus f w c) (round-plus f w' d))
     go false true a b =
         let x : w * d + w' * c ≡ 0 = nought p q w p' q' w' c d a b h in
         let y : w ≡ 0 = gone w d 0 D (omega (arith, zero-mul 0, x)) in

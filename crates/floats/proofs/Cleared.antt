@@ -71,6 +71,7 @@ pub given-magnitude : (x : Float) → T (fits binary64 x) → given x ≡ magnit
 given-magnitude x t = elim (number-or-nan x) [
   | inl p ↦ subst (λ (y : Float). given y ≡ magnitude y) (sym p) (unfold eq in sym magnitude-nan)
   | inr q ↦
-      subst (λ (b : Bool). getD (x ∷ ofBits binary64 (toBits binary64 (getD (ofBits binary64 0 ∷ x ∷ []) (boolByte b) nan) % 9223372036854775808) ∷ []) (boolByte b) nan ≡ magnitude x)
+      subst (λ (b : Bool). getD (x ∷ ofBits binary64 (toBits binary64 (getD (ofBits binary64 0 ∷ x ∷ []) (boolByte b) nan) % 9223372036854775808) ∷ [])
+      (boolByte b) nan ≡ magnitude x)
       (sym (q .0)) (cleared x t (q .1))
 ]

@@ -31,7 +31,8 @@ there : (q r Q : ℕ) → q ≤ Q → Q ≤ q + 1 → apart r Q < apart q Q → 
 there q r Q a b l = omega arith
 
 pub rounds : (w q r : ℕ) → 2 ^ 104 ≤ w → w < 2 ^ 106 → 0 < q → Whole w q → Closer w q r → Nears w r
-rounds w q r least most some whole c = subst (λ (x : ℕ). Nears w x) (let n = near (law w q least most) in there q r (nearestRoot w) (n .0) (n .1) (c .less)) (law w q least most)
+rounds w q r least most some whole c =
+    subst (λ (x : ℕ). Nears w x) (let n = near (law w q least most) in there q r (nearestRoot w) (n .0) (n .1) (c .less)) (law w q least most)
   where
     no-less : (Q : ℕ) → w ≤ Q * Q + Q → Q * Q + Q + q ≤ q * q → q * q ≤ w → ⊥
     no-less Q a b d = omega arith

@@ -33,7 +33,8 @@ size-exact a n lo hi = le-antisymm (size-le n (suc a) hi) (pow-lt-back a (size n
 
 size-shifted : (d k : ℕ) → 2 ^ 52 ≤ d → d < 2 ^ 53 → size (d * 2 ^ k) ≡ 53 + k
 size-shifted d k lo hi =
-    size-exact (52 + k) (d * 2 ^ k) (le-trans (le-of-eq (pow-add 2 52 k)) (mul-le-mul-right (2 ^ k) lo)) (subst (λ (x : ℕ). d * 2 ^ k < 2 ^ x) (next k) (shl-lt 53 k hi)) ∙ sym (next k)
+    size-exact (52 + k) (d * 2 ^ k) (le-trans (le-of-eq (pow-add 2 52 k)) (mul-le-mul-right (2 ^ k) lo))
+    (subst (λ (x : ℕ). d * 2 ^ k < 2 ^ x) (next k) (shl-lt 53 k hi)) ∙ sym (next k)
   where
     next : (k : ℕ) → 53 + k ≡ suc (52 + k)
     next k = omega arith
@@ -93,8 +94,10 @@ module _ (d j : ℕ) (lo : 2 ^ 52 ≤ d) (hi : d < 2 ^ 53) (far : 52 ≤ j) wher
   spread =
       let k : ℕ = j / 2 - 26 in
       let parts : j ≡ j % 2 + 52 + 2 * k = omega arith in
-      let powers : 2 ^ j ≡ 2 ^ (j % 2) * 2 ^ 52 * 2 ^ (2 * k) = ap (λ (x : ℕ). 2 ^ x) parts ∙ pow-add 2 (j % 2 + 52) (2 * k) ∙ ap (λ (x : ℕ). x * 2 ^ (2 * k)) (pow-add 2 (j % 2) 52) in
-      ap (λ (x : ℕ). d * x) powers ∙ sym (mul-assoc d (2 ^ (j % 2) * 2 ^ 52) (2 ^ (2 * k))) ∙ ap (λ (x : ℕ). x * 2 ^ (2 * k)) (sym (mul-assoc d (2 ^ (j % 2)) (2 ^ 52)))
+      let powers : 2 ^ j ≡ 2 ^ (j % 2) * 2 ^ 52 * 2 ^ (2 * k) =
+      ap (λ (x : ℕ). 2 ^ x) parts ∙ pow-add 2 (j % 2 + 52) (2 * k) ∙ ap (λ (x : ℕ). x * 2 ^ (2 * k)) (pow-add 2 (j % 2) 52) in
+      ap (λ (x : ℕ). d * x) powers ∙ sym (mul-assoc d (2 ^ (j % 2) * 2 ^ 52) (2 ^ (2 * k)))
+      ∙ ap (λ (x : ℕ). x * 2 ^ (2 * k)) (sym (mul-assoc d (2 ^ (j % 2)) (2 ^ 52)))
 
   cut : d * 2 ^ j / 4 ^ (j / 2 - 26) ≡ d * 2 ^ (j % 2) * 2 ^ 52
   cut =
@@ -116,7 +119,8 @@ count-low b h = ap (λ (t : Bool). cond t b ((b % 2 ^ 52 + 2 ^ 52) * 2 ^ (b / 2 
 pub count-high : (b : ℕ) → 2 ^ 52 ≤ b → count b ≡ (b % 2 ^ 52 + 2 ^ 52) * 2 ^ (b / 2 ^ 52 - 1)
 unfolding count
 count-high b h =
-    ap (λ (t : Bool). cond t b ((b % 2 ^ 52 + 2 ^ 52) * 2 ^ (b / 2 ^ 52 - 1))) (is-false (ltb b (2 ^ 52)) (not-T (ltb b (2 ^ 52)) (λ t. no (ltb→lt b (2 ^ 52) t))))
+    ap (λ (t : Bool). cond t b ((b % 2 ^ 52 + 2 ^ 52) * 2 ^ (b / 2 ^ 52 - 1)))
+    (is-false (ltb b (2 ^ 52)) (not-T (ltb b (2 ^ 52)) (λ t. no (ltb→lt b (2 ^ 52) t))))
   where
     no : b < 2 ^ 52 → ⊥
     no l = omega arith
@@ -191,7 +195,8 @@ units m e f =
       some = mul-pos (zero-lt-suc m) (pow-pos (p .i));
       most = lt-of-mul-lt-mul-right (down e)
           (subst (λ (x : ℕ). x < 2 ^ 2098 * down e) (p .is (suc m))
-          (lt-of-lt-of-le (mul-lt-mul-of-pos-right (h .under) (pow-pos 1074)) (le-of-eq (mul-right-comm (2 ^ 1024) (down e) (2 ^ 1074) ∙ ap (λ (x : ℕ). x * down e) (sym (pow-add 2 1024 1074))))));
+          (lt-of-lt-of-le (mul-lt-mul-of-pos-right (h .under) (pow-pos 1074))
+          (le-of-eq (mul-right-comm (2 ^ 1024) (down e) (2 ^ 1074) ∙ ap (λ (x : ℕ). x * down e) (sym (pow-add 2 1024 1074))))));
     }
 
 module _ (m : ℕ) (e : ℤ) (f : T (fits binary64 (fin false (suc m) e))) where
@@ -230,12 +235,15 @@ module _ (m : ℕ) (e : ℤ) (f : T (fits binary64 (fin false (suc m) e))) where
       let k-le : k ≤ u .i = omega arith in
       let top : size n ≤ 2098 = size-le n 2098 (u .most) in
       let q : ℕ = suc m * 2 ^ (u .i - k) in
-      let whole : q * 2 ^ k ≡ n = mul-assoc (suc m) (2 ^ (u .i - k)) (2 ^ k) ∙ ap (λ (x : ℕ). suc m * x) (sym (pow-add 2 (u .i - k) k) ∙ ap (λ (x : ℕ). 2 ^ x) (back (u .i) k k-le)) ∙ sym (u .shape) in
+      let whole : q * 2 ^ k ≡ n =
+      mul-assoc (suc m) (2 ^ (u .i - k)) (2 ^ k) ∙ ap (λ (x : ℕ). suc m * x) (sym (pow-add 2 (u .i - k) k) ∙ ap (λ (x : ℕ). 2 ^ x) (back (u .i) k k-le))
+      ∙ sym (u .shape) in
       let kept : n / 2 ^ k ≡ q = ap (λ (x : ℕ). x / 2 ^ k) (sym whole) ∙ mul-div-cancel q (pow-pos k) in
       record {
         d = q;
         k = k;
-        lo = subst (λ (x : ℕ). 2 ^ 52 ≤ x) kept (le-div-iff-mul-le (pow-pos k) .1 (le-trans (le-of-eq (sym (pow-add 2 52 k))) (size-reaches n (52 + k) in-reach)));
+        lo = subst (λ (x : ℕ). 2 ^ 52 ≤ x) kept (le-div-iff-mul-le (pow-pos k) .1 (le-trans (le-of-eq (sym (pow-add 2 52 k)))
+            (size-reaches n (52 + k) in-reach)));
         hi = subst (λ (x : ℕ). x < 2 ^ 53) kept (kept-lt 53 n);
         few = omega arith;
         is = whole;

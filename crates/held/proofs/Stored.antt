@@ -31,18 +31,32 @@ behind-sets (v ∷ vs) l at h = behind-sets vs (set l at v) (suc at) (room at (l
 
 module _ (flat : List Float) (i : ℕ) (s : OpticalSurface) (h : i < 16) (g : 64 ≤ length flat) where
   abbrev stored : List Float
-  stored = set (set (set (set flat (4 * i) (s .«radius_mm»)) (4 * i + 1) (s .«conic_constant»)) (4 * i + 2) (s .«thickness_mm»)) (4 * i + 3) (s .«semi_diameter_mm»)
+  stored = set (set (set (set flat (4 * i) (s .«radius_mm»)) (4 * i + 1) (s .«conic_constant»)) (4 * i + 2) (s .«thickness_mm»)) (4 * i + 3)
+      (s .«semi_diameter_mm»)
 
   -- the surface itself
   here : flatSurface (sets flat (4 * i) (numbersOf s)) i ≡ s
-  here = λ t. record { «radius_mm» = (ap (λ (k : ℕ). getD (sets flat (4 * i) (numbersOf s)) k nan) (sym (add-zero (4 * i))) ∙ field 0 (omega arith)) t; «conic_constant» = field 1 (omega arith) t; «thickness_mm» = field 2 (omega arith) t; «semi_diameter_mm» = field 3 (omega arith) t }
+  here = λ t. record {
+    «radius_mm» = (ap (λ (k : ℕ). getD (sets flat (4 * i) (numbersOf s)) k nan) (sym (add-zero (4 * i)))
+        ∙ field 0 (omega arith)) t;
+    «conic_constant» = field 1 (omega arith) t;
+    «thickness_mm» = field 2 (omega arith) t;
+    «semi_diameter_mm» = field 3 (omega arith) t;
+  }
     where
       field : (k : ℕ) → k < 4 → getD (sets flat (4 * i) (numbersOf s)) (4 * i + k) nan ≡ getD (numbersOf s) k nan
       field k b = getD-sets-in (numbersOf s) flat (4 * i) k nan b (omega arith)
 
   -- every other
   there : (j : ℕ) → (j < i) ⊎ (i < j) → flatSurface (sets flat (4 * i) (numbersOf s)) j ≡ flatSurface flat j
-  there j o = λ t. record { «radius_mm» = (ap (λ (k : ℕ). getD (sets flat (4 * i) (numbersOf s)) k nan) (sym (add-zero (4 * j))) ∙ field 0 (omega arith) ∙ ap (λ (k : ℕ). getD flat k nan) (add-zero (4 * j))) t; «conic_constant» = field 1 (omega arith) t; «thickness_mm» = field 2 (omega arith) t; «semi_diameter_mm» = field 3 (omega arith) t }
+  there j o =
+      λ t. record {
+        «radius_mm» = (ap (λ (k : ℕ). getD (sets flat (4 * i) (numbersOf s)) k nan) (sym (add-zero (4 * j))) ∙ field 0 (omega arith)
+            ∙ ap (λ (k : ℕ). getD flat k nan) (add-zero (4 * j))) t;
+        «conic_constant» = field 1 (omega arith) t;
+        «thickness_mm» = field 2 (omega arith) t;
+        «semi_diameter_mm» = field 3 (omega arith) t;
+      }
     where
       away : (k : ℕ) → k < 4 → (j < i) ⊎ (i < j) → (4 * j + k < 4 * i) ⊎ (4 * i + 4 ≤ 4 * j + k)
       away k b (inl l) = inl (omega arith)
@@ -67,7 +81,8 @@ module _ (flat : List Float) (i : ℕ) (s : OpticalSurface) (h : i < 16) (g : 64
       by : (t : Bool) → ltb j i ≡ t → flatSurface (sets flat (4 * i) (numbersOf s)) j ≡ getD (set (standing flat) i s) j noSurface
       by true e = other j b (inl (ltb-true j i e))
       by false e = elim (eq-or-lt-of-le (ltb-false j i e)) [
-        | inl q ↦ ap (flatSurface (sets flat (4 * i) (numbersOf s))) (sym q) ∙ here ∙ sym (getD-set-same (standing flat) i s noSurface long) ∙ ap (λ (k : ℕ). getD (set (standing flat) i s) k noSurface) q
+        | inl q ↦ ap (flatSurface (sets flat (4 * i) (numbersOf s))) (sym q) ∙ here ∙ sym (getD-set-same (standing flat) i s noSurface long)
+            ∙ ap (λ (k : ℕ). getD (set (standing flat) i s) k noSurface) q
         | inr l ↦ other j b (inr l)
       ]
 
@@ -79,11 +94,17 @@ module _ (flat : List Float) (i : ℕ) (s : OpticalSurface) (h : i < 16) (g : 64
       ∙ whole (set (standing flat) i s) noSurface 16 (length-set (standing flat) i s ∙ standing-long flat)
 
   pub behind-stored : Behind flat stored
-  behind-stored = record { long = ap length (four-stored flat (4 * i) s) ∙ length-sets flat (4 * i) (numbersOf s); rest = ap (drop 64) (four-stored flat (4 * i) s) ∙ behind-sets (numbersOf s) flat (4 * i) (omega arith) }
+  behind-stored =
+      record {
+        long = ap length (four-stored flat (4 * i) s) ∙ length-sets flat (4 * i) (numbersOf s);
+        rest = ap (drop 64) (four-stored flat (4 * i) s)
+            ∙ behind-sets (numbersOf s) flat (4 * i) (omega arith);
+      }
 
 -- ---- a value stored in its variable's surface, and nothing where there is none
 module _ (flat : List Float) (kind : VariableType) (y : Float) where
-  pub put-stored : (at : ℕ) (x : Float) (old new : OpticalSurface) → at ≡ surfaceIndex kind → at < 16 → x ≡ y → old ≡ flatSurface flat at → new ≡ withValue old kind x → set (standing flat) at new ≡ put (standing flat) kind y
+  pub put-stored : (at : ℕ) (x : Float) (old new : OpticalSurface) → at ≡ surfaceIndex kind → at < 16 → x ≡ y → old ≡ flatSurface flat at → new
+      ≡ withValue old kind x → set (standing flat) at new ≡ put (standing flat) kind y
   put-stored at x old new here h ex eo en = rw (en, eo ∙ sym (standing-at flat at h), ex, here)
 
   pub put-past : (at : ℕ) → at ≡ surfaceIndex kind → 16 ≤ at → standing flat ≡ put (standing flat) kind y
@@ -92,7 +113,13 @@ module _ (flat : List Float) (kind : VariableType) (y : Float) where
 -- ---- sixty-four numbers copied
 module _ (flat to to′ : List Float) (e : to′ ≡ tab (λ (k : ℕ). getD flat k nan) 64 ++ drop 64 to) where
   pub standing-copied : standing to′ ≡ standing flat
-  standing-copied = ap standing (e ∙ ap (λ (l : List Float). l ++ drop 64 to) (sym (all-laid flat))) ∙ standing-laid (standing flat) (drop 64 to) (standing-long flat)
+  standing-copied =
+      ap standing (e ∙ ap (λ (l : List Float). l ++ drop 64 to) (sym (all-laid flat))) ∙ standing-laid (standing flat) (drop 64 to) (standing-long flat)
 
   pub behind-copied : 64 ≤ length to → length to′ ≡ length to → Behind to to′
-  behind-copied g l = record { long = l; rest = ap (drop 64) e ∙ rw (length-tab (λ (k : ℕ). getD flat k nan) 64) at (drop-append-seam (tab (λ (k : ℕ). getD flat k nan) 64) (drop 64 to)) }
+  behind-copied g l =
+      record {
+        long = l;
+        rest = ap (drop 64) e ∙ rw (length-tab (λ (k : ℕ). getD flat k nan) 64) at
+            (drop-append-seam (tab (λ (k : ℕ). getD flat k nan) 64) (drop 64 to));
+      }

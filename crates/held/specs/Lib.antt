@@ -1,4 +1,5 @@
--- A row as the bench holds it: where an entry stands (`Places`), the job and the row that it is read as (`JobFrom`, `RowFrom`), and how it is written (`Written`).
+-- A row as the bench holds it: where an entry stands (`Places`), the job and the row that it is read as (`JobFrom`, `RowFrom`), and how it is written
+-- (`Written`).
 pub mod Places
 pub mod JobFrom
 pub mod RowFrom

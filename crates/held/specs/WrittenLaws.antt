@@ -24,7 +24,8 @@ module _ {A : Type 0} where
   pub front-more : (l p vs : List A) (at next : ℕ) → take at l ≡ p → at + length vs ≡ next → next ≤ length l → take next (sets l at vs) ≡ p ++ vs
   front-more l p vs at next e n h =
       ap (take next) (sets-eq vs l at (room at (length vs) next (length l) n h))
-      ∙ take-at (take at l ++ vs) (drop (at + length vs) l) next (length-append (take at l) vs ∙ ap (λ (k : ℕ). k + length vs) (length-take-le at l (below at (length vs) next (length l) n h)) ∙ n)
+      ∙ take-at (take at l ++ vs) (drop (at + length vs) l) next
+      (length-append (take at l) vs ∙ ap (λ (k : ℕ). k + length vs) (length-take-le at l (below at (length vs) next (length l) n h)) ∙ n)
       ∙ ap (λ (q : List A). q ++ vs) e
     where
       room : (a k n m : ℕ) → a + k ≡ n → n ≤ m → a + k ≤ m

@@ -55,8 +55,10 @@ fn lay_operand(o: OperandRecord, n: usize, counts: &mut [u64], numbers: &mut [f6
 fn lay_variables(records: [VariableRecord; 8], counts: &mut [u64], numbers: &mut [f64])
     requires { ⌜ (57 ≤ length (now counts)) × (195 ≤ length (now numbers)) ⌝ }
     ensures { λ _.
-        ⌜ (take (operandKindAt 0) (now (counts .exit)) ≡ take (variableKindAt 0) (now (counts .entry)) ++ inTurn (λ (i : ℕ). variableCounts (getD records i noVariableRecord)) 8)
-        × (take (limitAt 0) (now (numbers .exit)) ≡ take (minValueAt 0) (now (numbers .entry)) ++ inTurn (λ (i : ℕ). variableNumbers (getD records i noVariableRecord)) 8) ⌝ }
+        ⌜ (take (operandKindAt 0) (now (counts .exit)) ≡ take (variableKindAt 0) (now (counts .entry)) ++ inTurn
+        (λ (i : ℕ). variableCounts (getD records i noVariableRecord)) 8)
+        × (take (limitAt 0) (now (numbers .exit)) ≡ take (minValueAt 0) (now (numbers .entry)) ++ inTurn
+        (λ (i : ℕ). variableNumbers (getD records i noVariableRecord)) 8) ⌝ }
 {
     let mut i: usize = 0;
     while i < 8 {

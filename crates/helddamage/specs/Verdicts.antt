@@ -47,7 +47,8 @@ all-both s t (suc n) = ap (λ (b : Bool). b && (s n && t n)) (all-both s t n) �
 
 -- ---- the job: the numbers of the list, and the kinds with the lists that they stand in
 all-causes : (a b v o s p m : Bool)
-    → eqb (cond (not a) 1 (cond (not b) 3 (cond (not v) 4 (cond (not o) 5 (cond (not s) 6 (cond p 7 (cond m 8 0))))))) 0 ≡ a && b && v && o && s && not p && not m
+    → eqb (cond (not a) 1 (cond (not b) 3 (cond (not v) 4 (cond (not o) 5 (cond (not s) 6 (cond p 7 (cond m 8 0))))))) 0 ≡ a && b && v && o && s && not p
+    && not m
 all-causes false b v o s p m = refl
 all-causes true false v o s p m = refl
 all-causes true true false o s p m = refl
@@ -137,7 +138,8 @@ module _ (words counts : List ℕ) (numbers surfaces best : List Float) (o : Oth
   ended = finishedBy (method (kindFrom words) (settingsFrom counts numbers)) (stateWith words surfaces best o)
 
   verdict : judged
-      ≡ not (isKind (kindFrom words) && recordTaken (kindFrom words) (jobRecordFrom counts numbers) && soundState && (ended || ltb (turnsFrom words) (bound (heldJob counts numbers (kindFrom words)))))
+      ≡ not (isKind (kindFrom words) && recordTaken (kindFrom words) (jobRecordFrom counts numbers) && soundState
+      && (ended || ltb (turnsFrom words) (bound (heldJob counts numbers (kindFrom words)))))
   unfolding damaged jobSound turnsSound isFinished
   verdict = refl
 

@@ -47,7 +47,8 @@ fn surfaces_sound(words: &[u64; 13], count: usize, surfaces: &[f64], best: &[f64
 fn counters_sound(words: &[u64; 13], counts: &[u64; 57], p: usize) -> bool
     ensures { λ r.
         ⌜ ((numbers surfaces best : List Float) (o : Others)
-        → r ≡ countersSound (method (kindFrom (now (words .entry))) (settingsFrom (now (counts .entry)) numbers)) p (stateWith (now (words .entry)) surfaces best o)) ⌝ }
+        → r ≡ countersSound (method (kindFrom (now (words .entry))) (settingsFrom (now (counts .entry)) numbers)) p
+        (stateWith (now (words .entry)) surfaces best o)) ⌝ }
 {
     let kind = held::kind(words);
     if held::column(words) >= (p as u64) {
@@ -79,7 +80,9 @@ fn state_sound(
     requires { ⌜ (surfaceCountFrom (now counts) ≤ 16) × (64 ≤ length (now surfaces)) × (64 ≤ length (now best)) ⌝ }
     ensures { λ r.
         ⌜ ((numbers : List Float) (o : Others) → p ≡ numActive (variablesFrom (now (counts .entry)) numbers)
-        → r ≡ stateSound (method (kindFrom (now (words .entry))) (settingsFrom (now (counts .entry)) numbers)) (heldJob (now (counts .entry)) numbers (kindFrom (now (words .entry)))) (stateWith (now (words .entry)) (now (surfaces .entry)) (now (best .entry)) o)) ⌝ }
+        → r ≡ stateSound (method (kindFrom (now (words .entry))) (settingsFrom (now (counts .entry)) numbers))
+        (heldJob (now (counts .entry)) numbers (kindFrom (now (words .entry))))
+        (stateWith (now (words .entry)) (now (surfaces .entry)) (now (best .entry)) o)) ⌝ }
 {
     if held::phase(words) > limits::last_phase(held::kind(words)) {
         return false;
@@ -101,7 +104,8 @@ pub fn is_damaged(
     requires { ⌜ (195 ≤ length (now numbers)) × (64 ≤ length (now surfaces)) × (64 ≤ length (now «best_surfaces»)) ⌝ }
     ensures { λ r.
         ⌜ ((o : Others)
-        → r ≡ damaged (rowFrom (heldWith (now (words .entry)) (now (counts .entry)) (now (numbers .entry)) (now (surfaces .entry)) (now («best_surfaces» .entry)) o))) ⌝ }
+        → r ≡ damaged (rowFrom (heldWith (now (words .entry)) (now (counts .entry)) (now (numbers .entry)) (now (surfaces .entry))
+        (now («best_surfaces» .entry)) o))) ⌝ }
 {
     let kind = held::kind(words);
     if !kinds::is_kind(kind) {

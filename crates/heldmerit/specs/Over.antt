@@ -47,10 +47,12 @@ all-stand value m n values e h =
 -- value n, out of the traces of the slots and the values before it
 module _ (surface : ℕ → OpticalSurface) (index : ℕ → ℕ → Float) (pupil : Float) (count : ℕ) (f : MeritFunction) where
   pub value-next : (slots : List Paraxial) (earlier : List Float) (n : ℕ) (o : MeritOperand) (r : Float) → SlotsKnown f → n < f .«operand_count» → n ≤ 12
-      → ((w : ℕ) → w < 4 → getD slots w Failed ≡ paraxialOf surface (index w) pupil count) → Standing (valueAt surface index pupil count f) n earlier → o ≡ operandAt f n
+      → ((w : ℕ) → w < 4 → getD slots w Failed ≡ paraxialOf surface (index w) pupil count) → Standing (valueAt surface index pupil count f) n earlier → o
+      ≡ operandAt f n
       → r ≡ valueOf earlier (λ (w : ℕ). getD slots w Failed) surface count (o .«operand_type») → r ≡ valueAt surface index pupil count f n
   value-next slots earlier n o r known more room traced stand is e =
-      let before : earlier ≡ valuesAfter surface index pupil count f n = all-stand (valueAt surface index pupil count f) n n earlier stand refl ∙ sym (values-after surface index pupil count f n room) in
+      let before : earlier ≡ valuesAfter surface index pupil count f n =
+      all-stand (valueAt surface index pupil count f) n n earlier stand refl ∙ sym (values-after surface index pupil count f n room) in
       e
       ∙ (λ i. valueOf (before i) (λ (w : ℕ). getD slots w Failed) surface count (is i .«operand_type»))
       ∙ value-same _ _ _ _ _ _ (known n more) (traced _)
@@ -59,7 +61,8 @@ module _ (surface : ℕ → OpticalSurface) (index : ℕ → ℕ → Float) (pup
 module _ (surface : ℕ → OpticalSurface) (index : ℕ → ℕ → Float) (pupil : Float) (count : ℕ) (f : MeritFunction) where
   value-stands : (n : ℕ) → n < f .«operand_count» → getD (evaluationOf surface index pupil count f .values) n nan ≡ valueAt surface index pupil count f n
   value-stands n h =
-      List·getD-append (tab (valueAt surface index pupil count f) (f .«operand_count»)) (replicate (12 - f .«operand_count») zero64) nan n (rw (length-tab (valueAt surface index pupil count f) (f .«operand_count»)) h)
+      List·getD-append (tab (valueAt surface index pupil count f) (f .«operand_count»)) (replicate (12 - f .«operand_count») zero64) nan n
+      (rw (length-tab (valueAt surface index pupil count f) (f .«operand_count»)) h)
       ∙ getD-tab (valueAt surface index pupil count f) (f .«operand_count») n nan h
 
   terms-are : (n : ℕ) → n ≤ f .«operand_count» → termsOver f (evaluationOf surface index pupil count f .values) n ≡ total surface index pupil count f n
@@ -76,4 +79,5 @@ module _ (surface : ℕ → OpticalSurface) (index : ℕ → ℕ → Float) (pup
       → entries (residualOver f values) (f .«operand_count») ≡ evaluationOf surface index pupil count f .residuals
   residuals-over values e =
       ap (λ (l : List Float). entries (residualOver f l) (f .«operand_count»)) e
-      ∙ ap (λ (l : List Float). l ++ replicate (12 - f .«operand_count») zero64) (tab-same _ _ (f .«operand_count») (λ n h. ap (residual (operandAt f n)) (value-stands n h)))
+      ∙ ap (λ (l : List Float). l ++ replicate (12 - f .«operand_count») zero64)
+      (tab-same _ _ (f .«operand_count») (λ n h. ap (residual (operandAt f n)) (value-stands n h)))

@@ -19,7 +19,8 @@ module _ (p : OpticalPrescription) (l : ThicknessLimits) (slot : ℕ) where
   new = lensLimits p l slot
 
   -- ---- by value
-  becomes : (n : ℕ) → limitsNumber p l slot ≡ n → _≡_ {A = TracedLimits} (record { traced = unlessRefused n new zeroLimits; number = n }) (limitsTraced p l slot)
+  becomes : (n : ℕ) → limitsNumber p l slot ≡ n → _≡_ {A = TracedLimits} (record { traced = unlessRefused n new zeroLimits; number = n })
+      (limitsTraced p l slot)
   unfolding limitsTraced
   becomes n e = λ i. record { traced = unlessRefused (sym e i) new zeroLimits; number = sym e i }
 
@@ -33,8 +34,10 @@ module _ (p : OpticalPrescription) (l : ThicknessLimits) (slot : ℕ) where
     pub by-limits : limitsTaken p l slot ≡ false → refusedAs 19 ≡ limitsTraced p l slot
     by-limits t = refused-with 19 (omega arith) (number-is p l slot n (sym e) .1 (none n h) ∙ ap (λ (b : Bool). cond (not b) 19 0) t)
 
-    pub done : limitsTaken p l slot ≡ true → (traced : TraceLimits) → traced ≡ new → _≡_ {A = TracedLimits} (record { traced = traced; number = 0 }) (limitsTraced p l slot)
-    done t traced q = (λ i. record { traced = q i; number = 0 }) ∙ becomes 0 (number-is p l slot n (sym e) .1 (none n h) ∙ ap (λ (b : Bool). cond (not b) 19 0) t)
+    pub done : limitsTaken p l slot ≡ true → (traced : TraceLimits) → traced ≡ new
+        → _≡_ {A = TracedLimits} (record { traced = traced; number = 0 }) (limitsTraced p l slot)
+    done t traced q =
+        (λ i. record { traced = q i; number = 0 }) ∙ becomes 0 (number-is p l slot n (sym e) .1 (none n h) ∙ ap (λ (b : Bool). cond (not b) 19 0) t)
 
   -- ---- what the tests make of `limitsTaken`
   pub too-few : p .«surface_count» < 2 → limitsTaken p l slot ≡ false
@@ -57,7 +60,8 @@ module _ (p : OpticalPrescription) (l : ThicknessLimits) (slot : ℕ) where
     unfolding limitsTraced
     limits-kept h = (refl, sym (stays (limitsNumber p l slot) new old h))
 
-    pub limits-stored : limitsTraced p l slot .number ≤ 0 → (limitsTraced p l slot .number ≡ limitsNumber p l slot) × (limitsTraced p l slot .traced ≡ limitsAs old p l slot)
+    pub limits-stored : limitsTraced p l slot .number ≤ 0 → (limitsTraced p l slot .number ≡ limitsNumber p l slot)
+        × (limitsTraced p l slot .traced ≡ limitsAs old p l slot)
     unfolding limitsTraced
     limits-stored h =
         let z = none (limitsNumber p l slot) h in

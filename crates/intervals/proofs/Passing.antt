@@ -10,7 +10,8 @@ use Rattle.intervals.specs.declared.types.ArrivingLimits.{ArrivingLimits
 use Rattle.intervals.specs.declared.types.Interval.{Interval}
 use Rattle.intervals.specs.declared.types.PassedLimits.{PassedLimits}
 
-module _ (t : Interval) (radius index : Float) (a : ArrivingLimits) (c : Float) (n p carried bent turned slope transfer height : Interval) (refracted transferred : Bool)
+module _ (t : Interval) (radius index : Float) (a : ArrivingLimits) (c : Float) (n p carried bent turned slope transfer height : Interval)
+    (refracted transferred : Bool)
     (of-c : c ≡ curvature radius)
     (of-n : n ≡ exactly (a .n))
     (of-p : p ≡ exactly (mul binary64 (sub binary64 index (a .n)) c))
@@ -51,5 +52,6 @@ module _ (t : Interval) (radius index : Float) (a : ArrivingLimits) (c : Float) 
   unfolding transferFinite
   carriesOver = of-transferred ∙ λ i. endsFinite (transfers i) && endsFinite (heights i)
 
-  pub passed-is : _≡_ {A = PassedLimits} (record { ray = record { y = height; u = slope; n = index }; refracted = refracted; transferred = transferred }) (passedAs t radius index a)
+  pub passed-is : _≡_ {A = PassedLimits} (record { ray = record { y = height; u = slope; n = index }; refracted = refracted; transferred = transferred })
+      (passedAs t radius index a)
   passed-is = λ i. record { ray = record { y = heights i; u = slopes i; n = index }; refracted = refracts i; transferred = carriesOver i }

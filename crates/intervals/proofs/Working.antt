@@ -34,7 +34,8 @@ module _ (surface : ℕ → OpticalSurface) (thickness : ℕ → Interval) (inde
   pub first : (track : Interval) (ray : ArrivingLimits) (arrived : Bool) → track ≡ exactly zero64 → ray ≡ start pupil → arrived ≡ endsFinite (ray .y) →
       Working heights₀ slopes₀ track ray arrived true 0
   unfolding tab trackLimits arriving arrivalFinite allBelow
-  first track ray arrived t r a = record { high = refl; steep = refl; along = t; here = r; came = a ∙ ap (λ (l : ArrivingLimits). endsFinite (l .y)) r; ended = refl }
+  first track ray arrived t r a =
+      record { high = refl; steep = refl; along = t; here = r; came = a ∙ ap (λ (l : ArrivingLimits). endsFinite (l .y)) r; ended = refl }
 
   module _ {heights slopes : List Interval} {track : Interval} {ray : ArrivingLimits} {arrived finite : Bool} {k : ℕ}
       (w : Working heights slopes track ray arrived finite k) (room : k < length heights₀) (space : k < length slopes₀)
@@ -59,14 +60,18 @@ module _ (surface : ℕ → OpticalSurface) (thickness : ℕ → Interval) (inde
     }
 
 -- zero past the surfaces
-pub finished : (p : OpticalPrescription) (l : ThicknessLimits) (slot : ℕ) (heights₀ slopes₀ heights slopes : List Interval) (track : Interval) (ray : ArrivingLimits) (arrived finite : Bool) →
+pub finished : (p : OpticalPrescription) (l : ThicknessLimits) (slot : ℕ) (heights₀ slopes₀ heights slopes : List Interval) (track : Interval)
+    (ray : ArrivingLimits) (arrived finite : Bool) →
     heights₀ ≡ replicate 16 zeroInterval → slopes₀ ≡ replicate 16 zeroInterval →
-    Working (surfaceAt (p .surfaces)) (thicknessAt l) (slotIndex (p .indices) slot) (p .«entrance_pupil_diameter_mm») heights₀ slopes₀ heights slopes track ray arrived finite (p .«surface_count») →
+    Working (surfaceAt (p .surfaces)) (thicknessAt l) (slotIndex (p .indices) slot) (p .«entrance_pupil_diameter_mm») heights₀ slopes₀ heights slopes track ray
+    arrived finite (p .«surface_count») →
     _≡_ {A = WorkedLimits} (record { traced = record { track = track; heights = heights; slopes = slopes }; finite = finite }) (workedAs p l slot)
 finished p l slot heights₀ slopes₀ heights slopes track ray arrived finite h s w = λ i. record {
   traced = record { track = w .along i; heights = (w .high ∙ past (heightAt p l slot) h) i; slopes = (w .steep ∙ past (slopeAt p l slot) s) i };
   finite = w .ended i;
 }
   where
-    past : (f : ℕ → Interval) {l₀ : List Interval} → l₀ ≡ replicate 16 zeroInterval → tab f (p .«surface_count») ++ drop (p .«surface_count») l₀ ≡ sixteen f (p .«surface_count»)
-    past f e = ap (λ (m : List Interval). tab f (p .«surface_count») ++ m) (ap (drop (p .«surface_count»)) e ∙ drop-replicate zeroInterval (p .«surface_count») 16)
+    past : (f : ℕ → Interval) {l₀ : List Interval} → l₀ ≡ replicate 16 zeroInterval → tab f (p .«surface_count») ++ drop (p .«surface_count») l₀
+        ≡ sixteen f (p .«surface_count»)
+    past f e =
+        ap (λ (m : List Interval). tab f (p .«surface_count») ++ m) (ap (drop (p .«surface_count»)) e ∙ drop-replicate zeroInterval (p .«surface_count») 16)

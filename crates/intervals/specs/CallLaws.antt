@@ -63,16 +63,19 @@ module _ (p : OpticalPrescription) (l : ThicknessLimits) (slot : ℕ) where
   -- the row is as long as the lens: there is none
   fits : counted ≡ lensCountsTaken (p .«surface_count») (p .«slot_count»)
   fits =
-      go (lensCountsTaken (p .«surface_count») (p .«slot_count»)) (eqb (p .«surface_count») (p .«surface_count»)) (eq-eqb (p .«surface_count») (p .«surface_count») refl)
+      go (lensCountsTaken (p .«surface_count») (p .«slot_count»)) (eqb (p .«surface_count») (p .«surface_count»))
+      (eq-eqb (p .«surface_count») (p .«surface_count») refl)
     where
       go : (b e : Bool) → e ≡ true → (b && e) ≡ b
       go true e q = q
       go false e q = refl
 
-  pub limits-1 : (limitsNumber p l slot ≡ 1) ↔ ((not (lensCountsTaken (p .«surface_count») (p .«slot_count»)) ≡ true) × NoneOf (before 1 (limitsRefusals p l slot)))
+  pub limits-1 : (limitsNumber p l slot ≡ 1) ↔ ((not (lensCountsTaken (p .«surface_count») (p .«slot_count»)) ≡ true)
+      × NoneOf (before 1 (limitsRefusals p l slot)))
   unfolding limitsNumber
   limits-1 =
-      subst (λ (b : Bool). (limitsNumber p l slot ≡ 1) ↔ ((not b ≡ true) × NoneOf (before 1 (limitsRefusals p l slot)))) fits (answers (limitsRefusals p l slot) 1 tt tt)
+      subst (λ (b : Bool). (limitsNumber p l slot ≡ 1) ↔ ((not b ≡ true) × NoneOf (before 1 (limitsRefusals p l slot)))) fits
+      (answers (limitsRefusals p l slot) 1 tt tt)
 
   pub limits-3 : (limitsNumber p l slot ≡ 3) ↔ ((not (lensTaken p) ≡ true) × NoneOf (before 3 (limitsRefusals p l slot)))
   unfolding limitsNumber
@@ -105,7 +108,8 @@ module _ (p : OpticalPrescription) (l : ThicknessLimits) (slot : ℕ) where
       let t : T (limitsTaken p l slot) = passed (limitsTaken p l slot) (none-of (limitsRefusals p l slot) 19 h) in
       let b = and-l (leb 2 count && allGiven l count) (allBelow (finiteAt p l slot) count) t in
       record {
-        traced = traceable p slot count (answers-none (traceRefusals p slot count) tt .1 (none-front (traceRefusals p slot count) (refusal 19 (not (limitsTaken p l slot)) ∷ []) h));
+        traced = traceable p slot count (answers-none (traceRefusals p slot count) tt .1 (none-front (traceRefusals p slot count)
+            (refusal 19 (not (limitsTaken p l slot)) ∷ []) h));
         two = leb→le 2 count (and-l (leb 2 count) (allGiven l count) b);
         given = λ k m. all-at (λ (k : ℕ). givenTaken (thicknessAt l k)) count k (and-r (leb 2 count) (allGiven l count) b) m;
         worked = λ k m. all-at (finiteAt p l slot) count k (and-r (leb 2 count && allGiven l count) (allBelow (finiteAt p l slot) count) t) m;

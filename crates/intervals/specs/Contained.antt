@@ -58,7 +58,8 @@ pub record Arrives (l : ArrivingLimits) (a : ArrivingRay) : Type 0 where
   pub heights : Bounds (l .y)
   pub slopes : Bounds (l .u)
 
-module _ (radius n′ : Float) (l : ArrivingLimits) (a : ArrivingRay) (N : Positive (a .n)) (N′ : Positive n′) (h : Arrives l a) (f : T (refractionFinite radius n′ l)) where
+module _ (radius n′ : Float) (l : ArrivingLimits) (a : ArrivingRay) (N : Positive (a .n)) (N′ : Positive n′) (h : Arrives l a)
+    (f : T (refractionFinite radius n′ l)) where
   abbrev first : Bool
   first = endsFinite (carried l) && endsFinite (bent radius n′ l)
 
@@ -87,7 +88,8 @@ module _ (radius n′ : Float) (l : ArrivingLimits) (a : ArrivingRay) (N : Posit
   carried-holds : Between (carried l) (mul binary64 (a .n) (a .u))
   carried-holds =
       subst (λ (n : Float). Between (times (exactly n) (l .u)) (mul binary64 (a .n) (a .u))) (sym (h .index))
-      (times-holds (exactly (a .n)) (l .u) (a .n) (a .u) (exactly-bounds (a .n) (positive-finite (a .n) N)) (h .slopes) (exactly-holds (a .n) (positive-finite (a .n) N)) (h .slope))
+      (times-holds (exactly (a .n)) (l .u) (a .n) (a .u) (exactly-bounds (a .n) (positive-finite (a .n) N)) (h .slopes)
+      (exactly-holds (a .n) (positive-finite (a .n) N)) (h .slope))
 
   bent-holds : Between (bent radius n′ l) (mul binary64 (a .y) (bending (a .n)))
   bent-holds =
@@ -144,11 +146,13 @@ module _ (surface : ℕ → OpticalSurface) (thickness : ℕ → Interval) (inde
 
   arrived : (k : ℕ) → k < count → T (arrivalFinite surface thickness index pupil k)
   arrived k h =
-      and-l (arrivalFinite surface thickness index pupil k) (refraction k) (and-l (arrivalFinite surface thickness index pupil k && refraction k) (summed k) (worked k h))
+      and-l (arrivalFinite surface thickness index pupil k) (refraction k)
+      (and-l (arrivalFinite surface thickness index pupil k && refraction k) (summed k) (worked k h))
 
   refracted : (k : ℕ) → k < count → T (refraction k)
   refracted k h =
-      and-r (arrivalFinite surface thickness index pupil k) (refraction k) (and-l (arrivalFinite surface thickness index pupil k && refraction k) (summed k) (worked k h))
+      and-r (arrivalFinite surface thickness index pupil k) (refraction k)
+      (and-l (arrivalFinite surface thickness index pupil k && refraction k) (summed k) (worked k h))
 
   in-front : (k : ℕ) → k < count → Positive (ray k .n)
   unfolding Trace.arriving
@@ -159,10 +163,17 @@ module _ (surface : ℕ → OpticalSurface) (thickness : ℕ → Interval) (inde
   unfolding Trace.arriving arriving arrivalFinite
   arrives zero h =
       let starts = bounds (start pupil .y) (arrived 0 h) .low in
-      record { height = exactly-holds _ starts; slope = exactly-holds _ zero-finite; index = refl; heights = exactly-bounds _ starts; slopes = exactly-bounds _ zero-finite }
+      record {
+        height = exactly-holds _ starts;
+        slope = exactly-holds _ zero-finite;
+        index = refl;
+        heights = exactly-bounds _ starts;
+        slopes = exactly-bounds _ zero-finite;
+      }
   arrives (suc k) h =
       let m : k < count = omega arith in
-      transfer-arrives (surface k .«radius_mm») (index k) (lim k) (ray k) (in-front k m) (indices k m) (arrives k m) (refracted k m) (thickness k) (τ k) (given k m) (inside k m) (arrived (suc k) h)
+      transfer-arrives (surface k .«radius_mm») (index k) (lim k) (ray k) (in-front k m) (indices k m) (arrives k m) (refracted k m) (thickness k) (τ k)
+      (given k m) (inside k m) (arrived (suc k) h)
 
   pub height-between : (k : ℕ) → k < count → Between (heightLimits surface thickness index pupil k) (Trace.rayAt other index pupil k .y)
   height-between k h = arrives k h .height
@@ -179,7 +190,8 @@ module _ (surface : ℕ → OpticalSurface) (thickness : ℕ → Interval) (inde
   unfolding trackLimits track
   track-between zero h = exactly-holds _ zero-finite
   track-between (suc k) h =
-      plus-holds (trackLimits thickness k) (thickness k) (track other k) (τ k) (sum-bounds k (omega arith)) (given k h) (track-between k (omega arith)) (inside k h)
+      plus-holds (trackLimits thickness k) (thickness k) (track other k) (τ k) (sum-bounds k (omega arith)) (given k h) (track-between k (omega arith))
+      (inside k h)
 
 -- ---- known thicknesses
 abbrev exactRay : ArrivingRay → ArrivingLimits

@@ -206,20 +206,36 @@ module _ (a b : Interval) (x y : Float) (A : Bounds a) (B : Bounds b) (hx : Betw
   below-greatest = elim (up-or-down y Y) [
     | inl u ↦
         let g = mul-mono binary64 x (a .high) y X (A .high) Y u (hx .below) in
-        elim (upper-at (a .high) (A .high)) [ inl t ↦ top (mul binary64 (a .high) y) s g t (greatest-s p q r s P Q R S) | inr t ↦ top (mul binary64 (a .high) y) r g t (greatest-r p q r s P Q R S) ]
+        elim (upper-at (a .high) (A .high)) [
+          | inl t ↦ top (mul binary64 (a .high) y) s g t (greatest-s p q r s P Q R S)
+          | inr t ↦ top (mul binary64 (a .high) y)
+              r g t (greatest-r p q r s P Q R S)
+        ]
     | inr v ↦
         let g = mul-anti binary64 (a .low) x y (A .low) X Y v (hx .above) in
-        elim (upper-at (a .low) (A .low)) [ inl t ↦ top (mul binary64 (a .low) y) q g t (greatest-q p q r s P Q R S) | inr t ↦ top (mul binary64 (a .low) y) p g t (greatest-p p q r s P Q R S) ]
+        elim (upper-at (a .low) (A .low)) [
+          | inl t ↦ top (mul binary64 (a .low) y) q g t (greatest-q p q r s P Q R S)
+          | inr t ↦ top (mul binary64 (a .low) y) p g
+              t (greatest-p p q r s P Q R S)
+        ]
   ]
 
   above-least : T (le (times a b .low) xy)
   above-least = elim (up-or-down y Y) [
     | inl u ↦
         let g = mul-mono binary64 (a .low) x y (A .low) X Y u (hx .above) in
-        elim (lower-at (a .low) (A .low)) [ inl t ↦ bottom (mul binary64 (a .low) y) p g t (least-p p q r s P Q R S) | inr t ↦ bottom (mul binary64 (a .low) y) q g t (least-q p q r s P Q R S) ]
+        elim (lower-at (a .low) (A .low)) [
+          | inl t ↦ bottom (mul binary64 (a .low) y) p g t (least-p p q r s P Q R S)
+          | inr t ↦ bottom (mul binary64 (a .low) y)
+              q g t (least-q p q r s P Q R S)
+        ]
     | inr v ↦
         let g = mul-anti binary64 x (a .high) y X (A .high) Y v (hx .below) in
-        elim (lower-at (a .high) (A .high)) [ inl t ↦ bottom (mul binary64 (a .high) y) r g t (least-r p q r s P Q R S) | inr t ↦ bottom (mul binary64 (a .high) y) s g t (least-s p q r s P Q R S) ]
+        elim (lower-at (a .high) (A .high)) [
+          | inl t ↦ bottom (mul binary64 (a .high) y) r g t (least-r p q r s P Q R S)
+          | inr t ↦ bottom
+              (mul binary64 (a .high) y) s g t (least-s p q r s P Q R S)
+        ]
   ]
 
   pub times-holds : Between (times a b) (mul binary64 x y)

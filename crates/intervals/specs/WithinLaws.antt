@@ -95,22 +95,26 @@ module _ (p : OpticalPrescription) (l : ThicknessLimits) (slot : ℕ) (old : Tra
       ray-is : (k : ℕ) → k < count → lensRay q slot k ≡ rayAt other index pupil k
       ray-is k h =
           ap (λ (d : Float). rayAt (surfaceAt (q .surfaces)) (slotIndex (q .indices) slot) d k) (i .pupil)
-          ∙ ray-same (surfaceAt (q .surfaces)) other (slotIndex (q .indices) slot) index pupil count (i .surfaces) (λ j m. ap (λ (xs : List Float). slotIndex xs slot j) (i .indices)) k h
+          ∙ ray-same (surfaceAt (q .surfaces)) other (slotIndex (q .indices) slot) index pupil count (i .surfaces)
+          (λ j m. ap (λ (xs : List Float). slotIndex xs slot j) (i .indices)) k h
 
       track-is : trackOf q ≡ track other count
       track-is = ap (track (surfaceAt (q .surfaces))) (i .count) ∙ track-same (surfaceAt (q .surfaces)) other count (i .surfaces)
 
       height-in : (k : ℕ) → k < count → Between (entry (limitsAs old p l slot .heights) k) (lensRay q slot k .y)
       height-in k h =
-          moved (high k h) (ap (λ (r : ParaxialRay). r .y) (ray-is k h)) (height-between surface (thicknessAt l) index pupil count (thicknessOf q) indices given (ok .worked) (i .between) k h)
+          moved (high k h) (ap (λ (r : ParaxialRay). r .y) (ray-is k h))
+          (height-between surface (thicknessAt l) index pupil count (thicknessOf q) indices given (ok .worked) (i .between) k h)
 
       slope-in : (k : ℕ) → k < count → Between (entry (limitsAs old p l slot .slopes) k) (lensRay q slot k .u)
       slope-in k h =
-          moved (steep k h) (ap (λ (r : ParaxialRay). r .u) (ray-is k h)) (slope-between surface (thicknessAt l) index pupil count (thicknessOf q) indices given (ok .worked) (i .between) k h)
+          moved (steep k h) (ap (λ (r : ParaxialRay). r .u) (ray-is k h))
+          (slope-between surface (thicknessAt l) index pupil count (thicknessOf q) indices given (ok .worked) (i .between) k h)
 
       track-in : Between (limitsAs old p l slot .track) (trackOf q)
       track-in =
-          moved along track-is (track-between surface (thicknessAt l) index pupil count (thicknessOf q) indices given (ok .worked) (i .between) count (le-refl count))
+          moved along track-is (track-between surface (thicknessAt l) index pupil count (thicknessOf q) indices given (ok .worked) (i .between) count
+          (le-refl count))
 
   pub request13 : Request13 p l slot old
   request13 = record {

@@ -31,7 +31,8 @@ module _ {A : Type 0} (pass : Cursor → Cursor) (put : ℕ → Cursor → List 
   unfolding past
   past-more i t e g = λ j. cond ((ap (λ (d : Cursor). d .«is_good») (sym e) ∙ g) j) (pass (sym e j)) (sym e j)
 
-  filled-more : (i : ℕ) {d : Cursor} {l : List A} (t : Bool) → d ≡ past pass c i → l ≡ filled pass put c start i → d .«is_good» ≡ t → filled pass put c start (suc i) ≡ cond t (put i d l) l
+  filled-more : (i : ℕ) {d : Cursor} {l : List A} (t : Bool) → d ≡ past pass c i → l ≡ filled pass put c start i → d .«is_good» ≡ t
+      → filled pass put c start (suc i) ≡ cond t (put i d l) l
   unfolding filled
   filled-more i t e f g = λ j. cond ((ap (λ (d : Cursor). d .«is_good») (sym e) ∙ g) j) (put i (sym e j) (sym f j)) (sym f j)
 
@@ -55,7 +56,8 @@ module _ {A : Type 0} (pass : Cursor → Cursor) (put : ℕ → Cursor → List 
         (r .at ∙ ap (past pass c) e, r .list ∙ ap (filled pass put c start) e)
     stays (suc m) h g = go (eq-or-lt-of-le h) (λ k. stays m k g)
       where
-        go : (i ≡ suc m) ⊎ (i < suc m) → (i ≤ m → (next ≡ past pass c m) × (l ≡ filled pass put c start m)) → (next ≡ past pass c (suc m)) × (l ≡ filled pass put c start (suc m))
+        go : (i ≡ suc m) ⊎ (i < suc m) → (i ≤ m → (next ≡ past pass c m) × (l ≡ filled pass put c start m)) → (next ≡ past pass c (suc m))
+            × (l ≡ filled pass put c start (suc m))
         go (inl e) s = (r .at ∙ ap (past pass c) e, r .list ∙ ap (filled pass put c start) e)
         go (inr k) s =
             let p = s (le-of-suc-le-suc k) in

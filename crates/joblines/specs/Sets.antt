@@ -25,7 +25,14 @@ variableFrom line c =
     let hi = floatFrom line (lo .next) in
     let step = floatFrom line (hi .next) in
     record {
-      variable = record { «var_type» = variableType (kind .value) (surface .value); «min_value» = lo .value; «max_value» = hi .value; «step_size» = step .value; enabled = eqb (enabled .value) 1 };
+      variable =
+          record {
+            «var_type» = variableType (kind .value) (surface .value);
+            «min_value» = lo .value;
+            «max_value» = hi .value;
+            «step_size» = step .value;
+            enabled = eqb (enabled .value) 1;
+          };
       next = step .next;
     }
 

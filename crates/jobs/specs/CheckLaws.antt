@@ -58,12 +58,14 @@ module _ (j : Job) where
       variables : variablesTaken (j .prescription .«surface_count») (keptVariables (j .variables))
           ≡ variablesTaken (j .prescription .«surface_count») (j .variables)
       variables =
-          all-same _ _ (j .variables .«variable_count») (λ k h. ap (variableTaken (j .prescription .«surface_count»)) (variable-kept (j .variables) k (n .variables) h))
+          all-same _ _ (j .variables .«variable_count») (λ k h. ap (variableTaken (j .prescription .«surface_count»))
+          (variable-kept (j .variables) k (n .variables) h))
 
       operands : operandsTaken (j .prescription .«slot_count») (keptOperands (j .«merit_function»))
           ≡ operandsTaken (j .prescription .«slot_count») (j .«merit_function»)
       operands =
-          all-same _ _ (j .«merit_function» .«operand_count») (λ k h. ap (operandTaken (j .prescription .«slot_count»)) (operand-kept (j .«merit_function») k (n .operands) h))
+          all-same _ _ (j .«merit_function» .«operand_count»)
+          (λ k h. ap (operandTaken (j .prescription .«slot_count»)) (operand-kept (j .«merit_function») k (n .operands) h))
 
   pub kept-refused : firstRefusal (jobRefusals (keptJob j)) ≡ firstRefusal (jobRefusals j)
   kept-refused = by (countsTaken j) refl

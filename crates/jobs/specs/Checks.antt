@@ -62,7 +62,8 @@ settingsTaken (Annealing c) = annealingTaken c
 -- "at most 16 surfaces, 1 to 4 wavelength slots, at most 8 variables and 12 operands"
 abbrev pub countsTaken : Job → Bool
 countsTaken j =
-    lensCountsTaken (j .prescription .«surface_count») (j .prescription .«slot_count») && leb (j .variables .«variable_count») 8 && leb (j .«merit_function» .«operand_count») 12
+    lensCountsTaken (j .prescription .«surface_count») (j .prescription .«slot_count») && leb (j .variables .«variable_count») 8
+    && leb (j .«merit_function» .«operand_count») 12
 
 -- ---- the causes
 abbrev pub countsWrong : Job → Bool

@@ -17,8 +17,17 @@ pub record Counts (j : Job) : Type 0 where
 
 pub counts : (j : Job) → countsTaken j ≡ true → Counts j
 counts j e =
-    let p = and-eq-true-iff (lensCountsTaken (j .prescription .«surface_count») (j .prescription .«slot_count») && leb (j .variables .«variable_count») 8) (leb (j .«merit_function» .«operand_count») 12) .0 e in
-    let q = and-eq-true-iff (lensCountsTaken (j .prescription .«surface_count») (j .prescription .«slot_count»)) (leb (j .variables .«variable_count») 8) .0 (p .0) in
-    let r = and-eq-true-iff (leb (j .prescription .«surface_count») 16 && leb 1 (j .prescription .«slot_count»)) (leb (j .prescription .«slot_count») 4) .0 (q .0) in
+    let p = and-eq-true-iff (lensCountsTaken (j .prescription .«surface_count») (j .prescription .«slot_count») && leb (j .variables .«variable_count») 8)
+    (leb (j .«merit_function» .«operand_count») 12) .0 e in
+    let q = and-eq-true-iff (lensCountsTaken (j .prescription .«surface_count») (j .prescription .«slot_count»)) (leb (j .variables .«variable_count») 8) .0
+    (p .0) in
+    let r = and-eq-true-iff (leb (j .prescription .«surface_count») 16 && leb 1 (j .prescription .«slot_count»)) (leb (j .prescription .«slot_count») 4) .0
+    (q .0) in
     let s = and-eq-true-iff (leb (j .prescription .«surface_count») 16) (leb 1 (j .prescription .«slot_count»)) .0 (r .0) in
-    record { surfaces = leb-true _ _ (s .0); some-slot = leb-true _ _ (s .1); slots = leb-true _ _ (r .1); variables = leb-true _ _ (q .1); operands = leb-true _ _ (p .1) }
+    record {
+      surfaces = leb-true _ _ (s .0);
+      some-slot = leb-true _ _ (s .1);
+      slots = leb-true _ _ (r .1);
+      variables = leb-true _ _ (q .1);
+      operands = leb-true _ _ (p .1);
+    }

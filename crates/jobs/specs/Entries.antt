@@ -81,7 +81,8 @@ limitOf (MinEdgeThickness i limit) = limit
 -- the kinds of a slot, or track
 unfoldable pub slotType : (kind w : ℕ) → OperandType
 slotType kind w =
-    cond (eqb kind 0) (EffectiveFocalLength w) (cond (eqb kind 1) (WorkingFNumber w) (cond (eqb kind 2) TotalTrack (cond (eqb kind 3) (BackFocalLength w) (ParaxialMagnification w))))
+    cond (eqb kind 0) (EffectiveFocalLength w) (cond (eqb kind 1) (WorkingFNumber w)
+    (cond (eqb kind 2) TotalTrack (cond (eqb kind 3) (BackFocalLength w) (ParaxialMagnification w))))
 
 -- those of a surface and a limit
 unfoldable pub surfaceType : (kind i : ℕ) (limit : Float) → OperandType

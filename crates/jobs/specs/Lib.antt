@@ -1,5 +1,5 @@
--- Jobs: what is left out and filled in (`Defaults`, `Filled`), what is kept (`Kept`), the same in numbers (`Entries`, `Records`), what is turned down (`Checks`),
--- and when two requests ask for one job (`Same`).
+-- Jobs: what is left out and filled in (`Defaults`, `Filled`), what is kept (`Kept`), the same in numbers (`Entries`, `Records`), what is turned down
+-- (`Checks`), and when two requests ask for one job (`Same`).
 pub mod Defaults
 pub mod Filled
 pub mod Kept

@@ -91,7 +91,11 @@ full-kept j = record { variables = length-tab _ 8; operands = length-tab _ 12 }
 pub job-back : (j : Job) → Full j → jobOf (kindOf j) (recordOf j) ≡ j
 job-back j f = λ i. record {
   prescription = j .prescription;
-  variables = record { variables = entries-back variableRecord variableOf (j .variables .variables) 8 noVariable noVariableRecord variable-back (f .variables) i; «variable_count» = j .variables .«variable_count» };
+  variables =
+      record {
+        variables = entries-back variableRecord variableOf (j .variables .variables) 8 noVariable noVariableRecord variable-back (f .variables) i;
+        «variable_count» = j .variables .«variable_count»;
+      };
   «merit_function» = record {
     operands = entries-back operandRecord operandOf (j .«merit_function» .operands) 12 noOperand noOperandRecord operand-back (f .operands) i;
     «operand_count» = j .«merit_function» .«operand_count»;

@@ -43,7 +43,8 @@ pub record SameDls (d : DlsConfig) (a b : DlsRequest) : Type 0 where
       ≡ numberOr (d .«relative_merit_tolerance») (b .«relative_merit_tolerance»)
   pub gradient-tolerance : numberOr (d .«gradient_tolerance») (a .«gradient_tolerance») ≡ numberOr (d .«gradient_tolerance») (b .«gradient_tolerance»)
   pub relative-step :
-      numberOr (d .«finite_difference_relative_step») (a .«finite_difference_relative_step») ≡ numberOr (d .«finite_difference_relative_step») (b .«finite_difference_relative_step»)
+      numberOr (d .«finite_difference_relative_step») (a .«finite_difference_relative_step»)
+      ≡ numberOr (d .«finite_difference_relative_step») (b .«finite_difference_relative_step»)
 
 pub record SameMultiStart (d : MultiStartConfig) (a b : MultiStartRequest) : Type 0 where
   pub runs : SameDls (d .«local_dls_config») (a .«local_dls_config») (b .«local_dls_config»)

@@ -48,13 +48,16 @@ module _ (a b : OpticalPrescription) where
 
       at : (k : ℕ) → indexUsed (a .«surface_count») (a .«slot_count») k ≡ true → getD (a .indices) k nan ≡ getD (b .indices) k nan
       at k u =
-          let e : slotIndex (a .indices) (k % 4) (k / 4) ≡ slotIndex (b .indices) (k % 4) (k / 4) = s .index (k / 4) (k % 4) (ltb-true _ _ (and-eq-true-iff (ltb (k / 4) _) (ltb (k % 4) _) .0 u .0)) (ltb-true _ _ (and-eq-true-iff (ltb (k / 4) _) (ltb (k % 4) _) .0 u .1)) in
+          let e : slotIndex (a .indices) (k % 4) (k / 4) ≡ slotIndex (b .indices) (k % 4) (k / 4) =
+          s .index (k / 4) (k % 4) (ltb-true _ _ (and-eq-true-iff (ltb (k / 4) _) (ltb (k % 4) _) .0 u .0))
+          (ltb-true _ _ (and-eq-true-iff (ltb (k / 4) _) (ltb (k % 4) _) .0 u .1)) in
           let same : (k / 4) * 4 + k % 4 ≡ k = omega arith in
           rw same at e
 
       indices : keptIndices (a .«surface_count») (a .«slot_count») (a .indices) ≡ keptIndices (b .«surface_count») (b .«slot_count») (b .indices)
       indices =
-          kept-same (indexUsed (a .«surface_count») (a .«slot_count»)) (λ (k : ℕ). getD (a .indices) k nan) (λ (k : ℕ). getD (b .indices) k nan) _ 64 (λ k h u. at k u)
+          kept-same (indexUsed (a .«surface_count») (a .«slot_count»)) (λ (k : ℕ). getD (a .indices) k nan) (λ (k : ℕ). getD (b .indices) k nan) _ 64
+          (λ k h u. at k u)
           ∙ (λ i. keptIndices (s .surface-count i) (s .slot-count i) (b .indices))
 
   prescription-same : a .«surface_count» ≤ 16 → a .«slot_count» ≤ 4 → keptPrescription a ≡ keptPrescription b → SamePrescription a b
@@ -64,7 +67,8 @@ module _ (a b : OpticalPrescription) where
     pupil = ap (λ (p : OpticalPrescription). p .«entrance_pupil_diameter_mm») e;
     surface = λ i h. kept-agrees (below (a .«surface_count»)) (surfaceAt (a .surfaces)) (surfaceAt (b .surfaces)) _ 16 i surfaces (omega arith) (lt-ltb i _ h);
     index = λ i w h l.
-        kept-agrees (indexUsed (a .«surface_count») (a .«slot_count»)) (λ (k : ℕ). getD (a .indices) k nan) (λ (k : ℕ). getD (b .indices) k nan) _ 64 (i * 4 + w) indices (omega arith)
+        kept-agrees (indexUsed (a .«surface_count») (a .«slot_count»)) (λ (k : ℕ). getD (a .indices) k nan) (λ (k : ℕ). getD (b .indices) k nan) _ 64
+        (i * 4 + w) indices (omega arith)
         (index-used (a .«surface_count») (a .«slot_count») i w n h l);
   }
     where
@@ -137,12 +141,14 @@ same-job a b s = λ i. record {
   where
     variables : keptVariables (a .variables) .variables ≡ keptVariables (b .variables) .variables
     variables =
-        kept-same (below (a .variables .«variable_count»)) (variableAt (a .variables)) (variableAt (b .variables)) zeroVariable 8 (λ i h u. s .variables .variable i (ltb-true i _ u))
+        kept-same (below (a .variables .«variable_count»)) (variableAt (a .variables)) (variableAt (b .variables)) zeroVariable 8
+        (λ i h u. s .variables .variable i (ltb-true i _ u))
         ∙ ap (λ (n : ℕ). kept (below n) (variableAt (b .variables)) zeroVariable 8) (s .variables .count)
 
     operands : keptOperands (a .«merit_function») .operands ≡ keptOperands (b .«merit_function») .operands
     operands =
-        kept-same (below (a .«merit_function» .«operand_count»)) (operandAt (a .«merit_function»)) (operandAt (b .«merit_function»)) zeroOperand 12 (λ i h u. s .operands .operand i (ltb-true i _ u))
+        kept-same (below (a .«merit_function» .«operand_count»)) (operandAt (a .«merit_function»)) (operandAt (b .«merit_function»)) zeroOperand 12
+        (λ i h u. s .operands .operand i (ltb-true i _ u))
         ∙ ap (λ (n : ℕ). kept (below n) (operandAt (b .«merit_function»)) zeroOperand 12) (s .operands .count)
 
 one-job : (a b : JobRequest) → Counts (filled a) → jobFrom a ≡ jobFrom b → SameJob a b
@@ -150,12 +156,15 @@ one-job a b n e = record {
   prescription = prescription-same (a .prescription) (b .prescription) (n .surfaces) (n .slots) (ap (λ (j : Job). j .prescription) e);
   variables = record {
     count = variable-count;
-    variable = λ i h. kept-agrees (below (a .variables .«variable_count»)) (variableAt (a .variables)) (variableAt (b .variables)) zeroVariable 8 i variables (omega (arith, n .variables)) (lt-ltb i _ h);
+    variable =
+        λ i h. kept-agrees (below (a .variables .«variable_count»)) (variableAt (a .variables)) (variableAt (b .variables)) zeroVariable 8 i variables
+        (omega (arith, n .variables)) (lt-ltb i _ h);
   };
   operands = record {
     count = operand-count;
     operand = λ i h.
-        kept-agrees (below (a .«merit_function» .«operand_count»)) (operandAt (a .«merit_function»)) (operandAt (b .«merit_function»)) zeroOperand 12 i operands (omega (arith, n .operands)) (lt-ltb i _ h);
+        kept-agrees (below (a .«merit_function» .«operand_count»)) (operandAt (a .«merit_function»)) (operandAt (b .«merit_function»)) zeroOperand 12 i operands
+        (omega (arith, n .operands)) (lt-ltb i _ h);
   };
   method = method-same (a .method) (b .method) (ap (λ (j : Job). j .method) e);
 }

@@ -16,5 +16,6 @@ abbrev Taken : MethodRequest → Type 0
 Taken method = (u : Unused) → firstRefusal (admissionRefusals (request u method)) ≡ 0
 
 pub sample-taken : Taken damped × Taken multiStart × Taken annealing
-unfolding neg lt le isNan ofBits finiteOf allBelow within aboveZeroUpTo surfaceTaken lensTaken enabledOf variableTaken variablesTaken kindTaken weightTaken operandTaken fromZeroTo dlsTaken multiStartTaken annealingTaken
+unfolding neg lt le isNan ofBits finiteOf allBelow within aboveZeroUpTo surfaceTaken lensTaken enabledOf variableTaken variablesTaken kindTaken weightTaken
+    operandTaken fromZeroTo dlsTaken multiStartTaken annealingTaken
 sample-taken = (λ u. refl, λ u. refl, λ u. refl)

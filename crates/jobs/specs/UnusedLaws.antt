@@ -96,9 +96,17 @@ settings-clean (Annealing c) = record {
 pub record-clean : (j : Job) → CleanRecord (kindOf (keptJob j)) (recordOf (keptJob j))
 record-clean j = record {
   surfaces = λ i l b. kept-unused (below (j .prescription .«surface_count»)) _ zeroSurface 16 i noSurface b (le-ltb i (j .prescription .«surface_count») l);
-  indices = λ i w b c h. kept-unused (indexUsed (j .prescription .«surface_count») (j .prescription .«slot_count»)) _ zero64 64 (i * 4 + w) nan (omega arith) (index-unused (j .prescription .«surface_count») (j .prescription .«slot_count») i w c h);
-  variables = λ i l b. getD-tab _ 8 i noVariableRecord b ∙ ap variableRecord (kept-unused (below (j .variables .«variable_count»)) _ zeroVariable 8 i noVariable b (le-ltb i _ l));
-  operands = λ i l b. getD-tab _ 12 i noOperandRecord b ∙ ap operandRecord (kept-unused (below (j .«merit_function» .«operand_count»)) _ zeroOperand 12 i noOperand b (le-ltb i _ l));
-  operandParts = λ i b. subst CleanOperand (sym (getD-tab (λ (i : ℕ). operandRecord (operandAt (keptJob j .«merit_function») i)) 12 i noOperandRecord b)) (operand-clean (operandAt (keptJob j .«merit_function») i));
+  indices =
+      λ i w b c h. kept-unused (indexUsed (j .prescription .«surface_count») (j .prescription .«slot_count»)) _ zero64 64 (i * 4 + w) nan (omega arith)
+      (index-unused (j .prescription .«surface_count») (j .prescription .«slot_count») i w c h);
+  variables =
+      λ i l b. getD-tab _ 8 i noVariableRecord b ∙ ap variableRecord
+      (kept-unused (below (j .variables .«variable_count»)) _ zeroVariable 8 i noVariable b (le-ltb i _ l));
+  operands =
+      λ i l b. getD-tab _ 12 i noOperandRecord b ∙ ap operandRecord
+      (kept-unused (below (j .«merit_function» .«operand_count»)) _ zeroOperand 12 i noOperand b (le-ltb i _ l));
+  operandParts =
+      λ i b. subst CleanOperand (sym (getD-tab (λ (i : ℕ). operandRecord (operandAt (keptJob j .«merit_function») i)) 12 i noOperandRecord b))
+      (operand-clean (operandAt (keptJob j .«merit_function») i));
   settings = settings-clean (j .method);
 }

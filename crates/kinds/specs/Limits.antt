@@ -31,7 +31,9 @@ both x y e = and-eq-true-iff x y .0 e
 iterations-within : (c : DlsConfig) → dlsTaken c ≡ true → c .«max_iterations» ≤ 1000
 unfolding dlsTaken
 iterations-within c e =
-    let others = fromZeroTo greatestDamping (c .«initial_damping») && fromZeroTo one64 (c .«finite_difference_relative_step») && finiteOf (c .«relative_merit_tolerance») && finiteOf (c .«gradient_tolerance») in
+    let others =
+    fromZeroTo greatestDamping (c .«initial_damping») && fromZeroTo one64 (c .«finite_difference_relative_step») && finiteOf (c .«relative_merit_tolerance»)
+    && finiteOf (c .«gradient_tolerance») in
     leb-true _ _ (both others (countTaken (c .«max_iterations»)) e .1)
 
 counts-within : (m : Method) → settingsTaken m ≡ true → CountsWithin m

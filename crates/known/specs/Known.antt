@@ -1,4 +1,5 @@
--- The known values of document 01 that are marked to be proved, and that drawings are admitted, as one table of the definitions under one lemma. Assumes nothing.
+-- The known values of document 01 that are marked to be proved, and that drawings are admitted, as one table of the definitions under one lemma. Assumes
+-- nothing.
 use mathlib.Core.Path.{_≡_, refl}
 use mathlib.Core.Bool.{true, false}
 use mathlib.Core.List.{List, _∷_}
@@ -45,7 +46,8 @@ use Rattle.known.specs.Samples.{atLeastThree, halfBall, edgeAtLeast, cur
 abbrev pub Evaluates : OpticalPrescription → MeritFunction → (MeritEvaluation → Type 0) → Type 0
 Evaluates p f Has = (evaluateNumber p f ≡ 0) × Has (lensEvaluation p f)
 
--- The first surface's curvature set to x: the surface, those behind it, and all of them afterwards have a property. Whatever they are, and whatever values follow.
+-- The first surface's curvature set to x: the surface, those behind it, and all of them afterwards have a property. Whatever they are, and whatever values
+-- follow.
 abbrev pub Curved : Float → (OpticalSurface → (rest new : Surfaces) → Type 0) → Type 0
 Curved x Has = (u : Unused) (s : OpticalSurface) (rest : Surfaces) (more : List Float) → Has s rest (applied (curvature u) (x ∷ more) (s ∷ rest))
 
@@ -79,7 +81,8 @@ pub record Known : Type 0 where
   -- "Thickness 2 against least 3: -1; 3 against 3: 0."
   pub short : (u : Unused) → Evaluates (lens u n64 n2) (atLeastThree u) (λ e. e .values ≡ neg n1 ∷ pastOne)
   pub enough : (u : Unused) → Evaluates (lens u n64 n3) (atLeastThree u) (λ e. e .values ≡ zero64 ∷ pastOne)
-  -- Request 3: the sag of a half ball is 8, its edge 8: short of 10 by 2, not of 8. Conic -1: sag 4, edge 12. Conic 3: t is -3. The last surface has no successor.
+  -- Request 3: the sag of a half ball is 8, its edge 8: short of 10 by 2, not of 8. Conic -1: sag 4, edge 12. Conic 3: t is -3. The last surface has no
+  -- successor.
   pub edge-short : (u : Unused) → Evaluates (halfBall u zero64) (edgeAtLeast u 0 n10) (λ e. e .values ≡ neg n2 ∷ pastOne)
   pub edge-enough : (u : Unused) → Evaluates (halfBall u zero64) (edgeAtLeast u 0 n8) (λ e. e .values ≡ zero64 ∷ pastOne)
   pub parabola-short : (u : Unused) → Evaluates (halfBall u (neg n1)) (edgeAtLeast u 0 n13) (λ e. e .values ≡ neg n1 ∷ pastOne)
@@ -94,7 +97,10 @@ pub record Known : Type 0 where
   pub admitted : (u : Unused) → Admitted (request u damped) × Admitted (request u multiStart) × Admitted (request u annealing)
 
 pub known : Known
-unfolding stepOf seeded stepTimes radiusOf lt magnitude finiteOf ofBits neg div tab allBelow Curvature.curvature arriving paraxialOf within aboveZeroUpTo surfaceTaken lensTaken finiteOr isFocalLength isMagnified track shortfall sagOf valueOf difference residual term total countedTotal kindTaken weightTaken operandTaken evaluateNumber sqrtOf le sub mul isNan enabledOf appliedTo applied runBy DampedRun.damped iterations bind afterMerits afterMerit isDone value variableTaken variablesTaken fromZeroTo dlsTaken multiStartTaken annealingTaken zeroRow admitNumber
+unfolding stepOf seeded stepTimes radiusOf lt magnitude finiteOf ofBits neg div tab allBelow Curvature.curvature arriving paraxialOf within aboveZeroUpTo
+    surfaceTaken lensTaken finiteOr isFocalLength isMagnified track shortfall sagOf valueOf difference residual term total countedTotal kindTaken weightTaken
+    operandTaken evaluateNumber sqrtOf le sub mul isNan enabledOf appliedTo applied runBy DampedRun.damped iterations bind afterMerits afterMerit isDone value
+    variableTaken variablesTaken fromZeroTo dlsTaken multiStartTaken annealingTaken zeroRow admitNumber
 known = record {
   values = λ u. (refl, refl);
   weighted = λ u. (refl, (refl, refl));

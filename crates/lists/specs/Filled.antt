@@ -19,7 +19,8 @@ module _ {A : Type 0} (f rest : ℕ → A) (p : ℕ) (l : List A) (d : A) (room 
   entry i false e h =
       let q : length (tab f p) + (i - p) ≡ i = rw (length-tab f p) (add-sub-of-le (ltb-false i p e)) in
       let r : p + (i - p) ≡ i = add-sub-of-le (ltb-false i p e) in
-      ap (λ (k : ℕ). getD (tab f p ++ drop p l) k d) (sym q) ∙ getD-append-add (tab f p) (drop p l) (i - p) d ∙ getD-drop p l (i - p) d ∙ ap (λ (k : ℕ). getD l k d) r ∙ kept i h
+      ap (λ (k : ℕ). getD (tab f p ++ drop p l) k d) (sym q) ∙ getD-append-add (tab f p) (drop p l) (i - p) d ∙ getD-drop p l (i - p) d
+      ∙ ap (λ (k : ℕ). getD l k d) r ∙ kept i h
 
   pub filled : tab f p ++ drop p l ≡ tab (λ (i : ℕ). cond (ltb i p) (f i) (rest i)) (length l)
   filled =

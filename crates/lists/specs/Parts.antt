@@ -32,9 +32,11 @@ module _ {A : Type 0} where
       no : (k : ℕ) → k < 0 → ⊥
       no k h = omega arith
   getD-sets-in (v ∷ vs) l at zero d h g =
-      ap (λ (i : ℕ). getD (sets (set l at v) (suc at) vs) i d) (add-zero at) ∙ getD-sets-out vs (set l at v) (suc at) at d (inl (omega arith)) ∙ getD-set-same l at v d (omega arith)
+      ap (λ (i : ℕ). getD (sets (set l at v) (suc at) vs) i d) (add-zero at) ∙ getD-sets-out vs (set l at v) (suc at) at d (inl (omega arith))
+      ∙ getD-set-same l at v d (omega arith)
   getD-sets-in (v ∷ vs) l at (suc k) d h g =
-      ap (λ (i : ℕ). getD (sets (set l at v) (suc at) vs) i d) (shift at k) ∙ getD-sets-in vs (set l at v) (suc at) k d (omega arith) (rw (length-set l at v) (room at (length vs) (length l) g))
+      ap (λ (i : ℕ). getD (sets (set l at v) (suc at) vs) i d) (shift at k)
+      ∙ getD-sets-in vs (set l at v) (suc at) k d (omega arith) (rw (length-set l at v) (room at (length vs) (length l) g))
     where
       shift : (at k : ℕ) → at + suc k ≡ suc at + k
       shift at k = omega arith

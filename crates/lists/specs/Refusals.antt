@@ -77,7 +77,8 @@ passed false m n rest t e = (refl, e)
 not-answered : (n : ℕ) (rs : List Refusal) → T (not (eqb 0 n)) → T (absent n rs) → firstRefusal rs ≡ n → ⊥
 not-answered n [] z a e = other 0 n z e
 not-answered n (r ∷ rs) z a e =
-    not-answered n rs z (and-r (not (eqb (r .number) n)) (absent n rs) a) (passed (r .cause) (r .number) n (firstRefusal rs) (other (r .number) n (and-l (not (eqb (r .number) n)) (absent n rs) a)) e .1)
+    not-answered n rs z (and-r (not (eqb (r .number) n)) (absent n rs) a)
+    (passed (r .cause) (r .number) n (firstRefusal rs) (other (r .number) n (and-l (not (eqb (r .number) n)) (absent n rs) a)) e .1)
 
 module _ (r : Refusal) (rs : List Refusal) (t : T (distinct (r ∷ rs))) where
   nonzero : T (not (eqb 0 (r .number)))

@@ -46,7 +46,8 @@ module _ {A : Type 0} where
   -- a list is the one made by its own entries
   pub tab-self : (l : List A) (d : A) → tab (λ (i : ℕ). getD l i d) (length l) ≡ l
   tab-self l d =
-      ext-getD d (tab (λ (i : ℕ). getD l i d) (length l)) l (length-tab _ (length l)) (λ i h. getD-tab (λ (i : ℕ). getD l i d) (length l) i d (rw (length-tab (λ (i : ℕ). getD l i d) (length l)) at h))
+      ext-getD d (tab (λ (i : ℕ). getD l i d) (length l)) l (length-tab _ (length l))
+      (λ i h. getD-tab (λ (i : ℕ). getD l i d) (length l) i d (rw (length-tab (λ (i : ℕ). getD l i d) (length l)) at h))
 
   -- p stands for the first i of l; a store of v at i makes p longer by one
   pub grow : (p l : List A) (i : ℕ) (v d : A) → length p ≡ i → i < length l → set (p ++ drop i l) i v ≡ (p ++ (v ∷ [])) ++ drop (i + 1) l

@@ -19,7 +19,8 @@ use Rattle.optics.specs.declared.types.OpticalPrescription.{OpticalPrescription
 use Rattle.optics.specs.declared.types.OpticalSurface.{OpticalSurface}
 use Rattle.optics.specs.declared.types.ParaxialRay.{ParaxialRay}
 use Rattle.merit.specs.OperandTable.{zeroEvaluation}
-use Rattle.merit.specs.Calls.{unlessRefused, evaluateNumber, lensEvaluation, evaluatedAs, evaluatedOf, lensRay, lensTrace, sixteen, traceNumber, answerOf, nothingTraced, heightsOf, tracedHeights, traceAnswer, tracedRow, tracedRays}
+use Rattle.merit.specs.Calls.{unlessRefused, evaluateNumber, lensEvaluation, evaluatedAs, evaluatedOf, lensRay, lensTrace, sixteen, traceNumber, answerOf}
+use Rattle.merit.specs.Calls.{nothingTraced, heightsOf, tracedHeights, traceAnswer, tracedRow, tracedRays}
 use Rattle.merit.specs.CallLaws.{Traceable, done-traceable}
 use Rattle.merit.specs.Evaluation.{evaluationOf}
 use Rattle.merit.specs.EvaluationLaws.{evaluation-same}
@@ -37,7 +38,8 @@ pub laid-room : (surfaces : List OpticalSurface) (n : ℕ) (rest flat : List Flo
 laid-room surfaces n rest flat e = rw (e, length-append, length-laid surfaces n) (omega arith)
 
 -- surfaces laid flat evaluate as the lens does
-pub laid-evaluation : (p : OpticalPrescription) (f : MeritFunction) (rest flat : List Float) → flat ≡ laidFlat (p .surfaces) (p .«surface_count») ++ rest → SlotsKnown f → evaluationOf (flatSurface flat) (slotIndex (p .indices)) (p .«entrance_pupil_diameter_mm») (p .«surface_count») f ≡ lensEvaluation p f
+pub laid-evaluation : (p : OpticalPrescription) (f : MeritFunction) (rest flat : List Float) → flat ≡ laidFlat (p .surfaces) (p .«surface_count») ++ rest
+    → SlotsKnown f → evaluationOf (flatSurface flat) (slotIndex (p .indices)) (p .«entrance_pupil_diameter_mm») (p .«surface_count») f ≡ lensEvaluation p f
 laid-evaluation p f rest flat e known =
     let index = slotIndex (p .indices) in
     let pupil = p .«entrance_pupil_diameter_mm» in
@@ -56,11 +58,17 @@ stays (suc n) new old h = refl
 module _ (p : OpticalPrescription) (f : MeritFunction) (n : ℕ) (e : n ≡ evaluateNumber p f) where
   pub evaluated-refused : 0 < n → _≡_ {A = Evaluated} (record { evaluation = zeroEvaluation; number = n }) (evaluatedOf p f)
   unfolding evaluatedOf
-  evaluated-refused h = λ i. record { evaluation = (sym (stays n (lensEvaluation p f) zeroEvaluation h) ∙ ap (λ (k : ℕ). unlessRefused k (lensEvaluation p f) zeroEvaluation) e) i; number = e i }
+  evaluated-refused h =
+      λ i. record {
+        evaluation = (sym (stays n (lensEvaluation p f) zeroEvaluation h)
+            ∙ ap (λ (k : ℕ). unlessRefused k (lensEvaluation p f) zeroEvaluation) e) i;
+        number = e i;
+      }
 
   pub evaluated-done : n ≤ 0 → (r : MeritEvaluation) → r ≡ lensEvaluation p f → _≡_ {A = Evaluated} (record { evaluation = r; number = 0 }) (evaluatedOf p f)
   unfolding evaluatedOf
-  evaluated-done h r q = let z = sym (none n h) ∙ e in λ i. record { evaluation = (q ∙ ap (λ (k : ℕ). unlessRefused k (lensEvaluation p f) zeroEvaluation) z) i; number = z i }
+  evaluated-done h r q =
+      let z = sym (none n h) ∙ e in λ i. record { evaluation = (q ∙ ap (λ (k : ℕ). unlessRefused k (lensEvaluation p f) zeroEvaluation) z) i; number = z i }
 
 -- what the lent call keeps or stores
 module _ (p : OpticalPrescription) (f : MeritFunction) (old : MeritEvaluation) where
@@ -70,20 +78,29 @@ module _ (p : OpticalPrescription) (f : MeritFunction) (old : MeritEvaluation) w
 
   pub evaluated-stored : evaluatedOf p f .number ≤ 0 → (evaluatedOf p f .number ≡ evaluateNumber p f) × (evaluatedOf p f .evaluation ≡ evaluatedAs old p f)
   unfolding evaluatedOf
-  evaluated-stored h = let z = none (evaluateNumber p f) h in (refl, ap (λ (k : ℕ). unlessRefused k (lensEvaluation p f) zeroEvaluation) z ∙ sym (ap (λ (k : ℕ). unlessRefused k (lensEvaluation p f) old) z))
+  evaluated-stored h =
+      let z = none (evaluateNumber p f) h in (
+        refl,
+        ap (λ (k : ℕ). unlessRefused k (lensEvaluation p f) zeroEvaluation) z
+            ∙ sym (ap (λ (k : ℕ). unlessRefused k (lensEvaluation p f) old) z),
+      )
 
 -- ---- trace
 -- heights or slopes of surfaces laid flat are those of the lens
-pub heights-are : (p : OpticalPrescription) (slot : ℕ) (rest flat : List Float) → flat ≡ laidFlat (p .surfaces) (p .«surface_count») ++ rest → (part : ParaxialRay → Float) (hs : List Float)
-    → hs ≡ tab (λ (k : ℕ). part (rayAt (flatSurface flat) (slotIndex (p .indices) slot) (p .«entrance_pupil_diameter_mm») k)) (p .«surface_count») ++ drop (p .«surface_count») (replicate 16 zero64)
+pub heights-are : (p : OpticalPrescription) (slot : ℕ) (rest flat : List Float) → flat ≡ laidFlat (p .surfaces) (p .«surface_count») ++ rest
+    → (part : ParaxialRay → Float) (hs : List Float)
+    → hs ≡ tab (λ (k : ℕ). part (rayAt (flatSurface flat) (slotIndex (p .indices) slot) (p .«entrance_pupil_diameter_mm») k)) (p .«surface_count») ++ drop
+    (p .«surface_count») (replicate 16 zero64)
     → hs ≡ sixteen (λ (k : ℕ). part (lensRay p slot k)) (p .«surface_count»)
 heights-are p slot rest flat e part hs h = h ∙ λ i. tab-same _ _ (p .«surface_count») agree i ++ drop-replicate zero64 (p .«surface_count») 16 i
   where
-    agree : (k : ℕ) → k < p .«surface_count» → part (rayAt (flatSurface flat) (slotIndex (p .indices) slot) (p .«entrance_pupil_diameter_mm») k) ≡ part (lensRay p slot k)
+    agree : (k : ℕ) → k < p .«surface_count» → part (rayAt (flatSurface flat) (slotIndex (p .indices) slot) (p .«entrance_pupil_diameter_mm») k)
+        ≡ part (lensRay p slot k)
     agree k l =
         ap part
         (ap (λ (m : List Float). rayAt (flatSurface m) (slotIndex (p .indices) slot) (p .«entrance_pupil_diameter_mm») k) e
-        ∙ ray-same (flatSurface (laidFlat (p .surfaces) (p .«surface_count») ++ rest)) (surfaceAt (p .surfaces)) (slotIndex (p .indices) slot) (slotIndex (p .indices) slot) (p .«entrance_pupil_diameter_mm») (p .«surface_count»)
+        ∙ ray-same (flatSurface (laidFlat (p .surfaces) (p .«surface_count») ++ rest)) (surfaceAt (p .surfaces)) (slotIndex (p .indices) slot)
+        (slotIndex (p .indices) slot) (p .«entrance_pupil_diameter_mm») (p .«surface_count»)
         (flat-laid (p .surfaces) (p .«surface_count») rest) (λ i m. refl) k l)
 
 answer-refused : (n count : ℕ) → 0 < n → answerOf n count ≡ Refused n
@@ -127,7 +144,8 @@ module _ (p : OpticalPrescription) (slot : ℕ) (old : List ParaxialRay) where
   abbrev answered : Traced
   answered = traceAnswer p slot (length old)
 
-  pub row-kept : T (not (tracedHeights p slot (length old) .done)) → (tracedHeights p slot (length old) .answer ≡ traceAnswer p slot (length old)) × (old ≡ tracedRays p slot old)
+  pub row-kept : T (not (tracedHeights p slot (length old) .done)) → (tracedHeights p slot (length old) .answer ≡ traceAnswer p slot (length old))
+      × (old ≡ tracedRays p slot old)
   unfolding tracedHeights
   row-kept t = (answer-is answered p slot, kept-is answered p slot _ old t)
 
@@ -143,7 +161,8 @@ module _ (p : OpticalPrescription) (slot : ℕ) (old : List ParaxialRay) where
         → (length old ≤ length (tracedHeights p slot (length old) .heights)) × (length old ≤ length (tracedHeights p slot (length old) .slopes))
     row-short e f = let few : length old ≤ 16 = rw (open-trace .row) (open-trace .surfaces) in (rw e few, rw f few)
 
-    pub row-filled : (tracedHeights p slot (length old) .answer ≡ traceAnswer p slot (length old)) × (raysOf (tracedHeights p slot (length old) .heights) (tracedHeights p slot (length old) .slopes) (length old) ≡ tracedRays p slot old)
+    pub row-filled : (tracedHeights p slot (length old) .answer ≡ traceAnswer p slot (length old))
+        × (raysOf (tracedHeights p slot (length old) .heights) (tracedHeights p slot (length old) .slopes) (length old) ≡ tracedRays p slot old)
     unfolding tracedHeights
     row-filled = (
       answer-is answered p slot,

@@ -42,7 +42,8 @@ module _ (surface : ℕ → OpticalSurface) (index : ℕ → ℕ → Float) (pup
 
   module _ (values residuals : List Float) (sum : Float) (n : ℕ) (more : n < function .«operand_count») (value residual product : Float)
       (room : n < length values₀) (space : n < length residuals₀)
-      (v : value ≡ valueAt surface index pupil count function n) (r : residual ≡ residualAt surface index pupil count function n) (t : product ≡ term (operandAt function n) (valueAt surface index pupil count function n)) where
+      (v : value ≡ valueAt surface index pupil count function n) (r : residual ≡ residualAt surface index pupil count function n)
+      (t : product ≡ term (operandAt function n) (valueAt surface index pupil count function n)) where
     pub next : Evaluated values residuals sum n → Evaluated (set values n value) (set residuals n residual) (add binary64 sum product) (n + 1)
     unfolding total
     next e = record {
@@ -55,14 +56,20 @@ module _ (surface : ℕ → OpticalSurface) (index : ℕ → ℕ → Float) (pup
     }
 
   -- the values so far, where all were zero at first
-  pub laid : (values residuals : List Float) (sum : Float) (n : ℕ) → Evaluated values residuals sum n → values₀ ≡ replicate 12 zero64 → n < 12 → values ≡ entries (valueAt surface index pupil count function) n
-  laid values residuals sum n e p h = e .worth ∙ ap (λ (l : List Float). tab (valueAt surface index pupil count function) n ++ l) (ap (drop n) p ∙ drop-replicate zero64 n 12)
+  pub laid : (values residuals : List Float) (sum : Float) (n : ℕ) → Evaluated values residuals sum n → values₀ ≡ replicate 12 zero64 → n < 12 → values
+      ≡ entries (valueAt surface index pupil count function) n
+  laid values residuals sum n e p h =
+      e .worth ∙ ap (λ (l : List Float). tab (valueAt surface index pupil count function) n ++ l) (ap (drop n) p ∙ drop-replicate zero64 n 12)
 
   -- zero past the counts
-  pub last : (values residuals : List Float) (sum : Float) → values₀ ≡ replicate 12 zero64 → residuals₀ ≡ replicate 12 zero64 → Evaluated values residuals sum (function .«operand_count») → (merit : Float) → merit ≡ countedTotal sum
+  pub last : (values residuals : List Float) (sum : Float) → values₀ ≡ replicate 12 zero64 → residuals₀ ≡ replicate 12 zero64
+      → Evaluated values residuals sum (function .«operand_count») → (merit : Float) → merit ≡ countedTotal sum
       → _≡_ {A = MeritEvaluation} (record { values = values; residuals = residuals; «total_merit» = merit }) (evaluationOf surface index pupil count function)
   last values residuals sum p q e merit m = λ i. record {
-    values = (e .worth ∙ ap (λ (l : List Float). tab (valueAt surface index pupil count function) (function .«operand_count») ++ l) (ap (drop (function .«operand_count»)) p ∙ drop-replicate zero64 (function .«operand_count») 12)) i;
-    residuals = (e .weighed ∙ ap (λ (l : List Float). tab (residualAt surface index pupil count function) (function .«operand_count») ++ l) (ap (drop (function .«operand_count»)) q ∙ drop-replicate zero64 (function .«operand_count») 12)) i;
+    values = (e .worth ∙ ap (λ (l : List Float). tab (valueAt surface index pupil count function) (function .«operand_count») ++ l)
+        (ap (drop (function .«operand_count»)) p ∙ drop-replicate zero64 (function .«operand_count») 12)) i;
+    residuals =
+        (e .weighed ∙ ap (λ (l : List Float). tab (residualAt surface index pupil count function) (function .«operand_count») ++ l)
+        (ap (drop (function .«operand_count»)) q ∙ drop-replicate zero64 (function .«operand_count») 12)) i;
     «total_merit» = (m ∙ ap countedTotal (e .summed)) i;
   }

@@ -58,18 +58,25 @@ module _ (κ : Lft) (l : ℕ) (xs : List Float) where
     apart : ent 𝓤 (H .at fullShare ty16 l 0 (only (vals16 xs))) (sem 𝓤 H A (arr-parts (shares f64) (length xs) .part fullShare xs l 0))
     unfolding partOf
     apart =
-        qed W (‵ (fat fullShare ty16 l 0 (only (vals16 xs))) ∷ []) ∵ use1 W (‵ (cellAt fullShare (Floats16 .mir) (vals16 xs) l 0)) (W .laws .at-raw fullShare ty16 l 0 (only (vals16 xs))) $
+        qed W (‵ (fat fullShare ty16 l 0 (only (vals16 xs))) ∷ []) ∵
+        use1 W (‵ (cellAt fullShare (Floats16 .mir) (vals16 xs) l 0)) (W .laws .at-raw fullShare ty16 l 0 (only (vals16 xs))) $
         owned ! Floats16 (Is Floats16) (array-makes 𝓤 H A W f64 (float-makes 𝓤 H A W binary64) 16) xs _ is $ move ! (1 ∷ 0 ∷ []) $ fjoin ! $
         fpack ! (List Val) (λ vs. fsep (cellAt fullShare (Floats16 .mir) vs l 0) (Floats16 .own xs vs)) (vals16 xs) $
-        use1 W (‵ (arr-parts (shares f64) 16 .part fullShare xs l 0)) (array-apart 𝓤 H A W f64 fullShare tt 16 xs l 0) $ fsplit ! $ drop ! $ feqI ! ℕ (length xs) (length xs) refl $ fjoin ! $ done !
+        use1 W (‵ (arr-parts (shares f64) 16 .part fullShare xs l 0)) (array-apart 𝓤 H A W f64 fullShare tt 16 xs l 0) $ fsplit ! $ drop ! $
+        feqI ! ℕ (length xs) (length xs) refl $ fjoin ! $ done !
 
-    pub lends-array : ent 𝓤 (H .at fullShare ty16 l 0 (only (vals16 xs))) (H .⇛ (ex 𝓤 (λ (γ : GName). sep 𝓤 (sem 𝓤 H A (ShrSlice ℓ κ f64 .own (lent16 γ) (slice-vals (lent16 γ)))) (sem 𝓤 H A Kept))))
-    lends-array = via 𝓤 (sem 𝓤 H A (arr-parts (shares f64) (length xs) .part fullShare xs l 0)) apart (lends-shr-slice 𝓤 H A W f64 ℓ κ fullShare xs l 0 (room16 xs (long16 xs _ is)))
+    pub lends-array : ent 𝓤 (H .at fullShare ty16 l 0 (only (vals16 xs)))
+        (H .⇛ (ex 𝓤 (λ (γ : GName). sep 𝓤 (sem 𝓤 H A (ShrSlice ℓ κ f64 .own (lent16 γ) (slice-vals (lent16 γ)))) (sem 𝓤 H A Kept))))
+    lends-array =
+        via 𝓤 (sem 𝓤 H A (arr-parts (shares f64) (length xs) .part fullShare xs l 0)) apart
+        (lends-shr-slice 𝓤 H A W f64 ℓ κ fullShare xs l 0 (room16 xs (long16 xs _ is)))
 
     pub takes-array : ent 𝓤 (sep 𝓤 (A .dead κ) (sem 𝓤 H A Kept)) (H .⇛ (H .at fullShare ty16 l 0 (only (vals16 xs))))
     unfolding partOf
     takes-array =
         qed W (‵ (fdead κ) ∷ ‵ Kept ∷ []) ∵ updating ! $ lent-back ! tt $ fsplit ! $ drop ! $ feqI ! ℕ (length xs) 16 (long16 xs _ is) $ fjoin ! $
-        use1 W (‵ (partAt Floats16 fullShare xs l 0)) (array-whole 𝓤 H A W f64 fullShare 16 xs l 0) $ fpick ! (λ vs. fsplit ! $ move ! (1 ∷ []) $ peeks ! Floats16 (Is Floats16) (shows 𝓤 H A Floats16) xs vs (λ was. drop ! $
-        rewrite ! 0 (λ (us : List Val). ‵ (cellAt fullShare (Floats16 .mir) us l 0)) (array-tells f64 (float-vals binary64) (float-tells binary64) 16 xs vs was) refl $
+        use1 W (‵ (partAt Floats16 fullShare xs l 0)) (array-whole 𝓤 H A W f64 fullShare 16 xs l 0) $
+        fpick ! (λ vs. fsplit ! $ move ! (1 ∷ []) $ peeks ! Floats16 (Is Floats16) (shows 𝓤 H A Floats16) xs vs (λ was. drop ! $
+        rewrite ! 0 (λ (us : List Val). ‵ (cellAt fullShare (Floats16 .mir) us l 0)) (array-tells f64 (float-vals binary64) (float-tells binary64) 16 xs vs was)
+        refl $
         use1 W (‵ (fat fullShare ty16 l 0 (only (vals16 xs)))) (W .laws .raw-at fullShare ty16 l 0 (only (vals16 xs))) $ at-once ! $ done !))

@@ -22,8 +22,11 @@ passed false e = absurd (true≢false e)
 
 counts-parts : (surfaces slots : ℕ) → T (lensCountsTaken surfaces slots) → (surfaces ≤ 16) × (1 ≤ slots) × (slots ≤ 4)
 counts-parts surfaces slots t =
-    let l = and-l (leb surfaces 16 && leb 1 slots) (leb slots 4) t in
-    (leb→le surfaces 16 (and-l (leb surfaces 16) (leb 1 slots) l), leb→le 1 slots (and-r (leb surfaces 16) (leb 1 slots) l), leb→le slots 4 (and-r (leb surfaces 16 && leb 1 slots) (leb slots 4) t))
+    let l = and-l (leb surfaces 16 && leb 1 slots) (leb slots 4) t in (
+      leb→le surfaces 16 (and-l (leb surfaces 16) (leb 1 slots) l),
+      leb→le 1 slots (and-r (leb surfaces 16) (leb 1 slots) l),
+      leb→le slots 4 (and-r (leb surfaces 16 && leb 1 slots) (leb slots 4) t),
+    )
 
 -- counts that passed their test leave room for the lens's own
 pub counts-room : (p : OpticalPrescription) {b : Bool} → b ≡ lensCountsTaken (p .«surface_count») (p .«slot_count») → not b ≡ false
@@ -65,7 +68,8 @@ module _ (p : OpticalPrescription) (f : MeritFunction) where
   evaluable e =
       let h = evaluate-0 .0 e in
       let c = passed counted (none-of (evaluateRefusals p f) 1 h) in
-      let k = counts-parts (p .«surface_count») (p .«slot_count») (and-l (lensCountsTaken (p .«surface_count») (p .«slot_count»)) (leb (f .«operand_count») 12) c) in
+      let k = counts-parts (p .«surface_count») (p .«slot_count»)
+      (and-l (lensCountsTaken (p .«surface_count») (p .«slot_count»)) (leb (f .«operand_count») 12) c) in
       record {
         surfaces = k .0;
         slots = k .2;
@@ -128,7 +132,8 @@ module _ (p : OpticalPrescription) (slot rows : ℕ) where
   traceable e =
       let h = trace-0 .0 (traced-number ∙ e) in
       let c = passed fitting (none-of (traceRefusals p slot rows) 1 h) in
-      let k = counts-parts (p .«surface_count») (p .«slot_count») (and-l (lensCountsTaken (p .«surface_count») (p .«slot_count»)) (eqb rows (p .«surface_count»)) c) in
+      let k = counts-parts (p .«surface_count») (p .«slot_count»)
+      (and-l (lensCountsTaken (p .«surface_count») (p .«slot_count»)) (eqb rows (p .«surface_count»)) c) in
       let l : slot < p .«slot_count» = ltb→lt slot (p .«slot_count») (passed (ltb slot (p .«slot_count»)) (none-of (traceRefusals p slot rows) 5 h)) in
       record {
         surfaces = k .0;

@@ -23,7 +23,8 @@ module _ (slots : ℕ) (f : MeritFunction) (taken : T (operandsTaken slots f)) (
   kind-taken =
       let o = operandAt f n in
       let t = all-at (λ (n : ℕ). operandTaken slots (operandAt f n)) (f .«operand_count») n taken h in
-      and-l (kindTaken slots (o .«operand_type»)) (within (o .target)) (and-l (kindTaken slots (o .«operand_type») && within (o .target)) (weightTaken (o .weight)) t)
+      and-l (kindTaken slots (o .«operand_type»)) (within (o .target))
+      (and-l (kindTaken slots (o .«operand_type») && within (o .target)) (weightTaken (o .weight)) t)
 
 -- a kind that is taken names a slot that there is, or none
 pub slot-below : (slots : ℕ) (kind : OperandType) → T (kindTaken slots kind) → slotNamed kind < 4 → slotNamed kind < slots

@@ -46,7 +46,8 @@ module _ (surface : ℕ → OpticalSurface) (index : ℕ → ℕ → Float) (pup
   unfolding valuesAfter tab
   values-are zero h = refl
   values-are (suc n) h =
-      tab-step (valueAt surface index pupil count f) (replicate 12 zero64) (valuesAfter surface index pupil count f n) n (valueAt surface index pupil count f n) nan (values-are n (omega arith)) refl (rw length-replicate h)
+      tab-step (valueAt surface index pupil count f) (replicate 12 zero64) (valuesAfter surface index pupil count f n) n (valueAt surface index pupil count f n)
+      nan (values-are n (omega arith)) refl (rw length-replicate h)
       ∙ ap (λ (k : ℕ). tab (valueAt surface index pupil count f) k ++ drop k (replicate 12 zero64)) (add-one n)
 
   pub values-after : (n : ℕ) → n ≤ 12 → valuesAfter surface index pupil count f n ≡ entries (valueAt surface index pupil count f) n
@@ -65,9 +66,11 @@ module _ (surface surface′ : ℕ → OpticalSurface) (index index′ : ℕ →
     (many : f .«operand_count» ≡ g .«operand_count»)
     (agree : (n : ℕ) → n < f .«operand_count» → operandAt f n ≡ operandAt g n) where
   value-by : (earlier : List Float) (n : ℕ) → n < f .«operand_count» →
-      valueOf earlier (λ (w : ℕ). paraxialOf surface (index w) pupil count) surface count (operandAt f n .«operand_type») ≡ valueOf earlier (λ (w : ℕ). paraxialOf surface′ (index′ w) pupil count) surface′ count (operandAt g n .«operand_type»)
+      valueOf earlier (λ (w : ℕ). paraxialOf surface (index w) pupil count) surface count (operandAt f n .«operand_type»)
+      ≡ valueOf earlier (λ (w : ℕ). paraxialOf surface′ (index′ w) pupil count) surface′ count (operandAt g n .«operand_type»)
   value-by earlier n h =
-      value-same earlier _ (λ (w : ℕ). paraxialOf surface′ (index′ w) pupil count) surface count _ (known n h) (λ l. paraxial-same surface surface′ _ _ pupil count same (λ i m. alike n i h l m))
+      value-same earlier _ (λ (w : ℕ). paraxialOf surface′ (index′ w) pupil count) surface count _ (known n h)
+      (λ l. paraxial-same surface surface′ _ _ pupil count same (λ i m. alike n i h l m))
       ∙ value-below earlier (λ (w : ℕ). paraxialOf surface′ (index′ w) pupil count) surface surface′ count same _
       ∙ ap (λ (o : MeritOperand). valueOf earlier (λ (w : ℕ). paraxialOf surface′ (index′ w) pupil count) surface′ count (o .«operand_type»)) (agree n h)
 
@@ -76,12 +79,14 @@ module _ (surface surface′ : ℕ → OpticalSurface) (index index′ : ℕ →
   values-agree zero h = refl
   values-agree (suc n) h =
       let e = values-agree n (omega arith) in
-      λ i. set (e i) n ((value-by (valuesAfter surface index pupil count f n) n h ∙ ap (λ (l : List Float). valueOf l (λ (w : ℕ). paraxialOf surface′ (index′ w) pupil count) surface′ count (operandAt g n .«operand_type»)) e) i)
+      λ i. set (e i) n ((value-by (valuesAfter surface index pupil count f n) n h
+      ∙ ap (λ (l : List Float). valueOf l (λ (w : ℕ). paraxialOf surface′ (index′ w) pupil count) surface′ count (operandAt g n .«operand_type»)) e) i)
 
   value-agrees : (n : ℕ) → n < f .«operand_count» → valueAt surface index pupil count f n ≡ valueAt surface′ index′ pupil count g n
   value-agrees n h =
       value-by (valuesAfter surface index pupil count f n) n h
-      ∙ ap (λ (l : List Float). valueOf l (λ (w : ℕ). paraxialOf surface′ (index′ w) pupil count) surface′ count (operandAt g n .«operand_type»)) (values-agree n (omega arith))
+      ∙ ap (λ (l : List Float). valueOf l (λ (w : ℕ). paraxialOf surface′ (index′ w) pupil count) surface′ count (operandAt g n .«operand_type»))
+      (values-agree n (omega arith))
 
   total-agrees : (n : ℕ) → n ≤ f .«operand_count» → total surface index pupil count f n ≡ total surface′ index′ pupil count g n
   unfolding total
@@ -94,6 +99,8 @@ module _ (surface surface′ : ℕ → OpticalSurface) (index index′ : ℕ →
   pub evaluation-same : evaluationOf surface index pupil count f ≡ evaluationOf surface′ index′ pupil count g
   evaluation-same = λ i. record {
     values = entries-agree (valueAt surface index pupil count f) (valueAt surface′ index′ pupil count g) value-agrees i;
-    residuals = entries-agree (residualAt surface index pupil count f) (residualAt surface′ index′ pupil count g) (λ n h. λ j. residual (agree n h j) (value-agrees n h j)) i;
+    residuals =
+        entries-agree (residualAt surface index pupil count f) (residualAt surface′ index′ pupil count g)
+        (λ n h. λ j. residual (agree n h j) (value-agrees n h j)) i;
     «total_merit» = countedTotal ((total-agrees (f .«operand_count») (omega arith) ∙ ap (total surface′ index′ pupil count g) many) i);
   }

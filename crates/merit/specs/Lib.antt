@@ -1,4 +1,5 @@
--- The merit of a lens: `Operands` (values; `Edges`: that of the edge operand), `Evaluation` (residuals and total), `Check` (refusal 5), `Calls` (evaluate and trace).
+-- The merit of a lens: `Operands` (values; `Edges`: that of the edge operand), `Evaluation` (residuals and total), `Check` (refusal 5), `Calls` (evaluate and
+-- trace).
 pub mod OperandTable
 pub mod Edges
 pub mod Operands

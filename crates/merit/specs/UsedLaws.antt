@@ -47,9 +47,12 @@ module _ (p q : OpticalPrescription) (s : SameLens p q) where
   lens-agrees : lensTaken p ≡ lensTaken q
   unfolding lensTaken
   lens-agrees =
-      let surfaces = all-agree (λ (i : ℕ). surfaceTaken (surfaceAt (p .surfaces) i)) (λ (i : ℕ). surfaceTaken (surfaceAt (q .surfaces) i)) _ _ (s .count) (λ i h. ap surfaceTaken (s .surfaces i h)) in
+      let surfaces =
+      all-agree (λ (i : ℕ). surfaceTaken (surfaceAt (p .surfaces) i)) (λ (i : ℕ). surfaceTaken (surfaceAt (q .surfaces) i)) _ _ (s .count)
+      (λ i h. ap surfaceTaken (s .surfaces i h)) in
       let row : (i : ℕ) → i < p .«surface_count» → rowTaken (p .indices) (p .«slot_count») i ≡ rowTaken (q .indices) (q .«slot_count») i =
-      λ i h. all-agree (λ (w : ℕ). indexTaken (slotIndex (p .indices) w i)) (λ (w : ℕ). indexTaken (slotIndex (q .indices) w i)) _ _ (s .slots) (λ w l. ap indexTaken (s .indices i w h l)) in
+      λ i h. all-agree (λ (w : ℕ). indexTaken (slotIndex (p .indices) w i)) (λ (w : ℕ). indexTaken (slotIndex (q .indices) w i)) _ _ (s .slots)
+      (λ w l. ap indexTaken (s .indices i w h l)) in
       let indices = all-agree (rowTaken (p .indices) (p .«slot_count»)) (rowTaken (q .indices) (q .«slot_count»)) _ _ (s .count) row in
       λ i. pupilTaken (s .pupil i) && surfaces i && indices i
 
@@ -58,8 +61,11 @@ module _ (p q : OpticalPrescription) (s : SameLens p q) where
     pub evaluate-same : evaluateNumber p f ≡ evaluateNumber q g
     unfolding evaluateNumber
     evaluate-same =
-        let operands = all-agree (λ (n : ℕ). operandTaken (p .«slot_count») (operandAt f n)) (λ (n : ℕ). operandTaken (q .«slot_count») (operandAt g n)) _ _ (o .count) (λ n h. λ i. operandTaken (s .slots i) (o .operands n h i)) in
-        λ i. firstRefusal (refusal 1 (not (lensCountsTaken (s .count i) (s .slots i) && leb (o .count i) 12)) ∷ refusal 3 (not (lens-agrees i)) ∷ refusal 5 (not (operands i)) ∷ [])
+        let operands =
+        all-agree (λ (n : ℕ). operandTaken (p .«slot_count») (operandAt f n)) (λ (n : ℕ). operandTaken (q .«slot_count») (operandAt g n)) _ _ (o .count)
+        (λ n h. λ i. operandTaken (s .slots i) (o .operands n h i)) in
+        λ i. firstRefusal (refusal 1 (not (lensCountsTaken (s .count i) (s .slots i)
+        && leb (o .count i) 12)) ∷ refusal 3 (not (lens-agrees i)) ∷ refusal 5 (not (operands i)) ∷ [])
 
     pub evaluated-same : (old : MeritEvaluation) → evaluatedAs old p f ≡ evaluatedAs old q g
     evaluated-same old = go (evaluateNumber p f) refl ∙ ap (λ (n : ℕ). unlessRefused n (lensEvaluation q g) old) evaluate-same
@@ -67,8 +73,10 @@ module _ (p q : OpticalPrescription) (s : SameLens p q) where
         go : (n : ℕ) → evaluateNumber p f ≡ n → unlessRefused n (lensEvaluation p f) old ≡ unlessRefused n (lensEvaluation q g) old
         go zero e =
             let ok = evaluable p f e in
-            evaluation-same (surfaceAt (p .surfaces)) (surfaceAt (q .surfaces)) (slotIndex (p .indices)) (slotIndex (q .indices)) (p .«entrance_pupil_diameter_mm») (p .«surface_count») f g
-            (s .surfaces) (λ n i h l m. s .indices i _ m (slot-below (p .«slot_count») _ (kind-taken (p .«slot_count») f (ok .taken) n h) l)) (slots-known (p .«slot_count») (ok .slots) f (ok .taken)) (o .count) (o .operands)
+            evaluation-same (surfaceAt (p .surfaces)) (surfaceAt (q .surfaces)) (slotIndex (p .indices)) (slotIndex (q .indices))
+            (p .«entrance_pupil_diameter_mm») (p .«surface_count») f g
+            (s .surfaces) (λ n i h l m. s .indices i _ m (slot-below (p .«slot_count») _ (kind-taken (p .«slot_count») f (ok .taken) n h) l))
+            (slots-known (p .«slot_count») (ok .slots) f (ok .taken)) (o .count) (o .operands)
             ∙ λ i. evaluationOf (surfaceAt (q .surfaces)) (slotIndex (q .indices)) (s .pupil i) (s .count i) g
         go (suc n) e = refl
 
@@ -77,7 +85,8 @@ module _ (p q : OpticalPrescription) (s : SameLens p q) where
     number-agrees : (rows : ℕ) → traceNumber p slot rows ≡ traceNumber q slot rows
     unfolding traceNumber
     number-agrees rows =
-        λ i. firstRefusal (refusal 1 (not (lensCountsTaken (s .count i) (s .slots i) && eqb rows (s .count i))) ∷ refusal 3 (not (lens-agrees i)) ∷ refusal 5 (not (ltb slot (s .slots i))) ∷ [])
+        λ i. firstRefusal (refusal 1 (not (lensCountsTaken (s .count i) (s .slots i)
+        && eqb rows (s .count i))) ∷ refusal 3 (not (lens-agrees i)) ∷ refusal 5 (not (ltb slot (s .slots i))) ∷ [])
 
     pub trace-answers-same : (rows : ℕ) → traceAnswer p slot rows ≡ traceAnswer q slot rows
     unfolding traceAnswer
@@ -89,7 +98,8 @@ module _ (p q : OpticalPrescription) (s : SameLens p q) where
         go : (a : Traced) → traceAnswer p slot (length old) ≡ a → tracedRow a (lensTrace p slot) old ≡ tracedRow a (lensTrace q slot) old
         go Done e =
             let there = done-traceable p slot (length old) e .there in
-            trace-same (surfaceAt (p .surfaces)) (surfaceAt (q .surfaces)) (slotIndex (p .indices) slot) (slotIndex (q .indices) slot) (p .«entrance_pupil_diameter_mm») (p .«surface_count») (s .surfaces) (λ i h. s .indices i slot h there)
+            trace-same (surfaceAt (p .surfaces)) (surfaceAt (q .surfaces)) (slotIndex (p .indices) slot) (slotIndex (q .indices) slot)
+            (p .«entrance_pupil_diameter_mm») (p .«surface_count») (s .surfaces) (λ i h. s .indices i slot h there)
             ∙ λ i. traceOf (surfaceAt (q .surfaces)) (slotIndex (q .indices) slot) (s .pupil i) (s .count i)
         go Failed e = refl
         go (Refused n) e = refl

@@ -40,7 +40,8 @@ of-same {i} {count} {x} {y} h = go (ltb i count) (ltb→lt i count)
     go false k = refl
 
 -- a value turns on the surfaces below the count alone
-module _ (earlier : List Float) (slot : ℕ → Paraxial) (surface surface′ : ℕ → OpticalSurface) (count : ℕ) (same : (i : ℕ) → i < count → surface i ≡ surface′ i) where
+module _ (earlier : List Float) (slot : ℕ → Paraxial) (surface surface′ : ℕ → OpticalSurface) (count : ℕ)
+    (same : (i : ℕ) → i < count → surface i ≡ surface′ i) where
   track-below : (n : ℕ) → n ≤ count → track surface n ≡ track surface′ n
   unfolding track
   track-below zero h = refl

@@ -21,7 +21,8 @@ use Rattle.normal.specs.declared.elimination.Solved.the-variants.{Yes, N
 use Rattle.normal.proofs.System.{system-stands, system-long, system-out}
 use Rattle.normal.proofs.Solving.{told-no, told-yes}
 
-module _ (p : ℕ) (damping : Float) (l l₁ l₂ : List Float) (most : p ≤ mostVariables) (enough : scratchLength ≤ length l) (laid : l₁ ≡ withSystem p damping p l) where
+module _ (p : ℕ) (damping : Float) (l l₁ l₂ : List Float) (most : p ≤ mostVariables) (enough : scratchLength ≤ length l)
+    (laid : l₁ ≡ withSystem p damping p l) where
   rest₁ : (x : ℕ) → Outside systemAt systemLength x → getD l₁ x nan ≡ getD l x nan
   rest₁ x o = ap (λ (y : List Float). getD y x nan) laid ∙ system-out p damping l most enough p (omega arith) x o
 
@@ -47,7 +48,9 @@ module _ (p : ℕ) (damping : Float) (l l₁ l₂ : List Float) (most : p ≤ mo
   }
     where
       none : (h : Matrix) (g : Vector) → Stands p l h g → stepFound p damping h g ≡ false
-      none h g s = ap (λ (b : Bool). b && allBelow (λ (k : ℕ). finiteOf (getD (stepOf p damping h g) k nan)) p) (told-no (solvable p (dampedSystem p damping h g)) (told No e h g s))
+      none h g s =
+          ap (λ (b : Bool). b && allBelow (λ (k : ℕ). finiteOf (getD (stepOf p damping h g) k nan)) p)
+          (told-no (solvable p (dampedSystem p damping h g)) (told No e h g s))
 
   module _ (r : Solved) (e : Solving p l₁ l₂ Yes) (test : r ≡ solvedIf (allBelow (λ (k : ℕ). finiteOf (getD l₂ (stepAt + k) nan)) p)) where
     has : (h : Matrix) (g : Vector) → Stands p l h g → solvable p (dampedSystem p damping h g) ≡ true
@@ -61,7 +64,8 @@ module _ (p : ℕ) (damping : Float) (l l₁ l₂ : List Float) (most : p ≤ mo
     unfolding stepFound
     found h g s =
         test
-        ∙ ap solvedIf (all-same (λ (k : ℕ). finiteOf (getD l₂ (stepAt + k) nan)) (λ (k : ℕ). finiteOf (getD (stepOf p damping h g) k nan)) p (λ k b. ap finiteOf (step-stands h g s k b)))
+        ∙ ap solvedIf (all-same (λ (k : ℕ). finiteOf (getD l₂ (stepAt + k) nan)) (λ (k : ℕ). finiteOf (getD (stepOf p damping h g) k nan)) p
+        (λ k b. ap finiteOf (step-stands h g s k b)))
         ∙ ap (λ (b : Bool). solvedIf (b && allBelow (λ (k : ℕ). finiteOf (getD (stepOf p damping h g) k nan)) p)) (sym (has h g s))
 
     pub attempt-some : Attempt p damping l l₂ r

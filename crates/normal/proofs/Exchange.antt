@@ -101,7 +101,8 @@ module _ (p c : ℕ) (l : List Float) where
       go : (b : Bool) → getD (cond b l (partsExchanged (systemPlace c c) (systemPlace best c) (p + 1 - c) l)) x nan ≡ getD l x nan
       go true = refl
       go false =
-          part-out (λ (z : ℕ). getD l (systemPlace c c + z) nan) (sets l (systemPlace c c) (partOf l (systemPlace best c) (p + 1 - c))) (systemPlace best c) (p + 1 - c) x nan (narrow best within o)
+          part-out (λ (z : ℕ). getD l (systemPlace c c + z) nan) (sets l (systemPlace c c) (partOf l (systemPlace best c) (p + 1 - c))) (systemPlace best c)
+          (p + 1 - c) x nan (narrow best within o)
           ∙ part-out (λ (z : ℕ). getD l (systemPlace best c + z) nan) l (systemPlace c c) (p + 1 - c) x nan (narrow c below o)
 
 -- ---- the rows that are read again
@@ -161,7 +162,8 @@ module _ (p c : ℕ) (l : List Float) (a : Matrix) (below : c < p) (most : p ≤
   unfolding pivotBrought pivoted
   brought-live = go (eqb (best p c l) c) refl
     where
-      go : (b : Bool) → eqb (best p c l) c ≡ b → Live p c (cond b l (partsExchanged (systemPlace c c) (systemPlace (best p c l) c) (p + 1 - c) l)) (exchanged c (pivotRow a c (p - suc c)) a)
+      go : (b : Bool) → eqb (best p c l) c ≡ b → Live p c (cond b l (partsExchanged (systemPlace c c) (systemPlace (best p c l) c) (p + 1 - c) l))
+          (exchanged c (pivotRow a c (p - suc c)) a)
       go true e i j hi hc hj = live i j hi hc hj ∙ sym (ap (λ (z : ℕ). exchanged c z a i j) (sym best-same ∙ eqb-true (best p c l) c e) ∙ exchange-self c a i j)
       go false e i j hi hc hj =
           let w = pivot-within (systemIn l) c (p - suc c) in

@@ -58,7 +58,9 @@ module _ (m : ℕ) (jacobian : Matrix) where
         go true t =
             let same = eqb-true (place a b) (place i j) t in
             ap (λ (x : ℕ). getD (withProduct m jacobian i j l) (productAt + x) nan) same ∙ product-new ∙ place-same m jacobian i j a b same
-        go false t = getD-set-other l (productAt + place i j) (productAt + place a b) (normalProduct m jacobian i j) nan (apart (eqb-false (place a b) (place i j) t)) ∙ e
+        go false t =
+            getD-set-other l (productAt + place i j) (productAt + place a b) (normalProduct m jacobian i j) nan (apart (eqb-false (place a b) (place i j) t))
+            ∙ e
 
     product-out : (x : ℕ) → productAt + productLength ≤ x → getD (withProduct m jacobian i j l) x nan ≡ getD l x nan
     unfolding withProduct
@@ -113,12 +115,16 @@ module _ (m p : ℕ) (jacobian : Matrix) (residuals : Vector) (l l' : List Float
   outside x o = ap (λ (y : List Float). getD y x nan) e ∙ part-out (gradientOf m jacobian residuals) (withProducts m jacobian p l) gradientAt p x nan o
 
   gradient-holds : (i : ℕ) → i < p → getD l' (gradientAt + i) nan ≡ gradientOf m jacobian residuals i
-  gradient-holds i b = ap (λ (y : List Float). getD y (gradientAt + i) nan) e ∙ part-in (gradientOf m jacobian residuals) (withProducts m jacobian p l) gradientAt p i nan b (rw (products-long m jacobian p l) (omega arith))
+  gradient-holds i b =
+      ap (λ (y : List Float). getD y (gradientAt + i) nan) e
+      ∙ part-in (gradientOf m jacobian residuals) (withProducts m jacobian p l) gradientAt p i nan b (rw (products-long m jacobian p l) (omega arith))
 
   pub equations : Equations m p jacobian residuals l l' r
   equations = record {
     stand = record {
-      product = λ i j hi hj. outside (productAt + place i j) (inl (omega (arith, place-below i j (omega arith) (omega arith)))) ∙ products-hold m jacobian l h p i j most hi hj;
+      product =
+          λ i j hi hj. outside (productAt + place i j) (inl (omega (arith, place-below i j (omega arith) (omega arith))))
+          ∙ products-hold m jacobian l h p i j most hi hj;
       gradient = gradient-holds;
     };
     norm = er ∙ norm-same p (gradientIn l') (gradientOf m jacobian residuals) gradient-holds;

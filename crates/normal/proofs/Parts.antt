@@ -15,7 +15,9 @@ module _ {A : Type 0} where
   -- a store outside a part, before the part is written or after
   pub set-sets : (vs l : List A) (at i : ℕ) (v : A) → (i < at) ⊎ (at + length vs ≤ i) → set (sets l at vs) i v ≡ sets (set l i v) at vs
   set-sets [] l at i v h = refl
-  set-sets (w ∷ vs) l at i v h = set-sets vs (set l at w) (suc at) i v (outside-rest at i (length vs) h) ∙ ap (λ (k : List A). sets k (suc at) vs) (set-comm l at i w v (λ e. outside-first at i (length vs) h (sym e)))
+  set-sets (w ∷ vs) l at i v h =
+      set-sets vs (set l at w) (suc at) i v (outside-rest at i (length vs) h)
+      ∙ ap (λ (k : List A). sets k (suc at) vs) (set-comm l at i w v (λ e. outside-first at i (length vs) h (sym e)))
 
   -- a part grows at its end, and at its front
   sets-snoc : (vs l : List A) (at : ℕ) (v : A) → set (sets l at vs) (at + length vs) v ≡ sets l at (vs ++ (v ∷ []))
@@ -32,7 +34,8 @@ module _ {A : Type 0} where
   pub part-step : (f : ℕ → A) (l p : List A) (at i x : ℕ) (v : A) → p ≡ sets l at (tab f i) → x ≡ at + i → v ≡ f i → set p x v ≡ sets l at (tab f (i + 1))
   unfolding tab
   part-step f l p at i x v e ex ev =
-      (λ k. set (e k) (ex k) (ev k)) ∙ rw add-one (ap (λ (n : ℕ). set (sets l at (tab f i)) (at + n) (f i)) (sym (length-tab f i)) ∙ sets-snoc (tab f i) l at (f i))
+      (λ k. set (e k) (ex k) (ev k)) ∙ rw add-one (ap (λ (n : ℕ). set (sets l at (tab f i)) (at + n) (f i)) (sym (length-tab f i))
+      ∙ sets-snoc (tab f i) l at (f i))
 
   -- what a part that is written by a rule holds, and what stands outside it
   pub part-in : (f : ℕ → A) (l : List A) (at n k : ℕ) (d : A) → k < n → at + n ≤ length l → getD (sets l at (tab f n)) (at + k) d ≡ f k
@@ -44,4 +47,5 @@ module _ {A : Type 0} where
   -- lists that agree from n on
   pub same-behind : (l l' : List A) (n : ℕ) (d : A) → length l' ≡ length l → ((x : ℕ) → n ≤ x → getD l' x d ≡ getD l x d) → drop n l' ≡ drop n l
   same-behind l l' n d e h =
-      ext-getD d (drop n l') (drop n l) (rw (length-drop n l', length-drop n l, e)) (λ i b. getD-drop n l' i d ∙ h (n + i) (omega arith) ∙ sym (getD-drop n l i d))
+      ext-getD d (drop n l') (drop n l) (rw (length-drop n l', length-drop n l, e))
+      (λ i b. getD-drop n l' i d ∙ h (n + i) (omega arith) ∙ sym (getD-drop n l i d))

@@ -29,7 +29,8 @@ reduced-below c a i j h = ap (λ (b : Bool). cond b (sub binary64 (a i j) (mul b
 
 module _ (p c r : ℕ) (pivot : Float) (l : List Float) where
   abbrev rule : ℕ → Float
-  rule k = sub binary64 (getD l (systemPlace r (c + 1) + k) nan) (mul binary64 (div binary64 (getD l (systemPlace r c) nan) pivot) (getD l (systemPlace c (c + 1) + k) nan))
+  rule k = sub binary64 (getD l (systemPlace r (c + 1) + k) nan)
+      (mul binary64 (div binary64 (getD l (systemPlace r c) nan) pivot) (getD l (systemPlace c (c + 1) + k) nan))
 
   pub row-long : length (rowReduced p c pivot r l) ≡ length l
   unfolding rowReduced
@@ -37,7 +38,8 @@ module _ (p c r : ℕ) (pivot : Float) (l : List Float) where
 
 -- what one row is, and that no other changes
 module _ (p c r : ℕ) (pivot : Float) (l : List Float) (upper : c < r) (below : r < p) (most : p ≤ 8) (long : scratchLength ≤ length l) where
-  row-in : (j : ℕ) → c < j → j ≤ p → getD (rowReduced p c pivot r l) (systemPlace r j) nan ≡ sub binary64 (getD l (systemPlace r j) nan) (mul binary64 (div binary64 (getD l (systemPlace r c) nan) pivot) (getD l (systemPlace c j) nan))
+  row-in : (j : ℕ) → c < j → j ≤ p → getD (rowReduced p c pivot r l) (systemPlace r j) nan
+      ≡ sub binary64 (getD l (systemPlace r j) nan) (mul binary64 (div binary64 (getD l (systemPlace r c) nan) pivot) (getD l (systemPlace c j) nan))
   unfolding rowReduced
   row-in j hc hj =
       let k = j - (c + 1) in
@@ -66,14 +68,17 @@ pub record Partly (p c n : ℕ) (l : List Float) (a : Matrix) : Type 0 where
   pub done : (i j : ℕ) → i < suc c + n → min i (suc c) ≤ j → j ≤ p → getD l (systemPlace i j) nan ≡ reduced c a i j
   pub left : (i j : ℕ) → suc c + n ≤ i → i < p → c ≤ j → j ≤ p → getD l (systemPlace i j) nan ≡ a i j
 
-module _ (p c n : ℕ) (q : List Float) (a : Matrix) (pivot : Float) (below : suc c + n < p) (most : p ≤ 8) (long : scratchLength ≤ length q) (is : pivot ≡ a c c) (w : Partly p c n q a) where
+module _ (p c n : ℕ) (q : List Float) (a : Matrix) (pivot : Float) (below : suc c + n < p) (most : p ≤ 8) (long : scratchLength ≤ length q) (is : pivot ≡ a c c)
+    (w : Partly p c n q a) where
   abbrev r : ℕ
   r = suc c + n
 
   here : (j : ℕ) → c < j → j ≤ p → getD (rowReduced p c pivot r q) (systemPlace r j) nan ≡ reduced c a r j
   here j hc hj =
       row-in p c r pivot q (omega arith) below most long j hc hj
-      ∙ (λ t. sub binary64 (w .left r j (omega arith) below (omega arith) hj t) (mul binary64 (div binary64 (w .left r c (omega arith) below (omega arith) (omega arith) t) (is t)) ((w .done c j (omega arith) (omega arith) hj ∙ reduced-above c a c j (omega arith)) t)))
+      ∙ (λ t. sub binary64 (w .left r j (omega arith) below (omega arith) hj t)
+      (mul binary64 (div binary64 (w .left r c (omega arith) below (omega arith) (omega arith) t) (is t))
+      ((w .done c j (omega arith) (omega arith) hj ∙ reduced-above c a c j (omega arith)) t)))
       ∙ sym (reduced-below c a r j (omega arith))
 
   other : (i j : ℕ) → j ≤ p → (i ≡ r → ⊥) → getD (rowReduced p c pivot r q) (systemPlace i j) nan ≡ getD q (systemPlace i j) nan
@@ -85,7 +90,8 @@ module _ (p c n : ℕ) (q : List Float) (a : Matrix) (pivot : Float) (below : su
     left = λ i j hr hi hc hj. other i j hj (omega arith) ∙ w .left i j (omega arith) hi hc hj;
   }
     where
-      go : (i j : ℕ) → i < suc c + suc n → min i (suc c) ≤ j → j ≤ p → (b : Bool) → eqb i r ≡ b → getD (rowReduced p c pivot r q) (systemPlace i j) nan ≡ reduced c a i j
+      go : (i j : ℕ) → i < suc c + suc n → min i (suc c) ≤ j → j ≤ p → (b : Bool) → eqb i r ≡ b → getD (rowReduced p c pivot r q) (systemPlace i j) nan
+          ≡ reduced c a i j
       go i j hi hc hj true e =
           let x = eqb-true i r e in
           ap (λ (z : ℕ). getD (rowReduced p c pivot r q) (systemPlace z j) nan) x ∙ here j (omega arith) hj ∙ ap (λ (z : ℕ). reduced c a z j) (sym x)
@@ -106,7 +112,8 @@ module _ (p c : ℕ) (l : List Float) (pivot : Float) (below : c < p) (most : p 
   pub rows-out : (n : ℕ) → suc c + n ≤ p → (x : ℕ) → Outside systemAt systemLength x → getD (rowsReduced p c pivot n l) x nan ≡ getD l x nan
   unfolding rowsReduced
   rows-out zero h x o = refl
-  rows-out (suc n) h x o = row-out p c (suc c + n) pivot (rowsReduced p c pivot n l) (omega arith) (omega arith) most (enough n) x (go o) ∙ rows-out n (omega arith) x o
+  rows-out (suc n) h x o =
+      row-out p c (suc c + n) pivot (rowsReduced p c pivot n l) (omega arith) (omega arith) most (enough n) x (go o) ∙ rows-out n (omega arith) x o
     where
       go : Outside systemAt systemLength x → Outside (systemPlace (suc c + n) (c + 1)) (p - c) x
       go (inl b) = inl (omega arith)

@@ -49,7 +49,8 @@ module _ (p : ℕ) (l l₁ : List Float) where
     stands a s k b =
         ap (λ (y : List Float). getD y (stepAt + k) nan) up
         ∙ getD-sets-in (unknowns p (systemIn l₁) p) l₁ stepAt k nan (rw count b) (rw (count, e .long) (omega arith))
-        ∙ ap (λ (xs : List Float). getD xs k nan) (unknowns-same p (systemIn l₁) (eliminated p a p) (λ i j hi hd hj. e .done a (live a s) refl i j hi (omega arith) hj) p (omega arith))
+        ∙ ap (λ (xs : List Float). getD xs k nan) (unknowns-same p (systemIn l₁) (eliminated p a p) (λ i j hi hd hj. e .done a (live a s) refl i j hi
+        (omega arith) hj) p (omega arith))
 
     pub solve-some : Solving p l l₂ Yes
     solve-some = record {

@@ -54,7 +54,8 @@ module _ (p c : ℕ) (l₀ l b : List Float) (pivot : Float) (s : Stage p c l₀
   rest-b x o = ap (λ (y : List Float). getD y x nan) brought ∙ brought-out p c l below most x o ∙ s .rest x o
 
   live-b : (a : Matrix) → Live p 0 l₀ a → Live p c b (pivoted p c (eliminated p a c))
-  live-b a h i j hi hc hj = ap (λ (y : List Float). getD y (systemPlace i j) nan) brought ∙ brought-live p c l (eliminated p a c) below most room (s .live a h) i j hi hc hj
+  live-b a h i j hi hc hj =
+      ap (λ (y : List Float). getD y (systemPlace i j) nan) brought ∙ brought-live p c l (eliminated p a c) below most room (s .live a h) i j hi hc hj
 
   pivot-is : (a : Matrix) → Live p 0 l₀ a → pivot ≡ pivotOf p a c
   unfolding pivotOf
@@ -63,7 +64,8 @@ module _ (p c : ℕ) (l₀ l b : List Float) (pivot : Float) (s : Stage p c l₀
   pub stage-stop : eq pivot zero64 ≡ true → Eliminated p l₀ b No
   unfolding solvable
   stage-stop z = record {
-    answer = λ a h. ap solvedIf (sym (not-all (λ (k : ℕ). not (eq (pivotOf p a k) zero64)) p c below (ap (λ (x : Float). not (eq x zero64)) (sym (pivot-is a h)) ∙ ap not z)));
+    answer = λ a h. ap solvedIf (sym (not-all (λ (k : ℕ). not (eq (pivotOf p a k) zero64)) p c below (ap (λ (x : Float). not (eq x zero64)) (sym (pivot-is a h))
+        ∙ ap not z)));
     done = λ a h e. absurd (no-yes e);
     long = long-b;
     rest = rest-b;
@@ -76,7 +78,8 @@ module _ (p c : ℕ) (l₀ l b : List Float) (pivot : Float) (s : Stage p c l₀
         ap (λ (y : List Float). getD y (systemPlace i j) nan) e
         ∙ reduced-live p c b pivot below most (rw long-b enough) (pivoted p c (eliminated p a c)) (live-b a h) (pivot-is a h) i j hi (omega arith) hj
         ∙ ap (λ (n : ℕ). eliminated p a n i j) (sym (add-one c));
-    pivots = λ a h. all-more (λ (k : ℕ). not (eq (pivotOf p a k) zero64)) c (s .pivots a h) (ap (λ (x : Float). not (eq x zero64)) (sym (pivot-is a h)) ∙ ap not z);
+    pivots = λ a h. all-more (λ (k : ℕ). not (eq (pivotOf p a k) zero64)) c (s .pivots a h)
+        (ap (λ (x : Float). not (eq x zero64)) (sym (pivot-is a h)) ∙ ap not z);
     long = ap length e ∙ rows-long p c b pivot below most (rw long-b enough) (p - suc c) ∙ long-b;
     rest = λ x o. ap (λ (y : List Float). getD y x nan) e ∙ rows-out p c b pivot below most (rw long-b enough) (p - suc c) (omega arith) x o ∙ rest-b x o;
   }

@@ -25,12 +25,15 @@ sum-step f s x k e h = rw (add-one, e, h)
 -- the product matrix is symmetric to the bit
 pub symmetric : (m : ℕ) (jacobian : Matrix) (i j : ℕ) → normalProduct m jacobian i j ≡ normalProduct m jacobian j i
 unfolding normalProduct
-symmetric m jacobian i j = sum-same (λ (k : ℕ). mul binary64 (jacobian k i) (jacobian k j)) (λ (k : ℕ). mul binary64 (jacobian k j) (jacobian k i)) m (λ k b. mul-either binary64 (jacobian k i) (jacobian k j))
+symmetric m jacobian i j =
+    sum-same (λ (k : ℕ). mul binary64 (jacobian k i) (jacobian k j)) (λ (k : ℕ). mul binary64 (jacobian k j) (jacobian k i)) m
+    (λ k b. mul-either binary64 (jacobian k i) (jacobian k j))
 
 -- the norm goes by the first p
 pub norm-same : (p : ℕ) (v w : Vector) → ((k : ℕ) → k < p → v k ≡ w k) → normOf p v ≡ normOf p w
 unfolding normOf
-norm-same p v w h = ap sqrtOf (sum-same (λ (k : ℕ). mul binary64 (v k) (v k)) (λ (k : ℕ). mul binary64 (w k) (w k)) p (λ k b. λ i. mul binary64 (h k b i) (h k b i)))
+norm-same p v w h =
+    ap sqrtOf (sum-same (λ (k : ℕ). mul binary64 (v k) (v k)) (λ (k : ℕ). mul binary64 (w k) (w k)) p (λ k b. λ i. mul binary64 (h k b i) (h k b i)))
 
 -- an entry of a column of the flat Jacobian, counted from the column's first
 pub column-entry : (jacobian : List Float) (first k q : ℕ) → first ≡ jacobianPlace 0 q → getD jacobian (first + k) nan ≡ jacobianAt jacobian k q

@@ -38,7 +38,8 @@ module _ (p : ℕ) (damping : Float) (h : Matrix) (g : Vector) (i j : ℕ) where
   other-entry n e = ap (λ (b : Bool). cond b (dampedDiagonal damping (h i j)) (h i j)) (sym (ne-eqb i j e)) ∙ inside n
 
   -- the entry goes by the matrix within its columns, and by the gradient
-  pub system-same : (h' : Matrix) (g' : Vector) → j ≤ p → (j < p → h i j ≡ h' i j) → g i ≡ g' i → dampedSystem p damping h g i j ≡ dampedSystem p damping h' g' i j
+  pub system-same : (h' : Matrix) (g' : Vector) → j ≤ p → (j < p → h i j ≡ h' i j) → g i ≡ g' i → dampedSystem p damping h g i j
+      ≡ dampedSystem p damping h' g' i j
   unfolding dampedSystem damped
   system-same h' g' b eh eg = go (eqb j p) refl
     where
@@ -55,16 +56,20 @@ pub row-turn : (l q : List Float) (p i j first : ℕ) (damping v : Float) → i 
     → set q (first + j) v ≡ sets l (systemPlace i 0) (tab (dampedSystem p damping (productIn l) (gradientIn l) i) (j + 1))
 row-turn l q p i j first damping v hi hj hp ef e ev =
     let f : Vector = dampedSystem p damping (productIn l) (gradientIn l) i in
-    let out : (x : ℕ) → Outside (systemPlace i 0) j x → getD q x nan ≡ getD l x nan = λ x o. ap (λ (y : List Float). getD y x nan) e ∙ part-out f l (systemPlace i 0) j x nan o in
+    let out : (x : ℕ) → Outside (systemPlace i 0) j x → getD q x nan ≡ getD l x nan =
+    λ x o. ap (λ (y : List Float). getD y x nan) e ∙ part-out f l (systemPlace i 0) j x nan o in
     part-step f l q (systemPlace i 0) j (first + j) v e (ap (λ (x : ℕ). x + j) ef)
-    (ev ∙ system-same p damping (productIn q) (gradientIn q) i j (productIn l) (gradientIn l) hj (λ b. out (productAt + place i j) (inl (omega (arith, place-below i j (omega arith) (omega arith))))) (out (gradientAt + i) (inr (omega arith))))
+    (ev ∙ system-same p damping (productIn q) (gradientIn q) i j (productIn l) (gradientIn l) hj
+    (λ b. out (productAt + place i j) (inl (omega (arith, place-below i j (omega arith) (omega arith))))) (out (gradientAt + i) (inr (omega arith))))
 
 -- ---- the rows that are laid out
 module _ (p : ℕ) (damping : Float) (l : List Float) (most : p ≤ 8) (long : scratchLength ≤ length l) where
   pub system-long : (n : ℕ) → length (withSystem p damping n l) ≡ length l
   unfolding withSystem withSystemRow
   system-long zero = refl
-  system-long (suc n) = length-sets (withSystem p damping n l) (systemPlace n 0) (tab (dampedSystem p damping (productIn (withSystem p damping n l)) (gradientIn (withSystem p damping n l)) n) (p + 1)) ∙ system-long n
+  system-long (suc n) =
+      length-sets (withSystem p damping n l) (systemPlace n 0)
+      (tab (dampedSystem p damping (productIn (withSystem p damping n l)) (gradientIn (withSystem p damping n l)) n) (p + 1)) ∙ system-long n
 
   pub system-out : (n : ℕ) → n ≤ p → (x : ℕ) → Outside systemAt systemLength x → getD (withSystem p damping n l) x nan ≡ getD l x nan
   unfolding withSystem withSystemRow
@@ -82,7 +87,8 @@ module _ (p : ℕ) (damping : Float) (l : List Float) (most : p ≤ 8) (long : s
     unfolding withSystem withSystemRow
     system-holds zero hn i j hi hj = absurd (not-suc-le-zero hi)
     system-holds (suc n) hn i j hi hj = elim (eq-or-lt-of-le (le-of-suc-le-suc hi)) [
-      | inl e ↦ ap (λ (z : ℕ). getD (sets q (systemPlace n 0) (tab f (p + 1))) (systemPlace z j) nan) e ∙ last ∙ ap (λ (z : ℕ). dampedSystem p damping h g z j) (sym e)
+      | inl e ↦ ap (λ (z : ℕ). getD (sets q (systemPlace n 0) (tab f (p + 1))) (systemPlace z j) nan) e ∙ last
+          ∙ ap (λ (z : ℕ). dampedSystem p damping h g z j) (sym e)
       | inr b ↦ part-out f q (systemPlace n 0) (p + 1) (systemPlace i j) nan (inl (omega arith)) ∙ system-holds n (omega arith) i j b hj
     ]
       where
@@ -99,7 +105,9 @@ module _ (p : ℕ) (damping : Float) (l : List Float) (most : p ≤ 8) (long : s
         last =
             ap (λ (z : ℕ). getD (sets q (systemPlace n 0) (tab f (p + 1))) z nan) at
             ∙ part-in f q (systemPlace n 0) (p + 1) j nan (omega arith) (rw (system-long n) (omega arith))
-            ∙ system-same p damping (productIn q) (gradientIn q) n j h g hj (λ b. system-out n (omega arith) (productAt + place n j) (inl (omega (arith, place-below n j (omega arith) (omega arith)))) ∙ stands .product n j hn b) (system-out n (omega arith) (gradientAt + n) (inr (omega arith)) ∙ stands .gradient n hn)
+            ∙ system-same p damping (productIn q) (gradientIn q) n j h g hj
+            (λ b. system-out n (omega arith) (productAt + place n j) (inl (omega (arith, place-below n j (omega arith) (omega arith))))
+            ∙ stands .product n j hn b) (system-out n (omega arith) (gradientAt + n) (inr (omega arith)) ∙ stands .gradient n hn)
 
     pub system-stands : SystemStands p (withSystem p damping p l) (dampedSystem p damping h g)
     system-stands i j hi hj = system-holds p (omega arith) i j hi hj

@@ -85,7 +85,8 @@ fn gradient<'a>(
     p: usize,
 )
     requires { ⌜ scratchLength ≤ length (now scratch) ⌝ ∗ ⌜ m ≤ mostOperands ⌝ ∗ ⌜ p ≤ mostVariables ⌝ }
-    ensures { λ r. ⌜ now (scratch .exit) ≡ withGradient m (jacobianAt (now (jacobian .entry))) (residualAt (now (residuals .entry))) p (now (scratch .entry)) ⌝ }
+    ensures { λ r. ⌜ now (scratch .exit)
+        ≡ withGradient m (jacobianAt (now (jacobian .entry))) (residualAt (now (residuals .entry))) p (now (scratch .entry)) ⌝ }
 {
     let mut i: usize = 0;
     while i < p {

@@ -81,7 +81,12 @@ surface-parts s t =
     let d = aboveZeroUpTo billion (s .«semi_diameter_mm») in
     let rcw = and-l (r && c && w) d t in
     let rc = and-l (r && c) w rcw in
-    record { radius = and-l r c rc; conic = finite-test (s .«conic_constant») (and-r r c rc); thickness = and-r (r && c) w rcw; semiDiameter = and-r (r && c && w) d t }
+    record {
+      radius = and-l r c rc;
+      conic = finite-test (s .«conic_constant») (and-r r c rc);
+      thickness = and-r (r && c) w rcw;
+      semiDiameter = and-r (r && c && w) d t;
+    }
 
 pub surface-from : (s : OpticalSurface) → SurfaceTaken s → T (surfaceTaken s)
 unfolding surfaceTaken
@@ -108,7 +113,8 @@ lens-parts p t =
     record {
       pupil = and-l a b (and-l (a && b) c t);
       surfaces = λ i h. all-at (λ (i : ℕ). surfaceTaken (surfaceAt (p .surfaces) i)) (p .«surface_count») i (and-r a b (and-l (a && b) c t)) h;
-      indices = λ i w h l. all-at (row i) (p .«slot_count») w (all-at (rowTaken (p .indices) (p .«slot_count»)) (p .«surface_count») i (and-r (a && b) c t) h) l;
+      indices =
+          λ i w h l. all-at (row i) (p .«slot_count») w (all-at (rowTaken (p .indices) (p .«slot_count»)) (p .«surface_count») i (and-r (a && b) c t) h) l;
     }
 
 pub lens-from : (p : OpticalPrescription) → LensTaken p → T (lensTaken p)

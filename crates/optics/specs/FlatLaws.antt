@@ -24,7 +24,13 @@ length-laid surfaces (suc n) = rw (length-append, length-laid surfaces n) (more 
 -- the numbers of a surface, behind a part of four for each surface before it
 pub flat-at : (p rest : List Float) (n : ℕ) (s : OpticalSurface) → length p ≡ 4 * n → flatSurface (p ++ (numbersOf s ++ rest)) n ≡ s
 flat-at p rest n s e =
-    λ i. record { «radius_mm» = (ap (λ (k : ℕ). getD (p ++ (numbersOf s ++ rest)) k nan) (sym e ∙ sym (add-zero (length p))) ∙ at 0) i; «conic_constant» = field 1 i; «thickness_mm» = field 2 i; «semi_diameter_mm» = field 3 i }
+    λ i. record {
+      «radius_mm» = (ap (λ (k : ℕ). getD (p ++ (numbersOf s ++ rest)) k nan) (sym e ∙ sym (add-zero (length p)))
+          ∙ at 0) i;
+      «conic_constant» = field 1 i;
+      «thickness_mm» = field 2 i;
+      «semi_diameter_mm» = field 3 i;
+    }
   where
     at : (j : ℕ) → getD (p ++ (numbersOf s ++ rest)) (length p + j) nan ≡ getD (numbersOf s ++ rest) j nan
     at j = getD-append-add p (numbersOf s ++ rest) j nan
@@ -40,14 +46,16 @@ flat-laid surfaces zero rest i h = absurd (no i h)
     no : (i : ℕ) → i < 0 → ⊥
     no i h = omega arith
 flat-laid surfaces (suc n) rest i h =
-    ap (λ (l : List Float). flatSurface l i) (append-assoc (laidFlat surfaces n) (numbersOf (surfaceAt surfaces n)) rest) ∙ elim (eq-or-lt-of-le (le-of-suc-le-suc h)) [
+    ap (λ (l : List Float). flatSurface l i) (append-assoc (laidFlat surfaces n) (numbersOf (surfaceAt surfaces n)) rest)
+    ∙ elim (eq-or-lt-of-le (le-of-suc-le-suc h)) [
       | inl e ↦ rw e (flat-at (laidFlat surfaces n) rest n (surfaceAt surfaces n) (length-laid surfaces n))
       | inr l ↦ flat-laid surfaces n (numbersOf (surfaceAt surfaces n) ++ rest) i l
     ]
 
 -- four stores write the numbers of a surface
 pub four-stored : (l : List Float) (i : ℕ) (s : OpticalSurface)
-    → set (set (set (set l i (s .«radius_mm»)) (i + 1) (s .«conic_constant»)) (i + 2) (s .«thickness_mm»)) (i + 3) (s .«semi_diameter_mm») ≡ sets l i (numbersOf s)
+    → set (set (set (set l i (s .«radius_mm»)) (i + 1) (s .«conic_constant»)) (i + 2) (s .«thickness_mm»)) (i + 3) (s .«semi_diameter_mm»)
+    ≡ sets l i (numbersOf s)
 four-stored l i s =
     λ j. set (set (set (set l i (s .«radius_mm»)) (add-one i j) (s .«conic_constant»)) (two i j) (s .«thickness_mm»)) (three i j) (s .«semi_diameter_mm»)
   where
@@ -59,7 +67,8 @@ four-stored l i s =
 
 -- four stores make the laid part longer by one surface
 pub laid-more : (surfaces : List OpticalSurface) (l p : List Float) (k : ℕ) → p ≡ laidFlat surfaces k ++ drop (4 * k) l → 4 * k + 4 ≤ length l
-    → set (set (set (set p (4 * k) (surfaceAt surfaces k .«radius_mm»)) (4 * k + 1) (surfaceAt surfaces k .«conic_constant»)) (4 * k + 2) (surfaceAt surfaces k .«thickness_mm»)) (4 * k + 3) (surfaceAt surfaces k .«semi_diameter_mm»)
+    → set (set (set (set p (4 * k) (surfaceAt surfaces k .«radius_mm»)) (4 * k + 1) (surfaceAt surfaces k .«conic_constant»)) (4 * k + 2)
+    (surfaceAt surfaces k .«thickness_mm»)) (4 * k + 3) (surfaceAt surfaces k .«semi_diameter_mm»)
     ≡ laidFlat surfaces (k + 1) ++ drop (4 * (k + 1)) l
 unfolding laidFlat
 laid-more surfaces l p k e h = rw e (four-stored (q ++ drop i l) i s ∙ sets-eq (numbersOf s) (q ++ drop i l) i room ∙ parts ∙ rw add-one)

@@ -32,7 +32,8 @@ module _ (surface : ℕ → OpticalSurface) (index : ℕ → Float) (pupil : Flo
 
 -- ---- heights and slopes make the trace
 pub rays-are : (surface : ℕ → OpticalSurface) (index : ℕ → Float) (pupil : Float) (count : ℕ) (hs us : List Float)
-    → raysOf (tab (λ (k : ℕ). rayAt surface index pupil k .y) count ++ hs) (tab (λ (k : ℕ). rayAt surface index pupil k .u) count ++ us) count ≡ traceOf surface index pupil count
+    → raysOf (tab (λ (k : ℕ). rayAt surface index pupil k .y) count ++ hs) (tab (λ (k : ℕ). rayAt surface index pupil k .u) count ++ us) count
+    ≡ traceOf surface index pupil count
 rays-are surface index pupil count hs us =
     tab-same _ _ count (λ k h. λ i. rayOf (at (λ (k : ℕ). rayAt surface index pupil k .y) hs k h i) (at (λ (k : ℕ). rayAt surface index pupil k .u) us k h i))
   where
@@ -40,7 +41,8 @@ rays-are surface index pupil count hs us =
     at f l k h = List·getD-append (tab f count) l nan k (rw (length-tab f count) h) ∙ getD-tab f count k nan h
 
 -- ---- two lenses that agree below a count
-module _ (surface surface′ : ℕ → OpticalSurface) (index index′ : ℕ → Float) (pupil : Float) (count : ℕ) (same : (i : ℕ) → i < count → surface i ≡ surface′ i) (alike : (i : ℕ) → i < count → index i ≡ index′ i) where
+module _ (surface surface′ : ℕ → OpticalSurface) (index index′ : ℕ → Float) (pupil : Float) (count : ℕ) (same : (i : ℕ) → i < count → surface i ≡ surface′ i)
+    (alike : (i : ℕ) → i < count → index i ≡ index′ i) where
   pub arriving-same : (k : ℕ) → k ≤ count → arriving surface index pupil k ≡ arriving surface′ index′ pupil k
   unfolding arriving
   arriving-same zero h = refl
@@ -57,7 +59,8 @@ module _ (surface surface′ : ℕ → OpticalSurface) (index index′ : ℕ →
       let p : count - 2 < count = omega arith in
       let q : count - 1 < count = omega arith in
       let detector : endsInDetector surface index count ≡ endsInDetector surface′ index′ count =
-      λ i. negligible (sub binary64 (alike (count - 2) p i) (alike (count - 1) q i)) && negligible (curvature (same (count - 1) q i .«radius_mm»)) && eq (same (count - 1) q i .«thickness_mm») zero64
+      λ i. negligible (sub binary64 (alike (count - 2) p i) (alike (count - 1) q i)) && negligible (curvature (same (count - 1) q i .«radius_mm»))
+      && eq (same (count - 1) q i .«thickness_mm») zero64
       in
       λ i. propertiesFrom (start pupil .y) pupil (ray-same (count - 1) q i) (cond (detector i) (ray-same (count - 2) p i) (ray-same (count - 1) q i))
 

@@ -75,7 +75,8 @@ pub fn trace_heights(
     heights: &mut [f64],
     slopes: &mut [f64],
 )
-    requires { ⌜ (slot < 4) × (4 * count ≤ length (now flat)) × (4 * count ≤ length (now indices)) × (count ≤ length (now heights)) × (count ≤ length (now slopes)) ⌝ }
+    requires { ⌜ (slot < 4) × (4 * count ≤ length (now flat)) × (4 * count ≤ length (now indices)) × (count ≤ length (now heights))
+        × (count ≤ length (now slopes)) ⌝ }
     ensures { λ _.
         ⌜ now (heights .exit) ≡ tab (λ (k : ℕ). rayAt (flatSurface (now (flat .entry))) (slotIndex (now (indices .entry)) slot) pupil k .y) count
         ++ drop count (now (heights .entry)) ⌝ }

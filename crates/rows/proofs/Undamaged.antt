@@ -45,7 +45,9 @@ unless false below e t = t
 module _ (r : Row) (ok : damaged r ≡ false) where
   pub job-taken : jobTaken (jobOfRow r) ≡ true
   unfolding jobSound
-  job-taken = is-true (jobTaken (jobOfRow r)) (and-l (jobTaken (jobOfRow r)) (knownKinds (r .job)) (and-r (isKind (r .kind)) (recordTaken (r .kind) (r .job)) (parts r ok .0)))
+  job-taken =
+      is-true (jobTaken (jobOfRow r)) (and-l (jobTaken (jobOfRow r)) (knownKinds (r .job)) (and-r (isKind (r .kind)) (recordTaken (r .kind) (r .job))
+      (parts r ok .0)))
 
   within : Within (jobOfRow r)
   within = taken-within (jobOfRow r) job-taken

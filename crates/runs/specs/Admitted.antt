@@ -46,7 +46,8 @@ module _ (job : Job) (taken : jobTaken job ≡ true) where
   unfolding appliedTo
   applied-to-rest values x i zero h l = refl
   applied-to-rest values x i (suc n) h l =
-      getD-set-other (appliedTo v values x n) (surfaceIndex (activeAt v n .«var_type»)) i _ noSurface (apart (surfaceIndex (activeAt v n .«var_type»)) (active-taken count v (passed job taken .variables) n h .present))
+      getD-set-other (appliedTo v values x n) (surfaceIndex (activeAt v n .«var_type»)) i _ noSurface
+      (apart (surfaceIndex (activeAt v n .«var_type»)) (active-taken count v (passed job taken .variables) n h .present))
       ∙ applied-to-rest values x i n (omega arith) l
     where
       apart : (k : ℕ) → k < count → i ≢ k

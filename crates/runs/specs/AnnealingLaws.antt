@@ -110,7 +110,8 @@ module _ (a : Annealer) where
       advanced-is (polisher a) (λ (d : DampedState). phaseOf (d .phase) ≡ polishing) (λ s j q. refl) (λ s j q r. refl) (λ s j k c. refl) (λ c s. refl)
 
   resumes-polishing : (s : State) (d : DampedState) → phaseOf (d .phase) ≡ polishing →
-      resumption a (withDamped s d) ≡ bind (Damped′.resumption (polisher a) d) (λ (result : OptimizationResult). done (withPrior a (s .best .«initial_merit») result))
+      resumption a (withDamped s d) ≡ bind (Damped′.resumption (polisher a) d)
+      (λ (result : OptimizationResult). done (withPrior a (s .best .«initial_merit») result))
   unfolding resumption resumptionAt
   resumes-polishing s d h = ap (λ (f : Phase). resumptionAt a f (withDamped s d)) h
 
@@ -118,13 +119,17 @@ module _ (a : Annealer) where
   goes-on-at : (f : Phase) (s : State) → finishedAt f s ≡ false → resumptionAt a f s ≡ ask (pendingAt a f s) λ e. resumption a (advanceAt a f s e)
   unfolding resumptionAt pendingAt advanceAt finishedAt
   goes-on-at walkFirst s h =
-      ap (ask (s .damped .surfaces)) (fun-ext λ e. sym (resumes-cycles (isCycle a 0) (e .«total_merit») (started a (s .damped .surfaces) e) 0 refl ∙ ap (λ (n : ℕ). bind (cycles a n (started a (s .damped .surfaces) e)) (polished a (e .«total_merit»))) (sub-zero cycleCount)))
+      ap (ask (s .damped .surfaces)) (fun-ext λ e. sym (resumes-cycles (isCycle a 0) (e .«total_merit») (started a (s .damped .surfaces) e) 0 refl
+      ∙ ap (λ (n : ℕ). bind (cycles a n (started a (s .damped .surfaces) e)) (polished a (e .«total_merit»))) (sub-zero cycleCount)))
   goes-on-at walk s h =
-      ap (ask (trialPresc a (s .damped .candidate) (walkOf s))) (fun-ext λ e. sym (resumes-steps (ltb (suc (s .step)) stepCount) (s .best .«initial_merit») (judged a (s .damped .candidate) e (walkOf s)) (s .cycle) (suc (s .step)) refl))
+      ap (ask (trialPresc a (s .damped .candidate) (walkOf s)))
+      (fun-ext λ e. sym (resumes-steps (ltb (suc (s .step)) stepCount) (s .best .«initial_merit») (judged a (s .damped .candidate) e (walkOf s)) (s .cycle)
+      (suc (s .step)) refl))
   goes-on-at polishing s h =
       let d = s .damped in
       let o = polisher a in
-      ap (λ (r : Run OptimizationResult). bind r (λ (result : OptimizationResult). done (withPrior a (s .best .«initial_merit») result))) (DampedLaws.goes-on o d h)
+      ap (λ (r : Run OptimizationResult). bind r (λ (result : OptimizationResult). done (withPrior a (s .best .«initial_merit») result)))
+      (DampedLaws.goes-on o d h)
       ∙ unfold bind in ap (ask (Damped.pending o d)) (fun-ext λ e. sym (resumes-polishing s (Damped.advance o d e) (stays-polishing d e h)))
 
   pub goes-on : (s : State) → isFinished s ≡ false → resumption a s ≡ ask (pending a s) λ e. resumption a (advance a s e)
@@ -137,7 +142,8 @@ module _ (a : Annealer) where
   ends-at walkFirst s h = absurd (true≢false (sym h))
   ends-at walk s h = absurd (true≢false (sym h))
   ends-at polishing s h =
-      ap (λ (r : Run OptimizationResult). bind r (λ (result : OptimizationResult). done (withPrior a (s .best .«initial_merit») result))) (DampedLaws.ends (polisher a) (s .damped) h)
+      ap (λ (r : Run OptimizationResult). bind r (λ (result : OptimizationResult). done (withPrior a (s .best .«initial_merit») result)))
+      (DampedLaws.ends (polisher a) (s .damped) h)
 
   pub ends : (s : State) → isFinished s ≡ true → resumption a s ≡ done (resultOf a s)
   unfolding resumption isFinished

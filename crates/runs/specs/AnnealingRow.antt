@@ -106,7 +106,8 @@ module _ (a : Annealer) where
   unfoldable pub advanceAt : Phase → State → MeritEvaluation → State
   advanceAt walkFirst s e = resumeCycles (isCycle 0) (e .«total_merit») (started a (s .damped .surfaces) e) 0
   advanceAt walk s e =
-      resumeSteps (ltb (suc (s .step)) (a .config .«steps_per_temperature»)) (s .best .«initial_merit») (judged a (s .damped .candidate) e (walkOf s)) (s .cycle) (suc (s .step))
+      resumeSteps (ltb (suc (s .step)) (a .config .«steps_per_temperature»)) (s .best .«initial_merit») (judged a (s .damped .candidate) e (walkOf s))
+      (s .cycle) (suc (s .step))
   advanceAt polishing s e = withDamped s (Damped.advance (polisher a) (s .damped) e)
 
   unfoldable pub pending : State → Surfaces

@@ -65,7 +65,8 @@ polish-four (suc (suc (suc (suc (suc (suc (suc n))))))) h l = absurd (no n l)
     no n l = omega arith
 
 module _ (job : Job)
-    (applies : (values : List Float) (x : Surfaces) → T (surfacesTaken x (job .prescription .«surface_count»)) → T (surfacesTaken (applied (job .variables) values x) (job .prescription .«surface_count»)))
+    (applies : (values : List Float) (x : Surfaces) → T (surfacesTaken x (job .prescription .«surface_count»))
+    → T (surfacesTaken (applied (job .variables) values x) (job .prescription .«surface_count»)))
     (config : SimulatedAnnealingConfig) where
   abbrev Taken : Surfaces → Type 0
   Taken x = T (surfacesTaken x (job .prescription .«surface_count»))
@@ -144,13 +145,23 @@ module _ (job : Job)
       → Sound m job (advanceAt (annealerOf job config) f s e)
   unfolding advanceAt finishedAt
   advanced-sound walkFirst s e g u h =
-      cycles-sound (isCycle (annealerOf job config) 0) (e .«total_merit») (started (annealerOf job config) (s .damped .surfaces) e) 0 refl (above-zero (s .damped .column) p (h .columnBelow)) (h .current tt, h .current tt)
+      cycles-sound (isCycle (annealerOf job config) 0) (e .«total_merit») (started (annealerOf job config) (s .damped .surfaces) e) 0 refl
+      (above-zero (s .damped .column) p (h .columnBelow)) (h .current tt, h .current tt)
   advanced-sound walk s e g u h =
       let six : s .damped .phase ≡ 6 = walk-six (s .damped .phase) (ap isWalk g) in
-      steps-sound (ltb (suc (s .step)) stepCount) (s .best .«initial_merit») (judged (annealerOf job config) (s .damped .candidate) e (walkOf s)) (s .cycle) (suc (s .step)) refl (above-zero (s .damped .column) p (h .columnBelow)) (h .cycleBelow)
-      (sound-judged (annealerOf job config) Taken tries (s .damped .candidate) e (walkOf s) (h .current tt, h .best (subst (λ (n : ℕ). T (eqb n 6)) (sym six) tt)))
+      steps-sound (ltb (suc (s .step)) stepCount) (s .best .«initial_merit») (judged (annealerOf job config) (s .damped .candidate) e (walkOf s)) (s .cycle)
+      (suc (s .step)) refl (above-zero (s .damped .column) p (h .columnBelow)) (h .cycleBelow)
+      (sound-judged (annealerOf job config) Taken tries (s .damped .candidate) e (walkOf s)
+      (h .current tt, h .best (subst (λ (n : ℕ). T (eqb n 6)) (sym six) tt)))
   advanced-sound polishing s e g u h =
-      let before : DampedSound.Sound (polisher (annealerOf job config)) Taken applies (s .damped) = record { isPhase = polish-four (s .damped .phase) (ap isPolish g) (h .phaseUpTo); taken = h .current tt; columnBelow = h .columnBelow; attemptUpTo = h .attemptUpTo; iterationUpTo = h .iterationUpTo } in
+      let before : DampedSound.Sound (polisher (annealerOf job config)) Taken applies (s .damped) =
+      record {
+        isPhase = polish-four (s .damped .phase) (ap isPolish g) (h .phaseUpTo);
+        taken = h .current tt;
+        columnBelow = h .columnBelow;
+        attemptUpTo = h .attemptUpTo;
+        iterationUpTo = h .iterationUpTo;
+      } in
       let d = DampedSound.sound-advance (polisher (annealerOf job config)) Taken applies (s .damped) e u before in
       record {
         phaseUpTo = omega (arith, d .isPhase);

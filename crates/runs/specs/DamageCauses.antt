@@ -95,8 +95,11 @@ module _ (r : Row) where
   kinds : T (jobSound r) → T (isKind (r .kind)) × T (jobTaken (jobOfRow r)) × T (knownKinds (r .job))
   unfolding jobSound
   kinds h =
-      let k = and-r (isKind (r .kind)) (recordTaken (r .kind) (r .job)) h in
-      (and-l (isKind (r .kind)) (recordTaken (r .kind) (r .job)) h, and-l (jobTaken (jobOfRow r)) (knownKinds (r .job)) k, and-r (jobTaken (jobOfRow r)) (knownKinds (r .job)) k)
+      let k = and-r (isKind (r .kind)) (recordTaken (r .kind) (r .job)) h in (
+        and-l (isKind (r .kind)) (recordTaken (r .kind) (r .job)) h,
+        and-l (jobTaken (jobOfRow r)) (knownKinds (r .job)) k,
+        and-r (jobTaken (jobOfRow r)) (knownKinds (r .job)) k,
+      )
 
   unfinished : isFinished r ≡ false → T (turnsSound r) → r .turns < bound (jobOfRow r)
   unfolding turnsSound

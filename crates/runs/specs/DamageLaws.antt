@@ -138,7 +138,8 @@ admitted-sound : (job : Job) → ReadBack job → Usable job → T (recordTaken 
 unfolding admitted jobSound
 admitted-sound job back k taken = (
   and-i (isKind (kindOf job)) (recordTaken (kindOf job) (recordOf job)) (kind-is job) taken,
-  subst (λ (j : Job). T (stateSound (j .method) j (began (job .method) job))) (sym back) (sound-to (job .method) job (began (job .method) job) (sound-began (job .method) job k)),
+  subst (λ (j : Job). T (stateSound (j .method) j (began (job .method) job))) (sym back)
+      (sound-to (job .method) job (began (job .method) job) (sound-began (job .method) job k)),
 )
 
 -- ---- rows reached from admission are never damaged
@@ -159,7 +160,8 @@ module _ (f : Surfaces → MeritEvaluation) (job : Job) (back : ReadBack job) (k
       go : (b : Bool) → isFinished (rowAfter f n job) ≡ b → T (b || ltb (rowAfter f n job .turns) (bound (jobOfRow (rowAfter f n job))))
       go true e = tt
       go false e =
-          subst (λ (j : Job). T (ltb (rowAfter f n job .turns) (bound j))) (sym (job-after f job back n)) (subst (λ (t : ℕ). T (ltb t (bound job))) (sym (turns-after f job n e)) (lt→ltb n (bound job) (unfinished-below f job back n e)))
+          subst (λ (j : Job). T (ltb (rowAfter f n job .turns) (bound j))) (sym (job-after f job back n))
+          (subst (λ (t : ℕ). T (ltb t (bound job))) (sym (turns-after f job n e)) (lt→ltb n (bound job) (unfinished-below f job back n e)))
 
   pub never-damaged : (n : ℕ) → damaged (rowAfter f n job) ≡ false
   never-damaged n = whole (rowAfter f n job) (sound-after n) (turns-sound n)

@@ -68,7 +68,8 @@ module _ (o : Optimizer) (K : Invariant o) where
   unfolding resumeAttempts
   keeps-attempts zero jMat s k e h f = K .stateEnded false s h
   keeps-attempts (suc left) jMat s k e h f =
-      keeps-solved (isSolved o jMat s) (candidateParams o jMat s) jMat s k _ h f (K .solves jMat s h f) (omega arith) (keeps-attempts left jMat (raised s) (suc k) (omega arith) (K .raises s h) f)
+      keeps-solved (isSolved o jMat s) (candidateParams o jMat s) jMat s k _ h f (K .solves jMat s h f) (omega arith)
+      (keeps-attempts left jMat (raised s) (suc k) (omega arith) (K .raises s h) f)
 
   keeps-stationary : (b : Bool) (jMat : List Float) (s : Current) → Holds s → Full jMat → State (resumeStationary o b jMat s)
   unfolding resumeStationary

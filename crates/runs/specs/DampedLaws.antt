@@ -49,7 +49,8 @@ module _ (o : Optimizer) where
   unfolding resumption resumptionAt phaseOf resumeAttempts attempts goingOn bind
   resumes-attempts zero jMat s k n h g = refl
   resumes-attempts (suc a) jMat s k n h g =
-      resumes-solved (isSolved o jMat s) (candidateParams o jMat s) jMat s k a n (resumeAttempts o a jMat (raised s) (suc k)) h g (resumes-attempts a jMat (raised s) (suc k) n (omega arith) g)
+      resumes-solved (isSolved o jMat s) (candidateParams o jMat s) jMat s k a n (resumeAttempts o a jMat (raised s) (suc k)) h g
+      (resumes-attempts a jMat (raised s) (suc k) n (omega arith) g)
 
   resumes-stationary : (b : Bool) (jMat : List Float) (s : Current) (n : ℕ) → limit - s .iteration ≡ n →
       resumption o (resumeStationary o b jMat s) ≡ bind (ifStationary o b jMat s) (rest o n)
@@ -79,7 +80,8 @@ module _ (o : Optimizer) where
   unfolding resumption resumptionAt phaseOf resumeIterations
   resumes-iterations true s h =
       let e : limit - s .iteration ≡ suc (limit - suc (s .iteration)) = omega (arith, ltb-true) in
-      rw e (rw sub-zero at (resumes-columns (ltb 0 p) zeroJacobian (counted s) 0 (limit - suc (s .iteration)) refl refl) ∙ sym (iterations-apart (limit - suc (s .iteration)) s))
+      rw e (rw sub-zero at (resumes-columns (ltb 0 p) zeroJacobian (counted s) 0 (limit - suc (s .iteration)) refl refl)
+      ∙ sym (iterations-apart (limit - suc (s .iteration)) s))
   resumes-iterations false s h =
       let e : limit - s .iteration ≡ 0 = omega (arith, ltb-false) in
       rw e (unfold goingOn iterations bind in refl)
@@ -99,7 +101,9 @@ module _ (o : Optimizer) where
       go false = refl
 
   resumes-reduced : (b : Bool) (d : DampedState) (e : MeritEvaluation) →
-      resumption o (resumeReduced o b d e) ≡ bind (ifReduced o b (d .candidate) e (currentOf d) (attempts o (10 - d .attempt) (d .jacobian) (raised (currentOf d)))) (rest o (limit - d .iteration))
+      resumption o (resumeReduced o b d e)
+      ≡ bind (ifReduced o b (d .candidate) e (currentOf d) (attempts o (10 - d .attempt) (d .jacobian) (raised (currentOf d))))
+      (rest o (limit - d .iteration))
   unfolding resumeReduced ifReduced bind
   resumes-reduced true d e =
       resumes-after (accepted o (d .candidate) e (currentOf d))
@@ -112,7 +116,9 @@ module _ (o : Optimizer) where
   goes-on-at first d h = ap (ask (d .surfaces)) (fun-ext λ e. sym (rw sub-zero at (resumes-after (on (started o (d .surfaces) e)))))
   goes-on-at plus d h = unfold resumption phaseOf in refl
   goes-on-at minus d h =
-      ap (ask (prescMinus o (currentOf d) (d .column))) (fun-ext λ e. sym (resumes-columns (ltb (suc (d .column)) p) (withDifferences o (currentOf d) (d .column) (d .jacobian) (d .«plus_residuals») (e .residuals)) (currentOf d) (suc (d .column)) (limit - d .iteration) refl refl))
+      ap (ask (prescMinus o (currentOf d) (d .column))) (fun-ext λ e. sym (resumes-columns (ltb (suc (d .column)) p)
+      (withDifferences o (currentOf d) (d .column) (d .jacobian) (d .«plus_residuals») (e .residuals)) (currentOf d) (suc (d .column))
+      (limit - d .iteration) refl refl))
   goes-on-at candidate d h = ap (ask (testPresc o (d .candidate) (currentOf d))) (fun-ext λ e. sym (resumes-reduced (isReduction o e (currentOf d)) d e))
   goes-on-at finished d h = absurd (true≢false h)
 

@@ -24,15 +24,18 @@ module _ (o : Optimizer) where
   resumptionAt first d = ask (d .surfaces) λ currentEval. rest (o .config .«max_iterations») (on (started o (d .surfaces) currentEval))
   resumptionAt plus d = ask (prescPlus o (currentOf d) (d .column)) λ evalPlus. do
     evalMinus ← evaluate (prescMinus o (currentOf d) (d .column))
-    jMat ← columns o (numActive (o .variables) - suc (d .column)) (suc (d .column)) (currentOf d) (withDifferences o (currentOf d) (d .column) (d .jacobian) (evalPlus .residuals) (evalMinus .residuals))
+    jMat ← columns o (numActive (o .variables) - suc (d .column)) (suc (d .column)) (currentOf d)
+        (withDifferences o (currentOf d) (d .column) (d .jacobian) (evalPlus .residuals) (evalMinus .residuals))
     end ← ifStationary o (isStationary o jMat (currentOf d)) jMat (currentOf d)
     rest (left d) end
   resumptionAt minus d = ask (prescMinus o (currentOf d) (d .column)) λ evalMinus. do
-    jMat ← columns o (numActive (o .variables) - suc (d .column)) (suc (d .column)) (currentOf d) (withDifferences o (currentOf d) (d .column) (d .jacobian) (d .«plus_residuals») (evalMinus .residuals))
+    jMat ← columns o (numActive (o .variables) - suc (d .column)) (suc (d .column)) (currentOf d)
+        (withDifferences o (currentOf d) (d .column) (d .jacobian) (d .«plus_residuals») (evalMinus .residuals))
     end ← ifStationary o (isStationary o jMat (currentOf d)) jMat (currentOf d)
     rest (left d) end
   resumptionAt candidate d = ask (testPresc o (d .candidate) (currentOf d)) λ testEval. do
-    end ← ifReduced o (isReduction o testEval (currentOf d)) (d .candidate) testEval (currentOf d) (attempts o (10 - d .attempt) (d .jacobian) (raised (currentOf d)))
+    end ← ifReduced o (isReduction o testEval (currentOf d)) (d .candidate) testEval (currentOf d)
+        (attempts o (10 - d .attempt) (d .jacobian) (raised (currentOf d)))
     rest (left d) end
   resumptionAt finished d = done (resultOf d)
 

@@ -154,7 +154,8 @@ module _ (o : Optimizer) where
   advanceAt first d e = resumeAfter (on (started o (d .surfaces) e))
   advanceAt plus d e = atMinus (currentOf d) (d .jacobian) (d .column) (e .residuals)
   advanceAt minus d e =
-      resumeColumns (ltb (suc (d .column)) (numActive (o .variables))) (withDifferences o (currentOf d) (d .column) (d .jacobian) (d .«plus_residuals») (e .residuals)) (currentOf d) (suc (d .column))
+      resumeColumns (ltb (suc (d .column)) (numActive (o .variables)))
+      (withDifferences o (currentOf d) (d .column) (d .jacobian) (d .«plus_residuals») (e .residuals)) (currentOf d) (suc (d .column))
   advanceAt candidate d e = resumeReduced (isReduction o e (currentOf d)) d e
   advanceAt finished d e = d
 

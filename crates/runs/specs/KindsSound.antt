@@ -30,7 +30,8 @@ use Rattle.runs.specs.DampedSound as DampedSound
 use Rattle.runs.specs.StateSound.{Sound}
 
 module _ (job : Job)
-    (applies : (values : List Float) (x : Surfaces) → T (surfacesTaken x (job .prescription .«surface_count»)) → T (surfacesTaken (applied (job .variables) values x) (job .prescription .«surface_count»)))
+    (applies : (values : List Float) (x : Surfaces) → T (surfacesTaken x (job .prescription .«surface_count»))
+    → T (surfacesTaken (applied (job .variables) values x) (job .prescription .«surface_count»)))
     (based : T (surfacesTaken (baseOf job) (job .prescription .«surface_count»))) where
   abbrev Taken : Surfaces → Type 0
   Taken x = T (surfacesTaken x (job .prescription .«surface_count»))
@@ -49,7 +50,14 @@ module _ (job : Job)
       → Sound (Damped config) job (advanceBy (Damped config) job s e)
   unfolding finishedBy advanceBy
   damped-sound config s e u h =
-      let before : DampedPart config (s .damped) = record { isPhase = h .phaseUpTo; taken = h .current tt; columnBelow = h .columnBelow; attemptUpTo = h .attemptUpTo; iterationUpTo = h .iterationUpTo } in
+      let before : DampedPart config (s .damped) =
+      record {
+        isPhase = h .phaseUpTo;
+        taken = h .current tt;
+        columnBelow = h .columnBelow;
+        attemptUpTo = h .attemptUpTo;
+        iterationUpTo = h .iterationUpTo;
+      } in
       let d = DampedSound.sound-advance (optimizerOf job config) Taken applies (s .damped) e u before in
       record {
         phaseUpTo = d .isPhase;
@@ -112,7 +120,8 @@ module _ (job : Job)
         Sound m job (MultiRow.resumeDamped (optimizerOf job (config .«local_dls_config»)) (baseOf job) (config .«num_trials») b s d)
     unfolding MultiRow.resumeDamped finishedBy
     resumed-sound true s d e h k =
-        trials-sound (ltb (s .trial) (config .«num_trials»)) (merged (MultiRow.bestOf s) (DampedRow.resultOf d)) (s .generator) (s .trial) refl (above-zero (d .column) p (k .columnBelow))
+        trials-sound (ltb (s .trial) (config .«num_trials»)) (merged (MultiRow.bestOf s) (DampedRow.resultOf d)) (s .generator) (s .trial) refl
+        (above-zero (d .column) p (k .columnBelow))
         (merged-taken (s .trial) (s .best) (DampedRow.resultOf d) (λ t. h .best (or-left (ltb 0 (s .trial)) (MultiRow.isFinished s) t)) (k .taken))
     resumed-sound false s d e h k = record {
       phaseUpTo = k .isPhase;
@@ -134,6 +143,13 @@ module _ (job : Job)
     unfolding finishedBy advanceBy MultiRow.advance
     multi-sound s e u h =
         let o = optimizerOf job (config .«local_dls_config») in
-        let before : DampedPart (config .«local_dls_config») (s .damped) = record { isPhase = h .phaseUpTo; taken = h .current (subst (λ (b : Bool). T (not b)) (sym u) tt); columnBelow = h .columnBelow; attemptUpTo = h .attemptUpTo; iterationUpTo = h .iterationUpTo } in
+        let before : DampedPart (config .«local_dls_config») (s .damped) =
+        record {
+          isPhase = h .phaseUpTo;
+          taken = h .current (subst (λ (b : Bool). T (not b)) (sym u) tt);
+          columnBelow = h .columnBelow;
+          attemptUpTo = h .attemptUpTo;
+          iterationUpTo = h .iterationUpTo;
+        } in
         let d = DampedRow.advance o (s .damped) e in
         resumed-sound (DampedRow.isFinished d) s d refl h (DampedSound.sound-advance o Taken applies (s .damped) e u before)

@@ -195,4 +195,5 @@ pub whole-after : (f : Surfaces → MeritEvaluation) (job : Job) → ReadBack jo
 unfolding admitted
 whole-after f job back b k =
     reached f (λ (r : Row). (jobOfRow r ≡ job) × Whole (stateOf r)) job (job-admitted job back, began-whole (job .method) job b)
-    (λ r u h. (job-advance r (f (pendingSurfaces r)) ∙ h .0, turned-whole r (f (pendingSurfaces r)) (ap (λ (j : Job). length (baseOf j)) (h .0) ∙ b) u (h .1))) k .1
+    (λ r u h. (job-advance r (f (pendingSurfaces r)) ∙ h .0, turned-whole r (f (pendingSurfaces r)) (ap (λ (j : Job). length (baseOf j)) (h .0) ∙ b) u (h .1)))
+    k .1

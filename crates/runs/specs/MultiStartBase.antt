@@ -47,5 +47,6 @@ module _ (f : Surfaces → MeritEvaluation) (o : Optimizer) (base : Surfaces) wh
   unfolding multiStart merged value
   not-above-base n seed =
       let result = value f (damped o base) in
-      subst (λ (r : OptimizationResult). NotAbove (r .«final_merit») (result .«final_merit»)) (sym (value-bind f (damped o base) _ ∙ value-bind f (trials o base n (seeded seed) (some result)) last))
+      subst (λ (r : OptimizationResult). NotAbove (r .«final_merit») (result .«final_merit»))
+      (sym (value-bind f (damped o base) _ ∙ value-bind f (trials o base n (seeded seed) (some result)) last))
       (trials-below n (seeded seed) result)

@@ -27,7 +27,8 @@ module _ (o : Optimizer) (base : Surfaces) (n : ℕ) where
   unfolding resumption resumptionIf bestBefore multiStart Damped.isFinished Damped.finishedAt Damped.phaseOf
   begins seed =
       ap (λ (r : Run OptimizationResult). bind r (rest o base n (began base seed))) (DampedLaws.begins o base)
-      ∙ ap (λ (k : ℕ). bind (damped o base) (λ (result : OptimizationResult). bind (trials o base k (seeded seed) (some (merged none result))) last)) (sub-zero n)
+      ∙ ap (λ (k : ℕ). bind (damped o base) (λ (result : OptimizationResult). bind (trials o base k (seeded seed) (some (merged none result))) last))
+      (sub-zero n)
 
   resumes-trials : (b : Bool) (best : OptimizationResult) (g t : ℕ) → ltb t n ≡ b
       → resumption o base n (resumeTrials o base n b best g t) ≡ bind (trials o base (n - t) g (some best)) last
@@ -50,7 +51,8 @@ module _ (o : Optimizer) (base : Surfaces) (n : ℕ) where
   pub goes-on : (s : State) → isFinished s ≡ false → resumption o base n s ≡ ask (Damped.pending o (s .damped)) λ e. resumption o base n (advance o base n s e)
   unfolding resumption resumptionIf advance bind
   goes-on s h =
-      rw (h, DampedLaws.goes-on o (s .damped) h) (ap (ask (Damped.pending o (s .damped))) (fun-ext λ e. sym (resumes-damped (Damped.isFinished (Damped.advance o (s .damped) e)) s (Damped.advance o (s .damped) e) refl)))
+      rw (h, DampedLaws.goes-on o (s .damped) h) (ap (ask (Damped.pending o (s .damped)))
+      (fun-ext λ e. sym (resumes-damped (Damped.isFinished (Damped.advance o (s .damped) e)) s (Damped.advance o (s .damped) e) refl)))
 
   -- law 3
   pub ends : (s : State) → isFinished s ≡ true → resumption o base n s ≡ done (s .best)

@@ -50,8 +50,10 @@ module _ (o : Optimizer) (base : Surfaces) where
       let g = afterDraws (o .variables) rng in
       ap (λ (k : ℕ). trials o base k rng best) (suc-add m n)
       ∙ ap (bind (damped o (trialPresc o base rng))) (fun-ext λ result.
-      trials-add m n g (some (merged best result)) ∙ ap (λ (h : ℕ). bind (trials o base m g (some (merged best result))) (trials o base n h)) (draws-more m rng))
-      ∙ sym (bind-assoc (damped o (trialPresc o base rng)) (λ (result : OptimizationResult). trials o base m g (some (merged best result))) (trials o base n (stepTimes (suc m * p) rng)))
+      trials-add m n g (some (merged best result)) ∙ ap (λ (h : ℕ). bind (trials o base m g (some (merged best result))) (trials o base n h))
+      (draws-more m rng))
+      ∙ sym (bind-assoc (damped o (trialPresc o base rng)) (λ (result : OptimizationResult). trials o base m g (some (merged best result)))
+      (trials o base n (stepTimes (suc m * p) rng)))
 
   -- the generator before trial t, counted from 0, is the seed after t × p draws
   abbrev pub before : (seed t : ℕ) → ℕ
@@ -65,7 +67,9 @@ module _ (o : Optimizer) (base : Surfaces) where
 
   -- so trial t is from there, and the trials after it from trial t + 1 on
   pub trials-from : (n seed t : ℕ) (best : Best) →
-      trials o base (suc n) (before seed t) best ≡ bind (damped o (trialPresc o base (before seed t))) λ result. trials o base n (before seed (suc t)) (some (merged best result))
+      trials o base (suc n) (before seed t) best ≡ bind (damped o (trialPresc o base (before seed t))) λ result. trials o base n (before seed (suc t))
+      (some (merged best result))
   unfolding trials
   trials-from n seed t best =
-      ap (λ (g : ℕ). bind (damped o (trialPresc o base (before seed t))) (λ (result : OptimizationResult). trials o base n g (some (merged best result)))) (before-next seed t)
+      ap (λ (g : ℕ). bind (damped o (trialPresc o base (before seed t))) (λ (result : OptimizationResult). trials o base n g (some (merged best result))))
+      (before-next seed t)

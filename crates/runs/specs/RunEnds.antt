@@ -35,7 +35,8 @@ use Rattle.runs.specs.Rows.{dampedBound, boundBy, bound}
 -- Sound: what the surfaces keep when variables are applied
 module _ (job : Job) (Q : Surfaces → MeritEvaluation → Type 0) (Sound : Surfaces → Type 0) (P : Result → Type 0)
     (applies : (values : List Float) (x : Surfaces) → Sound x → Sound (applied (job .variables) values x))
-    (damps : (config : DlsConfig) (x : Surfaces) → Sound x → Ends Q P (dampedBound (config .«max_iterations») (numActive (job .variables))) (damped (optimizerOf job config) x))
+    (damps : (config : DlsConfig) (x : Surfaces) → Sound x
+    → Ends Q P (dampedBound (config .«max_iterations») (numActive (job .variables))) (damped (optimizerOf job config) x))
     (priors : (a : Annealer) (initialMerit : Float) (r : Result) → P r → P (Annealing.withPrior a initialMerit r)) where
   ends-by : (m : Method) → Sound (baseOf job) → Ends Q P (boundBy m (numActive (job .variables))) (runBy m job)
   unfolding runBy boundBy trialPresc Annealing.trialPresc
@@ -43,11 +44,13 @@ module _ (job : Job) (Q : Surfaces → MeritEvaluation → Type 0) (Sound : Surf
   ends-by (MultiStart config) h =
       let o = optimizerOf job (config .«local_dls_config») in
       let B = dampedBound (config .«local_dls_config» .«max_iterations») (numActive (job .variables)) in
-      ends-multiStart o (baseOf job) Q P B (λ rng. damps (config .«local_dls_config») _ (applies _ (baseOf job) h)) (config .«num_trials») (config .seed) (damps (config .«local_dls_config») (baseOf job) h)
+      ends-multiStart o (baseOf job) Q P B (λ rng. damps (config .«local_dls_config») _ (applies _ (baseOf job) h)) (config .«num_trials») (config .seed)
+      (damps (config .«local_dls_config») (baseOf job) h)
   ends-by (Annealing config) h =
       let a = annealerOf job config in
       let B = dampedBound 25 (numActive (job .variables)) in
-      Ends-more _ (omega arith) (ends-annealing a Q Sound P B (λ trial w s. applies trial (w .surfaces) s) (λ x s. damps polishSettings x s) (priors a) (baseOf job) h)
+      Ends-more _ (omega arith) (ends-annealing a Q Sound P B (λ trial w s. applies trial (w .surfaces) s) (λ x s. damps polishSettings x s) (priors a)
+      (baseOf job) h)
 
   ends-run : Sound (baseOf job) → Ends Q P (bound job) (run job)
   unfolding run bound
@@ -73,7 +76,8 @@ module _ (f : Surfaces → MeritEvaluation) where
   abbrev pub By : Surfaces → MeritEvaluation → Type 0
   By s e = e ≡ f s
 
-  module _ (o : Optimizer) (Sound : Surfaces → Type 0) (applies : (values : List Float) (x : Surfaces) → Sound x → Sound (applied (o .variables) values x)) where
+  module _ (o : Optimizer) (Sound : Surfaces → Type 0)
+      (applies : (values : List Float) (x : Surfaces) → Sound x → Sound (applied (o .variables) values x)) where
     abbrev Holds : Current → Type 0
     Holds s = (s .evaluation ≡ f (s .surfaces)) × Sound (s .surfaces)
 
@@ -82,11 +86,18 @@ module _ (f : Surfaces → MeritEvaluation) where
     holds-moved c e s h q t = (q, applies c (s .surfaces) (h .1))
 
     evaluated : (end : After) → Holds (stateOf end) → Evaluated f (Rattle.runs.specs.DampedRun.resultOf end) × Sound (stateOf end .surfaces)
-    evaluated end h =
-        (record { finalMerit = ap (λ (e : MeritEvaluation). e .«total_merit») (h .0); values = ap (λ (e : MeritEvaluation). e .values) (h .0); residuals = ap (λ (e : MeritEvaluation). e .residuals) (h .0) }, h .1)
+    evaluated end h = (
+      record {
+        finalMerit = ap (λ (e : MeritEvaluation). e .«total_merit») (h .0);
+        values = ap (λ (e : MeritEvaluation). e .values) (h .0);
+        residuals = ap (λ (e : MeritEvaluation). e .residuals) (h .0);
+      },
+      h .1,
+    )
 
     pub damped-evaluated : (initial : Surfaces) → Sound initial
-        → Ends By (λ (r : Result). Evaluated f r × Sound (r .surfaces)) (dampedBound (o .config .«max_iterations») (numActive (o .variables))) (damped o initial)
+        → Ends By (λ (r : Result). Evaluated f r × Sound (r .surfaces)) (dampedBound (o .config .«max_iterations») (numActive (o .variables)))
+        (damped o initial)
     damped-evaluated initial h =
         ends-damped o By Holds (λ s k. k) (λ s k. k) holds-moved (λ (r : Result). Evaluated f r × Sound (r .surfaces)) initial (λ e q. (q, h)) evaluated
 
@@ -95,7 +106,8 @@ module _ (f : Surfaces → MeritEvaluation) where
       → Sound (baseOf job) →
       Ends By (λ (r : Result). Evaluated f r × Sound (r .surfaces)) (bound job) (run job)
   run-evaluated job Sound applies h =
-      ends-run job By Sound (λ (r : Result). Evaluated f r × Sound (r .surfaces)) applies (λ config x s. damped-evaluated (optimizerOf job config) Sound applies x s) prior h
+      ends-run job By Sound (λ (r : Result). Evaluated f r × Sound (r .surfaces)) applies
+      (λ config x s. damped-evaluated (optimizerOf job config) Sound applies x s) prior h
     where
       prior : (a : Annealer) (initialMerit : Float) (r : Result) → Evaluated f r × Sound (r .surfaces)
           → Evaluated f (Annealing.withPrior a initialMerit r) × Sound (r .surfaces)
@@ -103,7 +115,8 @@ module _ (f : Surfaces → MeritEvaluation) where
 
   -- its surfaces pass check 3 where the job's do, as applying keeps them
   pub run-checked : (job : Job)
-      → ((values : List Float) (x : Surfaces) → T (surfacesTaken x (job .prescription .«surface_count»)) → T (surfacesTaken (applied (job .variables) values x) (job .prescription .«surface_count»))) →
+      → ((values : List Float) (x : Surfaces) → T (surfacesTaken x (job .prescription .«surface_count»))
+      → T (surfacesTaken (applied (job .variables) values x) (job .prescription .«surface_count»))) →
       T (surfacesTaken (baseOf job) (job .prescription .«surface_count»)) →
       Ends By (λ (r : Result). Evaluated f r × T (surfacesTaken (r .surfaces) (job .prescription .«surface_count»))) (bound job) (run job)
   run-checked job applies h = run-evaluated job (λ (x : Surfaces). T (surfacesTaken x (job .prescription .«surface_count»))) applies h
@@ -130,4 +143,5 @@ module _ (o : Optimizer) where
   pub damped-descends : (initial : Surfaces)
       → Ends FiniteAnswer Descended (dampedBound (o .config .«max_iterations») (numActive (o .variables))) (damped o initial)
   damped-descends initial =
-      ends-damped o FiniteAnswer Lower (λ s k. k) (λ s k. k) lower-moved Descended initial (λ e q. (q, le-self (e .«total_merit») (finite-number (e .«total_merit») (finite-test (e .«total_merit») q)))) (λ end h. h)
+      ends-damped o FiniteAnswer Lower (λ s k. k) (λ s k. k) lower-moved Descended initial
+      (λ e q. (q, le-self (e .«total_merit») (finite-number (e .«total_merit») (finite-test (e .«total_merit») q)))) (λ end h. h)

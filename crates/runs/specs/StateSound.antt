@@ -111,5 +111,9 @@ module _ (m : Method) (job : Job) where
   sound-to s h =
       three-and (isPhase m (s .damped .phase)) (surfacesSound m count s) (countersSound m p s)
       (up-to (lastPhase m) (s .damped .phase) (h .phaseUpTo))
-      (and-i (currentTest s) (bestTest s) (used-if (usesCurrent m s) (surfacesTaken (s .damped .surfaces) count) (h .current)) (used-if (usesBest m s) (surfacesTaken (s .best .surfaces) count) (h .best)))
-      (six-and (columnTest s) (attemptTest s) (iterationTest s) (trialTest s) (cycleTest s) (stepTest s) (lt→ltb (s .damped .column) p (h .columnBelow)) (up-to 10 (s .damped .attempt) (h .attemptUpTo)) (up-to (iterationLimit m) (s .damped .iteration) (h .iterationUpTo)) (up-to (trialLimit m) (s .trial) (h .trialUpTo)) (lt→ltb (s .cycle) (max (cycleLimit m) 1) (h .cycleBelow)) (lt→ltb (s .step) (max (stepLimit m) 1) (h .stepBelow)))
+      (and-i (currentTest s) (bestTest s) (used-if (usesCurrent m s) (surfacesTaken (s .damped .surfaces) count) (h .current))
+      (used-if (usesBest m s) (surfacesTaken (s .best .surfaces) count) (h .best)))
+      (six-and (columnTest s) (attemptTest s) (iterationTest s) (trialTest s) (cycleTest s) (stepTest s) (lt→ltb (s .damped .column) p (h .columnBelow))
+      (up-to 10 (s .damped .attempt) (h .attemptUpTo)) (up-to (iterationLimit m) (s .damped .iteration) (h .iterationUpTo))
+      (up-to (trialLimit m) (s .trial) (h .trialUpTo)) (lt→ltb (s .cycle) (max (cycleLimit m) 1) (h .cycleBelow))
+      (lt→ltb (s .step) (max (stepLimit m) 1) (h .stepBelow)))

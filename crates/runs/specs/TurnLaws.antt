@@ -36,13 +36,15 @@ use Rattle.runs.specs.Unused.{ZeroFrom, CleanEvaluation}
 pub merit-finite : (job : Job) (s : Surfaces) → FiniteAnswer s (evaluateOf job s)
 unfolding evaluateOf
 merit-finite job s =
-    test-finite _ (total-finite (surfaceAt s) (slotIndex (job .prescription .indices)) (job .prescription .«entrance_pupil_diameter_mm») (job .prescription .«surface_count») (job .«merit_function»))
+    test-finite _ (total-finite (surfaceAt s) (slotIndex (job .prescription .indices)) (job .prescription .«entrance_pupil_diameter_mm»)
+    (job .prescription .«surface_count») (job .«merit_function»))
 
 -- ---- it is zero past the operands
 entries-zero : (g : ℕ → Float) (n : ℕ) → ZeroFrom n 12 (entries g n)
 entries-zero g n i l b =
     let e : i ≡ length (tab g n) + (i - n) = split (length (tab g n)) (length-tab g n) in
-    ap (λ (k : ℕ). getD (entries g n) k nan) e ∙ getD-append-add (tab g n) (replicate (12 - n) zero64) (i - n) nan ∙ getD-replicate (12 - n) (i - n) zero64 nan (omega arith)
+    ap (λ (k : ℕ). getD (entries g n) k nan) e ∙ getD-append-add (tab g n) (replicate (12 - n) zero64) (i - n) nan
+    ∙ getD-replicate (12 - n) (i - n) zero64 nan (omega arith)
   where
     split : (k : ℕ) → k ≡ n → i ≡ k + (i - n)
     split k e = omega arith
@@ -59,13 +61,16 @@ row-result f job back k h = sym (value-done f k (run job) (resultOf (rowAfter f 
 
 -- ---- "the surfaces handed back have the merit printed beside them", and pass check 3
 pub result-evaluated : (job : Job)
-    → ((values : List Float) (x : Surfaces) → T (surfacesTaken x (job .prescription .«surface_count»)) → T (surfacesTaken (applied (job .variables) values x) (job .prescription .«surface_count»))) →
+    → ((values : List Float) (x : Surfaces) → T (surfacesTaken x (job .prescription .«surface_count»))
+    → T (surfacesTaken (applied (job .variables) values x) (job .prescription .«surface_count»))) →
     T (surfacesTaken (baseOf job) (job .prescription .«surface_count»)) →
-    Evaluated (evaluateOf job) (value (evaluateOf job) (run job)) × T (surfacesTaken (value (evaluateOf job) (run job) .surfaces) (job .prescription .«surface_count»))
+    Evaluated (evaluateOf job) (value (evaluateOf job) (run job))
+    × T (surfacesTaken (value (evaluateOf job) (run job) .surfaces) (job .prescription .«surface_count»))
 result-evaluated job applies h = Ends-value (evaluateOf job) (λ s. refl) (run-checked (evaluateOf job) job applies h)
 
 -- ---- a damped job's final merit is finite and not above the first
 pub damped-result-descends : (job : Job) (config : DlsConfig) → job .method ≡ Damped config → Descended (value (evaluateOf job) (run job))
 unfolding run runBy
 damped-result-descends job config e =
-    subst (λ (m : Method). Descended (value (evaluateOf job) (runBy m job))) (sym e) (Ends-value (evaluateOf job) (merit-finite job) (damped-descends (optimizerOf job config) (baseOf job)))
+    subst (λ (m : Method). Descended (value (evaluateOf job) (runBy m job))) (sym e)
+    (Ends-value (evaluateOf job) (merit-finite job) (damped-descends (optimizerOf job config) (baseOf job)))

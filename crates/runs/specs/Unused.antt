@@ -1,5 +1,5 @@
--- What the state of a row reached from admission looks like: it is one that its phase's builder makes (`DampedRow`, `MultiStartRow`, `AnnealingRow`), and what it
--- uses is zero past the job's counts. It is kept by turns; what a reader relies on is `ZeroEntries`, entry by entry, which follows. Definitions only.
+-- What the state of a row reached from admission looks like: it is one that its phase's builder makes (`DampedRow`, `MultiStartRow`, `AnnealingRow`), and what
+-- it uses is zero past the job's counts. It is kept by turns; what a reader relies on is `ZeroEntries`, entry by entry, which follows. Definitions only.
 use mathlib.Core.Path.{_≡_}
 use mathlib.Core.Bool.{Bool, false}
 use mathlib.Core.List.{List}

@@ -95,7 +95,8 @@ module _ (job : Job) (k : Kept job) where
         CleanState n p m (MultiStart config) (resumeDamped (optimizerOf job local) (baseOf job) (config .«num_trials») b (inTrial d best g (suc t)) d′)
     unfolding resumeDamped bestBefore
     resumed-trials true d d′ best g t e h r =
-        trials-clean (ltb (suc t) (config .«num_trials»)) config (merged (some best) (DampedRow.resultOf d′)) g (suc t) (merged-clean best (DampedRow.resultOf d′) r (result-clean h e))
+        trials-clean (ltb (suc t) (config .«num_trials»)) config (merged (some best) (DampedRow.resultOf d′)) g (suc t)
+        (merged-clean best (DampedRow.resultOf d′) r (result-clean h e))
     resumed-trials false d d′ best g t e h r = inTrials e h r
 
     abbrev next : DampedState → MeritEvaluation → DampedState
@@ -109,7 +110,8 @@ module _ (job : Job) (k : Kept job) where
         → CleanState n p m (MultiStart config) s → CleanState n p m (MultiStart config) (advanceBy (MultiStart config) job s e)
     unfolding finishedBy advanceBy MultiRow.advance
     multi-clean e u a (inBase {d = d} {g = g} v h) = resumed-base (DampedRow.isFinished (next d e)) d (next d e) g refl (next-clean d e u h a)
-    multi-clean e u a (inTrials {d = d} {best = best} {g = g} {t = t} v h r) = resumed-trials (DampedRow.isFinished (next d e)) d (next d e) best g t refl (next-clean d e u h a) r
+    multi-clean e u a (inTrials {d = d} {best = best} {g = g} {t = t} v h r) =
+        resumed-trials (DampedRow.isFinished (next d e)) d (next d e) best g t refl (next-clean d e u h a) r
     multi-clean e u a (atEnd r) = absurd (true≢false (unfold DampedRow.isFinished DampedRow.finishedAt DampedRow.phaseOf in u))
 
   -- ---- annealing
@@ -178,13 +180,16 @@ module _ (job : Job) (k : Kept job) where
         let s = AnnealingRow.atPolish i d in
         let q = in-polish h in
         let going : DampedRow.isFinished d ≡ false = sym (ap (λ (f : AnnealingRow.Phase). AnnealingRow.finishedAt f s) q) ∙ u in
-        subst (λ (f : AnnealingRow.Phase). CleanState n p m (Annealing config) (AnnealingRow.advanceAt a f s e)) (sym q) (inPolish (clean-advance (polisher a) n (k .applies) (k .fits) d e going h g))
+        subst (λ (f : AnnealingRow.Phase). CleanState n p m (Annealing config) (AnnealingRow.advanceAt a f s e)) (sym q)
+        (inPolish (clean-advance (polisher a) n (k .applies) (k .fits) d e going h g))
 
     annealing-clean : {s : State} (e : MeritEvaluation) → finishedBy (Annealing config) s ≡ false → CleanEvaluation n p m e
         → CleanState n p m (Annealing config) s → CleanState n p m (Annealing config) (advanceBy (Annealing config) job s e)
     unfolding finishedBy advanceBy AnnealingRow.advance AnnealingRow.advanceAt AnnealingRow.phaseOf AnnealingRow.isFinished AnnealingRow.finishedAt
-    annealing-clean e u g (isWalkFirst {base = base} h) = cycles-clean (isCycle a 0) (e .«total_merit») (started a base e) 0 (h, zero-extracted (polisher a) n (k .applies) (k .fits) base, h)
-    annealing-clean e u g (isWalk {i = i} {w = w} {trial = trial} {c = c} {k = j} h t) = steps-clean (ltb (suc j) (config .«steps_per_temperature»)) i (judged a trial e w) c (suc j) (judged-clean trial e w h t)
+    annealing-clean e u g (isWalkFirst {base = base} h) =
+        cycles-clean (isCycle a 0) (e .«total_merit») (started a base e) 0 (h, zero-extracted (polisher a) n (k .applies) (k .fits) base, h)
+    annealing-clean e u g (isWalk {i = i} {w = w} {trial = trial} {c = c} {k = j} h t) =
+        steps-clean (ltb (suc j) (config .«steps_per_temperature»)) i (judged a trial e w) c (suc j) (judged-clean trial e w h t)
     annealing-clean e u g (inPolish {i = i} {d = d} h) = polish-clean i d e u h g
 
   -- ---- all three kinds
@@ -209,7 +214,8 @@ pub advance-clean : (job : Job) → Kept job → (r : Row) (e : MeritEvaluation)
     → Clean job (stateOf r) → Clean job (stateOf (advance r e))
 unfolding isFinished advance
 advance-clean job k r e q u g h =
-    subst (λ (j : Job). finishedBy (j .method) (stateOf r) ≡ false → Clean job (advanceBy (j .method) j (stateOf r) e)) (sym q) (λ t. clean-by job k (job .method) e t g h) u
+    subst (λ (j : Job). finishedBy (j .method) (stateOf r) ≡ false → Clean job (advanceBy (j .method) j (stateOf r) e)) (sym q)
+    (λ t. clean-by job k (job .method) e t g h) u
 
 admitted-clean : (job : Job) → Kept job → Clean job (stateOf (admitted job))
 unfolding admitted
@@ -249,4 +255,5 @@ module _ (job : Job) (k : Kept job) where
   pub result-unused : (r : Row) → jobOfRow r ≡ job → Clean job (stateOf r) → isFinished r ≡ true → CleanOutcome (resultOf r)
   unfolding isFinished resultOf
   result-unused r q h e =
-      subst (λ (j : Job). finishedBy (j .method) (stateOf r) ≡ true → CleanOutcome (resultBy (j .method) j (stateOf r))) (sym q) (outcome-clean (job .method) h) e
+      subst (λ (j : Job). finishedBy (j .method) (stateOf r) ≡ true → CleanOutcome (resultBy (j .method) j (stateOf r))) (sym q) (outcome-clean (job .method) h)
+      e

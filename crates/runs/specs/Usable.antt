@@ -30,7 +30,9 @@ usable job taken =
     let v = job .variables in
     let has = passed job taken in
     record {
-      applies = λ values x h. all-from (λ (i : ℕ). surfaceTaken (surfaceAt (applied v values x) i)) n (λ i l. applied-taken n v (has .variables) values x i (all-at (λ (i : ℕ). surfaceTaken (surfaceAt x i)) n i h l));
+      applies =
+          λ values x h. all-from (λ (i : ℕ). surfaceTaken (surfaceAt (applied v values x) i)) n
+          (λ i l. applied-taken n v (has .variables) values x i (all-at (λ (i : ℕ). surfaceTaken (surfaceAt x i)) n i h l));
       based = all-from (λ (i : ℕ). surfaceTaken (surfaceAt (baseOf job) i)) n (lens-parts (job .prescription) (has .lens) .surfaces);
       enabled = has .enabled;
     }

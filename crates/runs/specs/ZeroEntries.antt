@@ -1,5 +1,5 @@
--- "unused entries .. are zero": which entries of a run's state its kind and phase use, and that all others are zero. Phases: 0 before the first merit, 1 before a
--- column's plus side, 2 before its minus side, 3 before a candidate's, 4 finished, 5 before the walk's first merit, 6 before a step's. Definitions only.
+-- "unused entries .. are zero": which entries of a run's state its kind and phase use, and that all others are zero. Phases: 0 before the first merit, 1 before
+-- a column's plus side, 2 before its minus side, 3 before a candidate's, 4 finished, 5 before the walk's first merit, 6 before a step's. Definitions only.
 use mathlib.Core.Path.{_≡_}
 use mathlib.Core.Bool.{Bool, false, not, cond, _&&_, _||_}
 use Prim.Native.Nat.{ℕ}

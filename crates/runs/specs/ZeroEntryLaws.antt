@@ -198,9 +198,14 @@ module _ (n p m : ℕ) where
   unfolding finishedBy isFinished finishedAt phaseOf
   state-zero (Damped config) (inDamped {d = d} h) = apart-zero (Damped config) d zeroResult (damped-zero h) (no-best false false false)
   state-zero (MultiStart config) (inBase {d = d} {g = g} v h) = run-zero config d zeroResult g 0 v h (λ b e. no-best b b b)
-  state-zero (MultiStart config) (inTrials {d = d} {best = best} {g = g} {t = t} v h r) = run-zero config d best g (suc t) v h (λ b e. subst (λ (u : Bool). ZeroBest n p m (u || b) (u || b) (u || b) best) (sym (lt-ltb 0 (suc t) (zero-lt-suc t))) (result-best best r))
-  state-zero (MultiStart config) (atEnd {best = best} r) = apart-zero (MultiStart config) zeroAtEnd best (holding-zero false 4 (no-surfaces 0) (no-params 0) (no-params 0)) (result-best best r)
-  state-zero (Annealing config) (isWalkFirst {base = base} h) = apart-zero (Annealing config) (walking 5 base zeroParams zeroParams) zeroResult (holding-zero true 5 h (no-params 0) (no-params 0)) (no-best false false false)
+  state-zero (MultiStart config) (inTrials {d = d} {best = best} {g = g} {t = t} v h r) =
+      run-zero config d best g (suc t) v h (λ b e. subst (λ (u : Bool). ZeroBest n p m (u || b) (u || b) (u
+      || b) best) (sym (lt-ltb 0 (suc t) (zero-lt-suc t))) (result-best best r))
+  state-zero (MultiStart config) (atEnd {best = best} r) =
+      apart-zero (MultiStart config) zeroAtEnd best (holding-zero false 4 (no-surfaces 0) (no-params 0) (no-params 0)) (result-best best r)
+  state-zero (Annealing config) (isWalkFirst {base = base} h) =
+      apart-zero (Annealing config) (walking 5 base zeroParams zeroParams) zeroResult (holding-zero true 5 h (no-params 0) (no-params 0))
+      (no-best false false false)
   state-zero (Annealing config) (isWalk {i = i} {w = w} {trial = trial} {c = c} {k = k} h t) = record {
     damped = holding-zero true 6 (h .0) (h .1) t;
     best = kept-best true (w .bestSurfaces) i (w .bestMerit) (h .2) (used refl);

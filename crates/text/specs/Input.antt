@@ -94,7 +94,15 @@ fills room input = eqb (input .to - input .from) room
 -- the same line in the first `to` bytes
 abbrev pub placedAt : (to : ℕ) (cut : Bool) → Input → Input
 placedAt to cut input =
-    record { from = 0; to = to; number = input .number; «is_cut» = cut; «has_more» = input .«has_more»; «is_open» = input .«is_open»; «is_good» = input .«is_good» }
+    record {
+      from = 0;
+      to = to;
+      number = input .number;
+      «is_cut» = cut;
+      «has_more» = input .«has_more»;
+      «is_open» = input .«is_open»;
+      «is_good» = input .«is_good»;
+    }
 
 -- room is made for more: what is not taken goes to the front, and is dropped where it fills the buffer
 abbrev pub roomed : (room : ℕ) → Input → Input

@@ -29,7 +29,8 @@ withBytes n w = record { bytes = n; «is_good» = w .«is_good»; refused = w .r
 abbrev pub clipped : ℕ → Waiting → Waiting
 clipped room w = withBytes (min (w .bytes) room) w
 
--- What waits once text is added to what waited, in a buffer of `room` bytes: both where there is room, else the text alone, the rest being written, and nothing where the buffer is too short for the text itself.
+-- What waits once text is added to what waited, in a buffer of `room` bytes: both where there is room, else the text alone, the rest being written, and nothing
+-- where the buffer is too short for the text itself.
 unfoldable pub added : ℕ → List ℕ → List ℕ → List ℕ
 added room held text =
     cond (leb (length held + length text) room) (held ++ text)

@@ -100,4 +100,5 @@ pub next-float
     → floatTexts (take (i + 1) row) ≡ floatTexts (take i row) ++ (blank ∷ floatText (getD row i d) ∷ [])
 next-float row i d h =
     let one : i + 1 ≡ suc i = omega arith in
-    ap (λ (n : ℕ). floatTexts (take n row)) one ∙ ap floatTexts (take-suc row i d h) ∙ floats-append (take i row) (getD row i d ∷ []) ∙ ap (λ (t : List (List ℕ)). floatTexts (take i row) ++ t) (one-float (getD row i d))
+    ap (λ (n : ℕ). floatTexts (take n row)) one ∙ ap floatTexts (take-suc row i d h) ∙ floats-append (take i row) (getD row i d ∷ [])
+    ∙ ap (λ (t : List (List ℕ)). floatTexts (take i row) ++ t) (one-float (getD row i d))

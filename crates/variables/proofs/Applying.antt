@@ -29,7 +29,8 @@ module _ {v : VariableSet} {values : List Float} {start s : List OpticalSurface}
   pub counted-le : q ≤ i
   counted-le = omega (arith, a .counted, count-le v i)
 
-  pub apply-more : (s′ : List OpticalSurface) (q′ : ℕ) → i < v .«variable_count» → variableAt v i .enabled ≡ true → s′ ≡ one (variableAt v i) values q s → q′ ≡ q + 1 → Applying v values start s′ q′ (i + 1)
+  pub apply-more : (s′ : List OpticalSurface) (q′ : ℕ) → i < v .«variable_count» → variableAt v i .enabled ≡ true → s′ ≡ one (variableAt v i) values q s → q′
+      ≡ q + 1 → Applying v values start s′ q′ (i + 1)
   unfolding appliedTo
   apply-more s′ q′ h e es eq = record {
     passed = omega arith;
@@ -37,7 +38,8 @@ module _ {v : VariableSet} {values : List Float} {start s : List OpticalSurface}
     stored = rw (eq, add-one q) (es ∙ (λ k. one (sym (active-here v i q h e (a .counted)) k) values q (a .stored k)));
   }
 
-  pub apply-past : (s′ : List OpticalSurface) (q′ : ℕ) → i < v .«variable_count» → variableAt v i .enabled ≡ false → s′ ≡ s → q′ ≡ q → Applying v values start s′ q′ (i + 1)
+  pub apply-past : (s′ : List OpticalSurface) (q′ : ℕ) → i < v .«variable_count» → variableAt v i .enabled ≡ false → s′ ≡ s → q′ ≡ q
+      → Applying v values start s′ q′ (i + 1)
   apply-past s′ q′ h e es eq = record {
     passed = omega arith;
     counted = omega (arith, a .counted, count-past v i e);

@@ -24,11 +24,15 @@ module _ {v : VariableSet} {g : VariableDef → ℕ → Float} {start x : List F
   pub counted-le : q ≤ i
   counted-le = omega (arith, f .counted, count-le v i)
 
-  pub fill-more : (x′ : List Float) (q′ : ℕ) (y : Float) → length start ≡ 8 → v .«variable_count» ≤ 8 → i < v .«variable_count» → variableAt v i .enabled ≡ true → y ≡ g (variableAt v i) q → x′ ≡ set x q y → q′ ≡ q + 1 → Filling v g start x′ q′ (i + 1)
+  pub fill-more : (x′ : List Float) (q′ : ℕ) (y : Float) → length start ≡ 8 → v .«variable_count» ≤ 8 → i < v .«variable_count» → variableAt v i .enabled ≡ true
+      → y ≡ g (variableAt v i) q → x′ ≡ set x q y → q′ ≡ q + 1 → Filling v g start x′ q′ (i + 1)
   fill-more x′ q′ y l m h e ey ex eq = record {
     passed = omega arith;
     counted = omega (arith, f .counted, count-more v i e);
-    stored = rw (ex, eq) (tab-step (λ (k : ℕ). g (activeAt v k) k) start x q y nan (f .stored) (rw (active-here v i q h e (f .counted)) ey) (omega (arith, counted-le)));
+    stored = rw (ex, eq) (tab-step (λ (k : ℕ). g (activeAt v k) k) start x q y nan (f .stored) (rw (active-here v i q h e (f .counted)) ey) (omega (
+      arith,
+      counted-le,
+    )));
   }
 
   pub fill-past : (x′ : List Float) (q′ : ℕ) → i < v .«variable_count» → variableAt v i .enabled ≡ false → x′ ≡ x → q′ ≡ q → Filling v g start x′ q′ (i + 1)
@@ -38,7 +42,8 @@ module _ {v : VariableSet} {g : VariableDef → ℕ → Float} {start x : List F
     stored = rw (ex, eq) (f .stored);
   }
 
-  pub fill-end : (rest : ℕ → Float) → length start ≡ 8 → v .«variable_count» ≤ 8 → v .«variable_count» ≤ i → ((k : ℕ) → k < length start → getD start k nan ≡ rest k) → x ≡ eight v (λ (k : ℕ). g (activeAt v k) k) rest
+  pub fill-end : (rest : ℕ → Float) → length start ≡ 8 → v .«variable_count» ≤ 8 → v .«variable_count» ≤ i
+      → ((k : ℕ) → k < length start → getD start k nan ≡ rest k) → x ≡ eight v (λ (k : ℕ). g (activeAt v k) k) rest
   fill-end rest l m h kept =
       let e : i ≡ v .«variable_count» = omega (arith, f .passed) in
       let p : q ≡ enabledCount v (v .«variable_count») = f .counted ∙ ap (enabledCount v) e in

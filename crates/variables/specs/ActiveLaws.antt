@@ -58,7 +58,8 @@ module _ (v : VariableSet) where
       no : (i : ℕ) → i < 0 → ⊥
       no i h = omega arith
   place (suc n) i h e = elim (eq-or-lt-of-le (le-of-suc-le-suc h)) [
-    | inl s ↦ subst (λ (k : ℕ). (enabledCount k < enabledCount (suc n)) × (getD (enabledOf v (suc n)) (enabledCount k) noVariable ≡ variableAt v k)) (sym s) (last (subst (λ (k : ℕ). variableAt v k .enabled ≡ true) s e))
+    | inl s ↦ subst (λ (k : ℕ). (enabledCount k < enabledCount (suc n)) × (getD (enabledOf v (suc n)) (enabledCount k) noVariable ≡ variableAt v k)) (sym s)
+        (last (subst (λ (k : ℕ). variableAt v k .enabled ≡ true) s e))
     | inr l ↦ let r = place n i l e in (grown (r .0), List·getD-append (enabledOf v n) (ifEnabled (variableAt v n)) noVariable (enabledCount i) (r .0) ∙ r .1)
   ]
     where

@@ -69,11 +69,13 @@ radius-number x t = go (lt (magnitude x) leastCurvature) refl
 -- ---- one surface with an allowed value
 pub with-value-taken : (s : OpticalSurface) (kind : VariableType) (x : Float) → T (allowed kind x) → T (surfaceTaken s) → T (surfaceTaken (withValue s kind x))
 with-value-taken s (Curvature i) x a t =
-    let p = surface-parts s t in surface-from _ (record { radius = radius-number x a; conic = p .conic; thickness = p .thickness; semiDiameter = p .semiDiameter })
+    let p = surface-parts s t in
+    surface-from _ (record { radius = radius-number x a; conic = p .conic; thickness = p .thickness; semiDiameter = p .semiDiameter })
 with-value-taken s (Thickness i) x a t =
     let p = surface-parts s t in surface-from _ (record { radius = p .radius; conic = p .conic; thickness = a; semiDiameter = p .semiDiameter })
 with-value-taken s (Conic i) x a t =
-    let p = surface-parts s t in surface-from _ (record { radius = p .radius; conic = finite-test x a; thickness = p .thickness; semiDiameter = p .semiDiameter })
+    let p = surface-parts s t in
+    surface-from _ (record { radius = p .radius; conic = finite-test x a; thickness = p .thickness; semiDiameter = p .semiDiameter })
 with-value-taken s (SemiDiameter i) x a t =
     let p = surface-parts s t in surface-from _ (record { radius = p .radius; conic = p .conic; thickness = p .thickness; semiDiameter = a })
 
@@ -89,7 +91,8 @@ set-keeps P (x ∷ xs) (suc j) (suc i) a d k h = set-keeps P xs j i a d k h
 pub put-taken : (s : List OpticalSurface) (kind : VariableType) (x : Float) (i : ℕ) → T (allowed kind x) → T (surfaceTaken (surfaceAt s i))
     → T (surfaceTaken (surfaceAt (put s kind x) i))
 put-taken s kind x i a t =
-    set-keeps (λ (u : OpticalSurface). T (surfaceTaken u)) s (surfaceIndex kind) i (withValue (surfaceAt s (surfaceIndex kind)) kind x) noSurface (λ h. with-value-taken _ kind x a h) t
+    set-keeps (λ (u : OpticalSurface). T (surfaceTaken u)) s (surfaceIndex kind) i (withValue (surfaceAt s (surfaceIndex kind)) kind x) noSurface
+    (λ h. with-value-taken _ kind x a h) t
 
 -- ---- what applying clamps to lies between the bounds, a NaN too
 module _ (x lo hi : Float) (order : T (le lo hi)) where

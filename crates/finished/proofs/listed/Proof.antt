@@ -38,7 +38,8 @@ opened-requires : tie.Need-opened-requires Inv-loop μ-loop
 opened-requires c κs = search needs
 
 add-count : tie.Need-add-count Inv-loop μ-loop
-add-count c = omega (arith, c .before .before .before .before .before .before .loop .inv .0, c .before .before .before .before .before .before .loop .inv .1 .few)
+add-count c =
+    omega (arith, c .before .before .before .before .before .before .loop .inv .0, c .before .before .before .before .before .before .loop .inv .1 .few)
 
 add-place : tie.Need-add-place Inv-loop μ-loop
 add-place c = omega arith
@@ -57,7 +58,8 @@ loop-again c =
       ⊎-elim
           (λ w.
           gathered-more _ below g (sym asked ∙ w .0 .taken)
-          (w .3 ∙ w .2 .ensures ∙ ap (λ (n : ℕ). openedAt n (now .place) (now .places)) (w .1 .ensures ∙ ap (λ (l : List ℕ). positionFrom (turnsIn l) (now .place) (now .places) 0 (now .count)) turns))
+          (w .3 ∙ w .2 .ensures ∙ ap (λ (n : ℕ). openedAt n (now .place) (now .places))
+          (w .1 .ensures ∙ ap (λ (l : List ℕ). positionFrom (turnsIn l) (now .place) (now .places) 0 (now .count)) turns))
           (w .4))
           (λ w. gathered-less _ below g (sym asked ∙ w .0 .left) (w .1) (w .2)) (c .if1 .came),
     )
@@ -68,7 +70,8 @@ four k h l = omega arith
 returns : tie.Need-returns Inv-loop μ-loop
 returns c =
     gathered-all _ _ _
-    (subst (λ (k : ℕ). Gathered (c .before .before .before .args .t1) k (c .before .loop .places) (c .before .loop .count)) (four _ (c .before .loop .inv .0) (c .loop-test .left)) (c .before .loop .inv .1))
+    (subst (λ (k : ℕ). Gathered (c .before .before .before .args .t1) k (c .before .loop .places) (c .before .loop .count))
+    (four _ (c .before .loop .inv .0) (c .loop-test .left)) (c .before .loop .inv .1))
 
 pub listed-spec : {M : Type 1} → statement M
 listed-spec =

@@ -18,7 +18,8 @@ none : (n at : ℕ) → n ≤ at → n - at ≡ 0
 none n at h = omega arith
 
 abbrev Inv-loop : tie.InvT-loop
-Inv-loop turns count place places at₀ at = (at ≤ count) × (positionFrom (turnsIn turns) place places 0 count ≡ positionFrom (turnsIn turns) place places at (count - at))
+Inv-loop turns count place places at₀ at =
+    (at ≤ count) × (positionFrom (turnsIn turns) place places 0 count ≡ positionFrom (turnsIn turns) place places at (count - at))
 
 abbrev μ-loop : tie.MeasureT-loop
 μ-loop turns count place places at₀ at = count - at
@@ -45,7 +46,8 @@ returns c =
     sym
     (c .before .before .before .before .loop .inv .1
     ∙ ap (positionFrom (turnsIn (a .turns)) (a .place) (a .t2) at) (left (a .count) at (c .before .before .before .loop-test .taken))
-    ∙ position-here (turnsIn (a .turns)) (a .place) (a .t2) at (a .count - suc at) (rw (c .before .before .turns-at .ensures, c .before .turns-at2 .ensures) at (c .if1 .taken)))
+    ∙ position-here (turnsIn (a .turns)) (a .place) (a .t2) at (a .count - suc at)
+    (rw (c .before .before .turns-at .ensures, c .before .turns-at2 .ensures) at (c .if1 .taken)))
 
 add-at : tie.Need-add-at Inv-loop μ-loop
 add-at c = search needs
@@ -61,7 +63,8 @@ loop-again c =
       omega (arith, below),
       c .before .before .before .before .loop .inv .1
           ∙ ap (positionFrom (turnsIn (a .turns)) (a .place) (a .t2) at) (left (a .count) at below)
-          ∙ position-next (turnsIn (a .turns)) (a .place) (a .t2) at (a .count - suc at) (rw (c .before .before .turns-at .ensures, c .before .turns-at2 .ensures) at (c .if1 .left))
+          ∙ position-next (turnsIn (a .turns)) (a .place) (a .t2) at (a .count - suc at)
+          (rw (c .before .before .turns-at .ensures, c .before .turns-at2 .ensures) at (c .if1 .left))
           ∙ sym (ap (λ (n : ℕ). positionFrom (turnsIn (a .turns)) (a .place) (a .t2) n (a .count - n)) (add-one at)),
     )
 

@@ -1,4 +1,5 @@
--- `answers::digest::with_word` meets its contract. The loop's invariant: the bytes that are left make of the hash so far what all make of the first. Assumes nothing.
+-- `answers::digest::with_word` meets its contract. The loop's invariant: the bytes that are left make of the hash so far what all make of the first. Assumes
+-- nothing.
 use Prim.Native.Nat.{ℕ, suc, _+_, _-_, _/_, _%_, _≤_, _<_}
 use mathlib.Core.Path.{_≡_, refl, sym, ap, _∙_}
 use native.Mathlib.Omega.{arith}
@@ -35,8 +36,11 @@ loop-less c = search needs
 
 loop-again : tie.Need-loop-again Inv-loop μ-loop
 loop-again c =
-    let l = c .before .before .loop in
-    (search needs, ap (λ (h : ℕ). withBytes (8 - (l .i + 1)) h (l .rest / 256)) (c .with-byte .ensures) ∙ sym (more (l .i) (l .h) (l .rest) (omega arith)) ∙ l .inv .1)
+    let l = c .before .before .loop in (
+      search needs,
+      ap (λ (h : ℕ). withBytes (8 - (l .i + 1)) h (l .rest / 256)) (c .with-byte .ensures) ∙ sym (more (l .i) (l .h) (l .rest) (omega arith))
+          ∙ l .inv .1,
+    )
 
 returns : tie.Need-returns Inv-loop μ-loop
 returns c =

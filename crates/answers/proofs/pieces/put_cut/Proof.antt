@@ -23,7 +23,11 @@ same-length : tie.Need-same-length
 same-length c = search needs
 
 returns : tie.Need-returns
-returns c = (search needs, put-from (c .before .before .before .before .before .before .before .before .before .counted-unknown .ensures) (then (c .before .before .before .before .before .before .before .put-number .ensures .1) (c .before .before .put .ensures .1) (search needs)))
+returns c = (
+  search needs,
+  put-from (c .before .before .before .before .before .before .before .before .before .counted-unknown .ensures)
+      (then (c .before .before .before .before .before .before .before .put-number .ensures .1) (c .before .before .put .ensures .1) (search needs)),
+)
 
 pub put-cut-spec : {M : Type 1} → statement M
 put-cut-spec =

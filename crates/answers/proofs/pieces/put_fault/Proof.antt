@@ -21,7 +21,13 @@ same-length : tie.Need-same-length
 same-length c = search needs
 
 returns : tie.Need-returns
-returns c = (search needs, put-as (ap (λ (t : Bool). cond t missingText (wrongText (c .before .before .before .before .before .before .before .before .before .args .c .why)) ∷ []) (sym (c .before .before .before .before .before .if1 .taken) ∙ c .before .before .before .before .before .before .is-end .ensures)) (c .before .before .put .ensures .1))
+returns c = (
+  search needs,
+  put-as (ap (λ (t : Bool). cond t missingText
+      (wrongText (c .before .before .before .before .before .before .before .before .before .args .c .why)) ∷ [])
+      (sym (c .before .before .before .before .before .if1 .taken) ∙ c .before .before .before .before .before .before .is-end .ensures))
+      (c .before .before .put .ensures .1),
+)
 
 put-wrong-requires : tie.Need-put-wrong-requires
 put-wrong-requires c κs = search needs
@@ -30,7 +36,12 @@ same-length-2 : tie.Need-same-length-2
 same-length-2 c = search needs
 
 returns-2 : tie.Need-returns-2
-returns-2 c = (search needs, put-as (ap (λ (t : Bool). cond t missingText (wrongText (c .before .before .before .before .before .before .before .before .args .c .why)) ∷ []) (sym (c .before .before .before .before .if1 .left) ∙ c .before .before .before .before .before .is-end .ensures)) (c .before .before .put-wrong .ensures .1))
+returns-2 c = (
+  search needs,
+  put-as (ap (λ (t : Bool). cond t missingText (wrongText (c .before .before .before .before .before .before .before .before .args .c .why))
+      ∷ []) (sym (c .before .before .before .before .if1 .left) ∙ c .before .before .before .before .before .is-end .ensures))
+      (c .before .before .put-wrong .ensures .1),
+)
 
 pub put-fault-spec : {M : Type 1} → statement M
 put-fault-spec =

@@ -20,7 +20,11 @@ same-length : tie.Need-same-length
 same-length c = search needs
 
 returns : tie.Need-returns
-returns c = (search needs, then (then (c .before .before .before .before .before .before .before .before .before .before .before .put .ensures .1) (c .before .before .before .before .before .before .put2 .ensures .1) (search needs)) (c .before .before .put-decimal .ensures .1) (search needs))
+returns c = (
+  search needs,
+  then (then (c .before .before .before .before .before .before .before .before .before .before .before .put .ensures .1)
+      (c .before .before .before .before .before .before .put2 .ensures .1) (search needs)) (c .before .before .put-decimal .ensures .1) (search needs),
+)
 
 pub put-number-spec : {M : Type 1} → statement M
 put-number-spec =

@@ -34,7 +34,9 @@ same-length c = search needs
 returns : tie.Need-returns
 returns c =
     let a = c .before .before .before .before .before .before .before .before .before .before .before .before .args in
-    let floats = put-as (ap (λ (n : ℕ). floatTexts (take n (a .t4))) (c .before .before .before .before .before .least .ensures)) (c .before .before .put-floats .ensures .1) in
+    let floats =
+    put-as (ap (λ (n : ℕ). floatTexts (take n (a .t4))) (c .before .before .before .before .before .least .ensures))
+    (c .before .before .put-floats .ensures .1) in
     (search needs, then (c .before .before .before .before .before .before .before .before .put-number .ensures .1) floats (search needs))
 
 pub put-row-spec : {M : Type 1} → statement M

@@ -43,9 +43,19 @@ same-length c = search needs
 
 returns : tie.Need-returns
 returns c =
-    let field = c .before .before .before .before .before .before .before .before .before .before .before .before .before .before .before .before .before .before .before .before .wrapping-add-u64 .ensures ∙ ap (λ (n : ℕ). (n + 1) % 2 ^ 64) (c .before .before .before .before .before .before .before .before .before .before .before .before .before .before .before .before .before .before .before .before .before .words-before .ensures) in
-    let number = put-from (c .before .before .before .before .before .before .before .before .before .before .before .before .before .before .before .before .before .before .counted-unknown .ensures) (c .before .before .before .before .before .before .before .before .before .before .before .before .before .before .before .before .put-number .ensures .1) in
-    let named = put-as (ap (numberTexts (32 ∷ 102 ∷ 105 ∷ 101 ∷ 108 ∷ 100 ∷ [])) field) (c .before .before .before .before .before .before .before .before .before .before .before .put-number2 .ensures .1) in
+    let field =
+    c .before .before .before .before .before .before .before .before .before .before .before .before .before .before .before .before .before .before
+    .before .before .wrapping-add-u64 .ensures ∙ ap (λ (n : ℕ). (n + 1) % 2 ^ 64)
+    (c .before .before .before .before .before .before .before .before .before .before .before .before .before .before .before .before .before .before
+    .before .before .before .words-before .ensures) in
+    let number =
+    put-from (c .before .before .before .before .before .before .before .before .before .before .before .before .before .before .before .before .before
+    .before .counted-unknown .ensures)
+    (c .before .before .before .before .before .before .before .before .before .before .before .before .before .before .before .before .put-number .ensures
+    .1) in
+    let named =
+    put-as (ap (numberTexts (32 ∷ 102 ∷ 105 ∷ 101 ∷ 108 ∷ 100 ∷ [])) field)
+    (c .before .before .before .before .before .before .before .before .before .before .before .put-number2 .ensures .1) in
     let parted = then (then number named (search needs)) (c .before .before .before .before .before .before .put .ensures .1) (search needs) in
     (search needs, (then parted (c .before .before .put-fault .ensures .1) (search needs)))
 

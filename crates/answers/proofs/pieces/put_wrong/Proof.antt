@@ -67,42 +67,66 @@ same-length c = search needs
 
 returns : tie.Need-returns
 unfolding wrongText
-returns c = (search needs, put-as (ap (λ (why : Why). wrongText why ∷ []) (sym (c .before .before .before .before .before .enum-told .given .1))) (c .before .before .put .ensures .1))
+returns c = (
+  search needs,
+  put-as (ap (λ (why : Why). wrongText why ∷ []) (sym (c .before .before .before .before .before .enum-told .given .1)))
+      (c .before .before .put .ensures .1),
+)
 
 same-length-2 : tie.Need-same-length-2
 same-length-2 c = search needs
 
 returns-2 : tie.Need-returns-2
 unfolding wrongText
-returns-2 c = (search needs, put-as (ap (λ (why : Why). wrongText why ∷ []) (sym (c .before .before .before .before .before .enum-told2 .given .1))) (c .before .before .put2 .ensures .1))
+returns-2 c = (
+  search needs,
+  put-as (ap (λ (why : Why). wrongText why ∷ []) (sym (c .before .before .before .before .before .enum-told2 .given .1)))
+      (c .before .before .put2 .ensures .1),
+)
 
 same-length-3 : tie.Need-same-length-3
 same-length-3 c = search needs
 
 returns-3 : tie.Need-returns-3
 unfolding wrongText
-returns-3 c = (search needs, put-as (ap (λ (why : Why). wrongText why ∷ []) (sym (c .before .before .before .before .before .enum-told3 .given .1))) (c .before .before .put3 .ensures .1))
+returns-3 c = (
+  search needs,
+  put-as (ap (λ (why : Why). wrongText why ∷ []) (sym (c .before .before .before .before .before .enum-told3 .given .1)))
+      (c .before .before .put3 .ensures .1),
+)
 
 same-length-4 : tie.Need-same-length-4
 same-length-4 c = search needs
 
 returns-4 : tie.Need-returns-4
 unfolding wrongText
-returns-4 c = (search needs, put-as (ap (λ (why : Why). wrongText why ∷ []) (sym (c .before .before .before .before .before .enum-told4 .given .1))) (c .before .before .put4 .ensures .1))
+returns-4 c = (
+  search needs,
+  put-as (ap (λ (why : Why). wrongText why ∷ []) (sym (c .before .before .before .before .before .enum-told4 .given .1)))
+      (c .before .before .put4 .ensures .1),
+)
 
 same-length-5 : tie.Need-same-length-5
 same-length-5 c = search needs
 
 returns-5 : tie.Need-returns-5
 unfolding wrongText
-returns-5 c = (search needs, put-as (ap (λ (why : Why). wrongText why ∷ []) (sym (c .before .before .before .before .before .enum-told5 .given .1))) (c .before .before .put5 .ensures .1))
+returns-5 c = (
+  search needs,
+  put-as (ap (λ (why : Why). wrongText why ∷ []) (sym (c .before .before .before .before .before .enum-told5 .given .1)))
+      (c .before .before .put5 .ensures .1),
+)
 
 same-length-6 : tie.Need-same-length-6
 same-length-6 c = search needs
 
 returns-6 : tie.Need-returns-6
 unfolding wrongText
-returns-6 c = (search needs, put-as (ap (λ (why : Why). wrongText why ∷ []) (sym (c .before .before .before .before .before .enum-told6 .given .1))) (c .before .before .put6 .ensures .1))
+returns-6 c = (
+  search needs,
+  put-as (ap (λ (why : Why). wrongText why ∷ []) (sym (c .before .before .before .before .before .enum-told6 .given .1)))
+      (c .before .before .put6 .ensures .1),
+)
 
 pub put-wrong-spec : {M : Type 1} → statement M
 put-wrong-spec =

@@ -30,7 +30,9 @@ same-length c = search needs
 
 returns : tie.Need-returns
 returns c =
-    let surfaces = then (c .before .before .before .before .before .before .before .before .before .before .before .before .before .before .before .before .put-number .ensures .1) (c .before .before .before .before .before .before .before .before .before .before .before .before .put-surfaces .ensures .1) (search needs) in
+    let surfaces = then
+    (c .before .before .before .before .before .before .before .before .before .before .before .before .before .before .before .before .put-number .ensures
+    .1) (c .before .before .before .before .before .before .before .before .before .before .before .before .put-surfaces .ensures .1) (search needs) in
     let values = then surfaces (c .before .before .before .before .before .before .before .put-row .ensures .1) (search needs) in
     (search needs, then values (c .before .before .put-row2 .ensures .1) (search needs))
 

@@ -33,7 +33,9 @@ same-length c = search needs
 
 returns : tie.Need-returns
 returns c =
-    let merits = then (c .before .before .before .before .before .before .before .before .before .before .before .before .before .before .before .before .before .put .ensures .1) (c .before .before .before .before .before .before .before .before .before .before .before .before .put-floats .ensures .1) (search needs) in
+    let merits = then
+    (c .before .before .before .before .before .before .before .before .before .before .before .before .before .before .before .before .before .put .ensures
+    .1) (c .before .before .before .before .before .before .before .before .before .before .before .before .put-floats .ensures .1) (search needs) in
     let iterations = then merits (c .before .before .before .before .before .before .before .put-number .ensures .1) (search needs) in
     (search needs, then iterations (c .before .before .put-number2 .ensures .1) (search needs))
 

@@ -21,7 +21,9 @@ admit-row-requires c κs = search needs
 
 returns-2 : tie.Need-returns-2
 unfolding recordRowOf
-returns-2 c = rw (sym (c .before .before .before .is-request .ensures) ∙ not-false _ (c .before .before .if1 .left), sym (c .before .request-of .ensures)) (c .admit-row .ensures)
+returns-2 c =
+    rw (sym (c .before .before .before .is-request .ensures) ∙ not-false _ (c .before .before .if1 .left), sym (c .before .request-of .ensures))
+    (c .admit-row .ensures)
 
 pub admit-record-row-spec : {M : Type 1} → statement M
 admit-record-row-spec =

@@ -21,7 +21,9 @@ admit-number-requires c κs = search needs
 
 returns-2 : tie.Need-returns-2
 unfolding recordNumber
-returns-2 c = rw (sym (c .before .before .before .is-request .ensures) ∙ not-false _ (c .before .before .if1 .left), sym (c .before .request-of .ensures)) (c .admit-number .ensures)
+returns-2 c =
+    rw (sym (c .before .before .before .is-request .ensures) ∙ not-false _ (c .before .before .if1 .left), sym (c .before .request-of .ensures))
+    (c .admit-number .ensures)
 
 pub record-number-spec : {M : Type 1} → statement M
 record-number-spec =

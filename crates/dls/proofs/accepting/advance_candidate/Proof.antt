@@ -24,8 +24,18 @@ advance-accepted-requires c κs = search needs
 
 returns : tie.Need-returns
 returns c =
-    let x = c .before .before .before .before .before .before .before .before .before .before .before .before .before .args in
-    (λ k lens w. candidate-taken (optimizer (x .config) (variablesFrom (x .counts .now) (x .numbers .now)) (operandCountFrom (x .counts .now))) (dampedFrom (x .h) (x .surfaces .now) (x .jacobian .now) (x .values .now) (x .residuals .now) (x .plus-residuals .now) (x .params .now) (x .candidate .now)) (evaluateOf (heldJob (x .counts .now) (x .numbers .now) k) lens) (c .before .before .before .before .before .before .before .before .before .is-reduction .ensures ∙ ap (λ (y : Float). finiteOf y && lt y (x .h .«total_merit»)) (c .before .before .before .before .before .before .before .before .before .before .merit-of .ensures k lens w)) (c .before .before .before .before .before .before .before .before .if1 .taken) (c .advance-accepted .ensures k lens w (sym (c .before .before .before .before .before .before .before .before .before .before .merit-of .ensures k lens w)) (operandCountFrom (x .counts .now))), kept-same (x .scratch .now))
+    let x = c .before .before .before .before .before .before .before .before .before .before .before .before .before .args in (
+      λ k lens w. candidate-taken (optimizer (x .config) (variablesFrom (x .counts .now) (x .numbers .now)) (operandCountFrom (x .counts .now)))
+          (dampedFrom (x .h) (x .surfaces .now) (x .jacobian .now) (x .values .now) (x .residuals .now) (x .plus-residuals .now) (x .params .now)
+          (x .candidate .now)) (evaluateOf (heldJob (x .counts .now) (x .numbers .now) k) lens)
+          (c .before .before .before .before .before .before .before .before .before .is-reduction .ensures
+          ∙ ap (λ (y : Float). finiteOf y && lt y (x .h .«total_merit»))
+          (c .before .before .before .before .before .before .before .before .before .before .merit-of .ensures k lens w))
+          (c .before .before .before .before .before .before .before .before .if1 .taken)
+          (c .advance-accepted .ensures k lens w (sym (c .before .before .before .before .before .before .before .before .before .before .merit-of .ensures k
+          lens w)) (operandCountFrom (x .counts .now))),
+      kept-same (x .scratch .now),
+    )
 
 resume-rejected-requires : tie.Need-resume-rejected-requires
 resume-rejected-requires c κs = search needs
@@ -36,8 +46,16 @@ same-length c = search needs
 returns-2 : tie.Need-returns-2
 returns-2 c =
     let x = c .before .before .before .before .before .before .before .before .before .before .before .before .before .before .args in
-    let a = c .before .before .resume-rejected .ensures in
-    (λ k lens w. candidate-left (optimizer (x .config) (variablesFrom (x .counts .now) (x .numbers .now)) (operandCountFrom (x .counts .now))) (dampedFrom (x .h) (x .surfaces .now) (x .jacobian .now) (x .values .now) (x .residuals .now) (x .plus-residuals .now) (x .params .now) (x .candidate .now)) (evaluateOf (heldJob (x .counts .now) (x .numbers .now) k) lens) (c .before .before .before .before .before .before .before .before .before .before .is-reduction .ensures ∙ ap (λ (y : Float). finiteOf y && lt y (x .h .«total_merit»)) (c .before .before .before .before .before .before .before .before .before .before .before .merit-of .ensures k lens w)) (c .before .before .before .before .before .before .before .before .before .if1 .left) (a .0 (x .config) (x .surfaces .now) (x .values .now)), a .1)
+    let a = c .before .before .resume-rejected .ensures in (
+      λ k lens w. candidate-left (optimizer (x .config) (variablesFrom (x .counts .now) (x .numbers .now)) (operandCountFrom (x .counts .now)))
+          (dampedFrom (x .h) (x .surfaces .now) (x .jacobian .now) (x .values .now) (x .residuals .now) (x .plus-residuals .now) (x .params .now)
+          (x .candidate .now)) (evaluateOf (heldJob (x .counts .now) (x .numbers .now) k) lens)
+          (c .before .before .before .before .before .before .before .before .before .before .is-reduction .ensures
+          ∙ ap (λ (y : Float). finiteOf y && lt y (x .h .«total_merit»))
+          (c .before .before .before .before .before .before .before .before .before .before .before .merit-of .ensures k lens w))
+          (c .before .before .before .before .before .before .before .before .before .if1 .left) (a .0 (x .config) (x .surfaces .now) (x .values .now)),
+      a .1,
+    )
 
 pub advance-candidate-spec : {M : Type 1} → statement M
 advance-candidate-spec =

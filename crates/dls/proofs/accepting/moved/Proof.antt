@@ -16,7 +16,14 @@ ease-requires c κs = search needs
 
 returns : tie.Need-returns
 unfolding testPresc
-returns c = λ k lens w em config m j p. simp (c .before .before .before .apply-values .ensures .0, c .ease .ensures, c .before .residuals-of .ensures k lens w, w, sym em)
+returns c =
+    λ k lens w em config m j p. simp (
+      c .before .before .before .apply-values .ensures .0,
+      c .ease .ensures,
+      c .before .residuals-of .ensures k lens w,
+      w,
+      sym em,
+    )
 
 pub moved-spec : {M : Type 1} → statement M
 moved-spec =

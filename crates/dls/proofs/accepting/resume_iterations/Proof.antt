@@ -15,7 +15,9 @@ at-plus-requires c κs = search needs
 
 returns : tie.Need-returns
 unfolding iterationEntered
-returns c = λ s v r. rw (lt-ltb _ _ (c .before .before .before .before .before .if1 .taken)) (rw add-one at (c .at-plus .ensures s zeroJacobian v r (c .before .before .before .before .before .before .before .args .params .now)))
+returns c =
+    λ s v r. rw (lt-ltb _ _ (c .before .before .before .before .before .if1 .taken))
+    (rw add-one at (c .at-plus .ensures s zeroJacobian v r (c .before .before .before .before .before .before .before .args .params .now)))
 
 ended-requires : tie.Need-ended-requires
 ended-requires c κs = search needs

@@ -25,7 +25,13 @@ loop-holds : tie.Need-loop-holds Inv-loop μ-loop
 loop-holds c = λ s v r. trying-begin
 
 attempt-step-requires : tie.Need-attempt-step-requires Inv-loop μ-loop
-attempt-step-requires c κs = omega (arith, active-le (variablesFrom (c .before .before .before .before .before .args .counts .now) (c .before .before .before .before .before .args .numbers .now)), c .before .before .loop .inv [] [] [] .kept .long)
+attempt-step-requires c κs =
+    omega (
+      arith,
+      active-le (variablesFrom (c .before .before .before .before .before .args .counts .now)
+          (c .before .before .before .before .before .args .numbers .now)),
+      c .before .before .loop .inv [] [] [] .kept .long,
+    )
 
 enum-told : tie.Need-enum-told Inv-loop μ-loop
 enum-told c = search needs
@@ -46,10 +52,21 @@ loop-again : tie.Need-loop-again Inv-loop μ-loop
 loop-again c = λ s v r.
     let a = c .before .before .before .before .before .attempt-step in
     let no : a .result ≡ No = cc in
-    trying-on (c .before .before .before .before .before .before .before .before .loop .inv s v r) (c .before .before .before .before .before .before .before .before .before .before .before .pre .1 .1 .1) (omega arith) (a .ensures) (omega (arith, active-le (variablesFrom (c .before .before .before .before .before .before .before .before .before .before .before .args .counts .now) (c .before .before .before .before .before .before .before .before .before .before .before .args .numbers .now)))) no (c .raise .ensures)
+    trying-on (c .before .before .before .before .before .before .before .before .loop .inv s v r)
+    (c .before .before .before .before .before .before .before .before .before .before .before .pre .1 .1 .1) (omega arith) (a .ensures)
+    (omega (
+      arith,
+      active-le (variablesFrom (c .before .before .before .before .before .before .before .before .before .before .before .args .counts .now)
+          (c .before .before .before .before .before .before .before .before .before .before .before .args .numbers .now)),
+    )) no (c .raise .ensures)
 
 candidate-params-requires : tie.Need-candidate-params-requires Inv-loop μ-loop
-candidate-params-requires c κs = omega (arith, c .before .before .before .before .before .before .before .before .before .loop .inv [] [] [] .kept .long, c .before .before .before .before .before .before .attempt-step .ensures .long)
+candidate-params-requires c κs =
+    omega (
+      arith,
+      c .before .before .before .before .before .before .before .before .before .loop .inv [] [] [] .kept .long,
+      c .before .before .before .before .before .before .attempt-step .ensures .long,
+    )
 
 add-at-candidate : tie.Need-add-at-candidate Inv-loop μ-loop
 add-at-candidate c = omega arith
@@ -58,13 +75,20 @@ at-candidate-requires : tie.Need-at-candidate-requires Inv-loop μ-loop
 at-candidate-requires c κs = search needs
 
 same-length : tie.Need-same-length Inv-loop μ-loop
-same-length c = let k = c .before .before .before .before .before .before .before .before .before .before .before .before .before .loop .inv [] [] [] .kept in search needs
+same-length c = let k = c .before .before .before .before .before .before .before .before .before .before .before .before .before .loop .inv [] [] [] .kept in
+    search needs
 
 returns : tie.Need-returns Inv-loop μ-loop
 returns c = λ s v r.
     let a = c .before .before .before .before .before .before .before .before .before .before .attempt-step in
     let yes : a .result ≡ Yes = cc in
-    trying-found (c .before .before .before .before .before .before .before .before .before .before .before .before .before .loop .inv s v r) (c .before .before .before .before .before .before .before .before .before .before .before .before .before .before .before .before .pre .1 .1 .1) (omega arith) (a .ensures) yes (c .before .before .before .candidate-params .ensures) (c .at-candidate .ensures s (c .before .before .before .before .before .before .before .before .before .before .before .before .before .before .before .before .args .jacobian .now) v r (c .before .before .before .before .before .before .before .before .before .before .before .before .before .before .before .before .args .params .now))
+    trying-found (c .before .before .before .before .before .before .before .before .before .before .before .before .before .loop .inv s v r)
+    (c .before .before .before .before .before .before .before .before .before .before .before .before .before .before .before .before .pre .1 .1 .1)
+    (omega arith) (a .ensures) yes (c .before .before .before .candidate-params .ensures)
+    (c .at-candidate .ensures s
+    (c .before .before .before .before .before .before .before .before .before .before .before .before .before .before .before .before .args .jacobian .now)
+    v r (c .before .before .before .before .before .before .before .before .before .before .before .before .before .before .before .before .args .params
+    .now))
 
 ended-requires : tie.Need-ended-requires Inv-loop μ-loop
 ended-requires c κs = search needs

@@ -18,7 +18,10 @@ operand-count-requires : tie.Need-operand-count-requires
 operand-count-requires c κs = search needs
 
 normal-equations-requires : tie.Need-normal-equations-requires
-normal-equations-requires c κs = let n = active-le (variablesFrom (c .before .before .before .before .before .before .args .counts .now) (c .before .before .before .before .before .before .args .numbers .now)) in let e = c .before .before .before .num-active .ensures in let m = c .before .before .operand-count .ensures in omega arith
+normal-equations-requires c κs =
+    let n = active-le (variablesFrom (c .before .before .before .before .before .before .args .counts .now)
+    (c .before .before .before .before .before .before .args .numbers .now)) in let e = c .before .before .before .num-active .ensures in
+    let m = c .before .before .operand-count .ensures in omega arith
 
 is-stationary-requires : tie.Need-is-stationary-requires
 is-stationary-requires c κs = search needs
@@ -32,8 +35,15 @@ same-length c = search needs
 returns : tie.Need-returns
 returns c =
     let x = c .before .before .before .before .before .before .before .before .before .before .before .before .before .before .before .before .args in
-    let e = rw (c .before .before .before .before .before .before .before .before .before .before .before .before .operand-count .ensures) at (c .before .before .before .before .before .before .before .before .before .normal-equations .ensures) in
-    (λ s v. stationary-over (x .config) (variablesFrom (x .counts .now) (x .numbers .now)) (operandCountFrom (x .counts .now)) (dampedFrom (x .h) s (x .jacobian .now) v (x .residuals .now) (x .plus-residuals .now) (x .params .now) (x .candidate .now)) (c .before .before .before .before .before .before .before .before .before .before .before .before .before .num-active .ensures) e (c .before .before .before .before .before .before .is-stationary .ensures) (c .before .before .before .before .before .if1 .taken) (c .ended .ensures s v (x .residuals .now)), kept-equations e)
+    let e = rw (c .before .before .before .before .before .before .before .before .before .before .before .before .operand-count .ensures) at
+    (c .before .before .before .before .before .before .before .before .before .normal-equations .ensures) in (
+      λ s v. stationary-over (x .config) (variablesFrom (x .counts .now) (x .numbers .now)) (operandCountFrom (x .counts .now))
+          (dampedFrom (x .h) s (x .jacobian .now) v (x .residuals .now) (x .plus-residuals .now) (x .params .now) (x .candidate .now))
+          (c .before .before .before .before .before .before .before .before .before .before .before .before .before .num-active .ensures) e
+          (c .before .before .before .before .before .before .is-stationary .ensures) (c .before .before .before .before .before .if1 .taken)
+          (c .ended .ensures s v (x .residuals .now)),
+      kept-equations e,
+    )
 
 resume-attempts-requires : tie.Need-resume-attempts-requires
 resume-attempts-requires c κs = search needs
@@ -43,10 +53,20 @@ same-length-2 c = search needs
 
 returns-2 : tie.Need-returns-2
 returns-2 c =
-    let x = c .before .before .before .before .before .before .before .before .before .before .before .before .before .before .before .before .before .before .before .args in
-    let e = rw (c .before .before .before .before .before .before .before .before .before .before .before .before .before .before .before .operand-count .ensures) at (c .before .before .before .before .before .before .before .before .before .before .before .before .normal-equations .ensures) in
-    let a = c .before .before .resume-attempts .ensures in
-    (λ s v. stationary-on (x .config) (variablesFrom (x .counts .now) (x .numbers .now)) (operandCountFrom (x .counts .now)) (dampedFrom (x .h) s (x .jacobian .now) v (x .residuals .now) (x .plus-residuals .now) (x .params .now) (x .candidate .now)) (c .before .before .before .before .before .before .before .before .before .before .before .before .before .before .before .before .num-active .ensures) e (c .before .before .before .before .before .before .before .before .before .is-stationary .ensures) (c .before .before .before .before .before .before .before .before .if1 .left) refl (a s v (x .residuals .now)), kept-on (kept-equations e) (a [] [] [] .kept))
+    let x = c .before .before .before .before .before .before .before .before .before .before .before .before .before .before .before .before .before .before
+    .before .args in
+    let e = rw
+    (c .before .before .before .before .before .before .before .before .before .before .before .before .before .before .before .operand-count .ensures) at
+    (c .before .before .before .before .before .before .before .before .before .before .before .before .normal-equations .ensures) in
+    let a = c .before .before .resume-attempts .ensures in (
+      λ s v. stationary-on (x .config) (variablesFrom (x .counts .now) (x .numbers .now)) (operandCountFrom (x .counts .now))
+          (dampedFrom (x .h) s (x .jacobian .now) v (x .residuals .now) (x .plus-residuals .now) (x .params .now) (x .candidate .now))
+          (c .before .before .before .before .before .before .before .before .before .before .before .before .before .before .before .before .num-active
+          .ensures)
+          e (c .before .before .before .before .before .before .before .before .before .is-stationary .ensures)
+          (c .before .before .before .before .before .before .before .before .if1 .left) refl (a s v (x .residuals .now)),
+      kept-on (kept-equations e) (a [] [] [] .kept),
+    )
 
 pub resume-stationary-spec : {M : Type 1} → statement M
 resume-stationary-spec =

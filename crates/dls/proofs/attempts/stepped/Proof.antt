@@ -45,7 +45,11 @@ loop-less : tie.Need-loop-less Inv-loop μ-loop
 loop-less c = omega arith
 
 loop-again : tie.Need-loop-again Inv-loop μ-loop
-loop-again c = (omega arith, rw (c .before .before .loop .inv .1) (stepped-more (c .before .before .before .args .t1) (c .before .before .before .args .scratch .now) (c .before .before .loop .q) (omega arith)))
+loop-again c = (
+  omega arith,
+  rw (c .before .before .loop .inv .1) (stepped-more (c .before .before .before .args .t1) (c .before .before .before .args .scratch .now)
+      (c .before .before .loop .q) (omega arith)),
+)
 
 returns : tie.Need-returns Inv-loop μ-loop
 returns c = let e : c .before .loop .q ≡ c .before .before .args .p = omega arith in rw e at (c .before .loop .inv .1)

@@ -27,7 +27,9 @@ denominator-requires c κs = search needs
 returns : tie.Need-returns
 returns c = λ m s j v r e d.
     let x = c .before .before .before .before .before .before .args in
-    between-both (x .config) (variablesFrom (x .counts .now) (x .numbers .now)) m (dampedFrom (x .h) s j v r e (x .params .now) d) (c .before .before .before .before .active-at .ensures) (c .before .before .moved-up .ensures) (c .before .moved-down .ensures) (c .denominator .ensures)
+    between-both (x .config) (variablesFrom (x .counts .now) (x .numbers .now)) m (dampedFrom (x .h) s j v r e (x .params .now) d)
+    (c .before .before .before .before .active-at .ensures) (c .before .before .moved-up .ensures) (c .before .moved-down .ensures)
+    (c .denominator .ensures)
 
 pub between-spec : {M : Type 1} → statement M
 between-spec =

@@ -18,7 +18,10 @@ jacobian-column-requires c κs = let m = c .before .before .operand-count .ensur
 returns : tie.Need-returns
 returns c = λ s v r d.
     let x = c .before .before .before .before .before .before .args in
-    column-written (x .config) (variablesFrom (x .counts .now) (x .numbers .now)) (operandCountFrom (x .counts .now)) (dampedFrom (x .h) s (x .jacobian .now) v r (x .plus-residuals .now) (x .params .now) d) _ _ _ (c .before .before .before .before .between .ensures (operandCountFrom (x .counts .now)) s (x .jacobian .now) v r (x .plus-residuals .now) d) (rw (c .before .before .before .operand-count .ensures) at (c .jacobian-column .ensures))
+    column-written (x .config) (variablesFrom (x .counts .now) (x .numbers .now)) (operandCountFrom (x .counts .now))
+    (dampedFrom (x .h) s (x .jacobian .now) v r (x .plus-residuals .now) (x .params .now) d) _ _ _
+    (c .before .before .before .before .between .ensures (operandCountFrom (x .counts .now)) s (x .jacobian .now) v r (x .plus-residuals .now) d)
+    (rw (c .before .before .before .operand-count .ensures) at (c .jacobian-column .ensures))
 
 pub with-differences-spec : {M : Type 1} → statement M
 with-differences-spec =

@@ -20,8 +20,13 @@ advance-first-requires c κs = search needs
 returns : tie.Need-returns
 unfolding phaseOf
 returns c =
-    let x = c .before .before .before .before .before .before .before .before .before .before .before .args in
-    (λ k lens w. advance-at (optimizer (x .config) (variablesFrom (x .counts .now) (x .numbers .now)) (operandCountFrom (x .counts .now))) (dampedFrom (x .h) (x .surfaces .now) (x .jacobian .now) (x .values .now) (x .residuals .now) (x .plus-residuals .now) (x .params .now) (x .candidate .now)) (c .before .before .before .before .before .before .before .before .if1 .taken) (evaluateOf (heldJob (x .counts .now) (x .numbers .now) k) lens) (c .advance-first .ensures k lens w (operandCountFrom (x .counts .now))), kept-same (x .scratch .now))
+    let x = c .before .before .before .before .before .before .before .before .before .before .before .args in (
+      λ k lens w. advance-at (optimizer (x .config) (variablesFrom (x .counts .now) (x .numbers .now)) (operandCountFrom (x .counts .now)))
+          (dampedFrom (x .h) (x .surfaces .now) (x .jacobian .now) (x .values .now) (x .residuals .now) (x .plus-residuals .now) (x .params .now)
+          (x .candidate .now)) (c .before .before .before .before .before .before .before .before .if1 .taken)
+          (evaluateOf (heldJob (x .counts .now) (x .numbers .now) k) lens) (c .advance-first .ensures k lens w (operandCountFrom (x .counts .now))),
+      kept-same (x .scratch .now),
+    )
 
 residuals-of-requires : tie.Need-residuals-of-requires
 residuals-of-requires c κs = search needs
@@ -32,8 +37,16 @@ at-minus-requires c κs = search needs
 returns-2 : tie.Need-returns-2
 unfolding phaseOf advanceAt
 returns-2 c =
-    let x = c .before .before .before .before .before .before .before .before .args in
-    (λ k lens w. advance-at (optimizer (x .config) (variablesFrom (x .counts .now) (x .numbers .now)) (operandCountFrom (x .counts .now))) (dampedFrom (x .h) (x .surfaces .now) (x .jacobian .now) (x .values .now) (x .residuals .now) (x .plus-residuals .now) (x .params .now) (x .candidate .now)) (c .before .before .before .before .if2 .taken) (evaluateOf (heldJob (x .counts .now) (x .numbers .now) k) lens) (c .at-minus .ensures (x .surfaces .now) (x .jacobian .now) (x .values .now) (x .residuals .now) (x .params .now) ∙ ap (λ (l : List Float). atMinus (currentOf (dampedFrom (x .h) (x .surfaces .now) (x .jacobian .now) (x .values .now) (x .residuals .now) (x .plus-residuals .now) (x .params .now) (x .candidate .now))) (x .jacobian .now) (x .h .column) l) (c .before .before .before .residuals-of .ensures k lens w)), kept-same (x .scratch .now))
+    let x = c .before .before .before .before .before .before .before .before .args in (
+      λ k lens w. advance-at (optimizer (x .config) (variablesFrom (x .counts .now) (x .numbers .now)) (operandCountFrom (x .counts .now)))
+          (dampedFrom (x .h) (x .surfaces .now) (x .jacobian .now) (x .values .now) (x .residuals .now) (x .plus-residuals .now) (x .params .now)
+          (x .candidate .now)) (c .before .before .before .before .if2 .taken) (evaluateOf (heldJob (x .counts .now) (x .numbers .now) k) lens)
+          (c .at-minus .ensures (x .surfaces .now) (x .jacobian .now) (x .values .now) (x .residuals .now) (x .params .now)
+          ∙ ap (λ (l : List Float). atMinus (currentOf (dampedFrom (x .h) (x .surfaces .now) (x .jacobian .now) (x .values .now) (x .residuals .now)
+          (x .plus-residuals .now) (x .params .now) (x .candidate .now))) (x .jacobian .now) (x .h .column) l)
+          (c .before .before .before .residuals-of .ensures k lens w)),
+      kept-same (x .scratch .now),
+    )
 
 advance-minus-requires : tie.Need-advance-minus-requires
 advance-minus-requires c κs = search needs
@@ -45,8 +58,13 @@ returns-3 : tie.Need-returns-3
 unfolding phaseOf
 returns-3 c =
     let x = c .before .before .before .before .before .before .before .before .before .before .before .before .before .before .args in
-    let a = c .before .before .advance-minus .ensures in
-    (λ k lens w. advance-at (optimizer (x .config) (variablesFrom (x .counts .now) (x .numbers .now)) (operandCountFrom (x .counts .now))) (dampedFrom (x .h) (x .surfaces .now) (x .jacobian .now) (x .values .now) (x .residuals .now) (x .plus-residuals .now) (x .params .now) (x .candidate .now)) (c .before .before .before .before .before .before .before .before .before .if3 .taken) (evaluateOf (heldJob (x .counts .now) (x .numbers .now) k) lens) (a .0 k lens w (x .surfaces .now) (x .values .now)), a .1)
+    let a = c .before .before .advance-minus .ensures in (
+      λ k lens w. advance-at (optimizer (x .config) (variablesFrom (x .counts .now) (x .numbers .now)) (operandCountFrom (x .counts .now)))
+          (dampedFrom (x .h) (x .surfaces .now) (x .jacobian .now) (x .values .now) (x .residuals .now) (x .plus-residuals .now) (x .params .now)
+          (x .candidate .now)) (c .before .before .before .before .before .before .before .before .before .if3 .taken)
+          (evaluateOf (heldJob (x .counts .now) (x .numbers .now) k) lens) (a .0 k lens w (x .surfaces .now) (x .values .now)),
+      a .1,
+    )
 
 advance-candidate-requires : tie.Need-advance-candidate-requires
 advance-candidate-requires c κs = search needs
@@ -58,13 +76,22 @@ returns-4 : tie.Need-returns-4
 unfolding phaseOf
 returns-4 c =
     let x = c .before .before .before .before .before .before .before .before .before .before .before .before .before .before .before .before .before .args in
-    let a = c .before .before .advance-candidate .ensures in
-    (λ k lens w. advance-at (optimizer (x .config) (variablesFrom (x .counts .now) (x .numbers .now)) (operandCountFrom (x .counts .now))) (dampedFrom (x .h) (x .surfaces .now) (x .jacobian .now) (x .values .now) (x .residuals .now) (x .plus-residuals .now) (x .params .now) (x .candidate .now)) (c .before .before .before .before .before .before .before .before .before .before .before .if4 .taken) (evaluateOf (heldJob (x .counts .now) (x .numbers .now) k) lens) (a .0 k lens w), a .1)
+    let a = c .before .before .advance-candidate .ensures in (
+      λ k lens w. advance-at (optimizer (x .config) (variablesFrom (x .counts .now) (x .numbers .now)) (operandCountFrom (x .counts .now)))
+          (dampedFrom (x .h) (x .surfaces .now) (x .jacobian .now) (x .values .now) (x .residuals .now) (x .plus-residuals .now) (x .params .now)
+          (x .candidate .now)) (c .before .before .before .before .before .before .before .before .before .before .before .if4 .taken)
+          (evaluateOf (heldJob (x .counts .now) (x .numbers .now) k) lens) (a .0 k lens w),
+      a .1,
+    )
 
 returns-5 : tie.Need-returns-5
 returns-5 c =
-    let x = c .before .before .before .before .before .before .args in
-    (λ k lens w. advance-over (optimizer (x .config) (variablesFrom (x .counts .now) (x .numbers .now)) (operandCountFrom (x .counts .now))) (dampedFrom (x .h) (x .surfaces .now) (x .jacobian .now) (x .values .now) (x .residuals .now) (x .plus-residuals .now) (x .params .now) (x .candidate .now)) (evaluateOf (heldJob (x .counts .now) (x .numbers .now) k) lens) (omega arith), kept-same (x .scratch .now))
+    let x = c .before .before .before .before .before .before .args in (
+      λ k lens w. advance-over (optimizer (x .config) (variablesFrom (x .counts .now) (x .numbers .now)) (operandCountFrom (x .counts .now)))
+          (dampedFrom (x .h) (x .surfaces .now) (x .jacobian .now) (x .values .now) (x .residuals .now) (x .plus-residuals .now) (x .params .now)
+          (x .candidate .now)) (evaluateOf (heldJob (x .counts .now) (x .numbers .now) k) lens) (omega arith),
+      kept-same (x .scratch .now),
+    )
 
 pub advance-damped-spec : {M : Type 1} → statement M
 advance-damped-spec =

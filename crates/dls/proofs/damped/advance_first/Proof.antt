@@ -27,10 +27,24 @@ returns : tie.Need-returns
 returns c = λ k lens w m.
     let x = c .before .before .before .before .before .before .before .before .before .before .before .args in
     let r = c .before .before .before .before .before .before .residuals-of in
-    let e : record { values = x .found .now; residuals = r .result; «total_merit» = c .before .before .before .before .before .merit-of .result } ≡ (evaluateOf (heldJob (x .counts .now) (x .numbers .now) k) lens) = λ i. record { values = w i; residuals = r .ensures k lens w i; «total_merit» = c .before .before .before .before .before .merit-of .ensures k lens w i } in
-    first-on (optimizer (x .config) (variablesFrom (x .counts .now) (x .numbers .now)) m) (dampedFrom (x .h) (x .surfaces .now) (x .jacobian .now) (x .values .now) (x .residuals .now) (x .plus-residuals .now) (x .params .now) (x .candidate .now)) (evaluateOf (heldJob (x .counts .now) (x .numbers .now) k) lens) (c .before .before .before .before .before .before .before .before .before .before .before .pre .1 .1 .1) (c .before .before .before .before .before .before .before .before .extract-values .ensures)
+    let e : record { values = x .found .now; residuals = r .result; «total_merit» = c .before .before .before .before .before .merit-of .result }
+    ≡ (evaluateOf (heldJob (x .counts .now) (x .numbers .now) k) lens) = λ i.
+    record { values = w i; residuals = r .ensures k lens w i; «total_merit» = c .before .before .before .before .before .merit-of .ensures k lens w i } in
+    first-on (optimizer (x .config) (variablesFrom (x .counts .now) (x .numbers .now)) m)
+    (dampedFrom (x .h) (x .surfaces .now) (x .jacobian .now) (x .values .now) (x .residuals .now) (x .plus-residuals .now) (x .params .now)
+    (x .candidate .now)) (evaluateOf (heldJob (x .counts .now) (x .numbers .now) k) lens)
+    (c .before .before .before .before .before .before .before .before .before .before .before .pre .1 .1 .1)
+    (c .before .before .before .before .before .before .before .before .extract-values .ensures)
     (c .resume-iterations .ensures (x .surfaces .now) (x .found .now) (r .result)
-    ∙ ap (λ (q : MeritEvaluation). iterationEntered (ltb 0 (x .config .«max_iterations»)) (record { surfaces = standing (x .surfaces .now); params = c .before .before .before .before .before .before .before .before .extract-values .result; evaluation = q; initialMerit = q .«total_merit»; damping = x .config .«initial_damping»; iteration = 0 })) e)
+    ∙ ap (λ (q : MeritEvaluation). iterationEntered (ltb 0 (x .config .«max_iterations»))
+    (record {
+      surfaces = standing (x .surfaces .now);
+      params = c .before .before .before .before .before .before .before .before .extract-values .result;
+      evaluation = q;
+      initialMerit = q .«total_merit»;
+      damping = x .config .«initial_damping»;
+      iteration = 0;
+    })) e)
 
 pub advance-first-spec : {M : Type 1} → statement M
 advance-first-spec =

@@ -25,7 +25,15 @@ power-requires c κs = search needs
 
 returns-4 : tie.Need-returns-4
 unfolding expOf
-returns-4 c = simp (differs, c .before .before .before .before .if1 .left, c .before .before .before .if2 .left, c .before .before .if3 .left, c .power .ensures, c .before .terms .ensures)
+returns-4 c =
+    simp (
+      differs,
+      c .before .before .before .before .if1 .left,
+      c .before .before .before .if2 .left,
+      c .before .before .if3 .left,
+      c .power .ensures,
+      c .before .terms .ensures,
+    )
 
 pub exp-stand-in-spec : {M : Type 1} → statement M
 exp-stand-in-spec = tie.close (tie.spec returns returns-2 returns-3 terms-requires power-requires returns-4)

@@ -47,7 +47,11 @@ loop-less : tie.Need-loop-less Inv-loop μ-loop
 loop-less c = omega arith
 
 loop-again : tie.Need-loop-again Inv-loop μ-loop
-loop-again c = (step (c .before .before .loop .k) (c .before .before .before .args .y) (c .before .before .loop .s) (c .before .loop-test .taken) ∙ c .before .before .loop .inv .0, omega arith)
+loop-again c = (
+  step (c .before .before .loop .k) (c .before .before .before .args .y) (c .before .before .loop .s) (c .before .loop-test .taken)
+      ∙ c .before .before .loop .inv .0,
+  omega arith,
+)
 
 returns : tie.Need-returns Inv-loop μ-loop
 returns c = sym (none (c .before .loop .k) (c .before .before .args .y) (c .before .loop .s) (c .loop-test .left)) ∙ c .before .loop .inv .0

@@ -8,7 +8,9 @@ use Rattle.floats.proofs.root.sqrt.Statement.{statement}
 use Rattle.floats.proofs.root.sqrt.Tie as tie
 
 finite : (c : tie.Then2) → Finite (c .before .before .args .x)
-finite c = finite-case (c .before .before .args .x) (is-so (fits binary64 _) (c .before .before .good .0 .1)) (rw nought at (c .before .if1 .taken)) (rw infinite at (c .if2 .taken))
+finite c =
+    finite-case (c .before .before .args .x) (is-so (fits binary64 _) (c .before .before .good .0 .1)) (rw nought at (c .before .if1 .taken))
+    (rw infinite at (c .if2 .taken))
 
 float-to-bits-pattern-root : tie.Need-float-to-bits-pattern-root
 float-to-bits-pattern-root c = over-number (ofBits binary64 0) (c .before .before .args .x) (c .before .if1 .taken)

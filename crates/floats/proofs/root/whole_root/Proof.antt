@@ -49,7 +49,8 @@ module _ (w q k h : ℕ) (some : 0 < k) (is : h ≡ 2 ^ (k - 1)) (spans : Spans 
   upper t = let e = shares in (omega arith, omega arith, omega arith, leb-true ((q + h) * (q + h)) w t, subst (λ (x : ℕ). w < x * x) e (spans .4))
 
   pub lower : leb ((q + h) * (q + h)) w ≡ false → Spans w q (k - 1)
-  lower t = let e = shares in (omega arith, omega arith, omega arith, omega arith, subst (λ (x : ℕ). w < (q + x) * (q + x)) is (leb-false ((q + h) * (q + h)) w t))
+  lower t =
+      let e = shares in (omega arith, omega arith, omega arith, omega arith, subst (λ (x : ℕ). w < (q + x) * (q + x)) is (leb-false ((q + h) * (q + h)) w t))
 
 abbrev Inv-loop : tie.InvT-loop
 Inv-loop hi lo q₀ k₀ q k = Spans (hi * 2 ^ 54 + lo) q k
@@ -67,10 +68,12 @@ shl-t : tie.Need-shl-t Inv-loop μ-loop
 shl-t c = omega arith
 
 add-t : tie.Need-add-t Inv-loop μ-loop
-add-t c = let f = fits _ (c .before .loop .q) (c .before .loop .k) _ (omega arith) (bit (c .before .loop .k - 1) (omega arith)) (c .before .loop .inv) in omega arith
+add-t c = let f = fits _ (c .before .loop .q) (c .before .loop .k) _ (omega arith) (bit (c .before .loop .k - 1) (omega arith)) (c .before .loop .inv) in
+    omega arith
 
 square-at-most-requires : tie.Need-square-at-most-requires Inv-loop μ-loop
-square-at-most-requires c κs = let f = fits _ (c .before .loop .q) (c .before .loop .k) _ (omega arith) (bit (c .before .loop .k - 1) (omega arith)) (c .before .loop .inv) in omega arith
+square-at-most-requires c κs =
+    let f = fits _ (c .before .loop .q) (c .before .loop .k) _ (omega arith) (bit (c .before .loop .k - 1) (omega arith)) (c .before .loop .inv) in omega arith
 
 loop-less : tie.Need-loop-less Inv-loop μ-loop
 loop-less c = omega arith

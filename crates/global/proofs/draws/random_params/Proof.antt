@@ -20,7 +20,9 @@ use Rattle.global.proofs.draws.random_params.Statement.{statement}
 use Rattle.global.proofs.draws.random_params.Tie as tie
 
 abbrev Inv-loop : tie.InvT-loop
-Inv-loop generator counts numbers count x₀ rng₀ q₀ i₀ x rng q i = Drawing (variablesFrom counts numbers) (λ (d : VariableDef) (k : ℕ) (unit : Float). uniformOf unit (d .«min_value») (d .«max_value»)) rng₀ x₀ x rng q i × (count ≡ variableCountFrom counts)
+Inv-loop generator counts numbers count x₀ rng₀ q₀ i₀ x rng q i =
+    Drawing (variablesFrom counts numbers) (λ (d : VariableDef) (k : ℕ) (unit : Float). uniformOf unit (d .«min_value») (d .«max_value»)) rng₀ x₀ x rng q i
+    × (count ≡ variableCountFrom counts)
 
 abbrev μ-loop : tie.MeasureT-loop
 μ-loop generator counts numbers count x₀ rng₀ q₀ i₀ x rng q i = count - i
@@ -45,7 +47,8 @@ mul-x : tie.Need-mul-x Inv-loop μ-loop
 mul-x c = omega (arith, counted-le (c .before .before .before .before .before .loop .inv .0 .filling), c .before .before .before .before .before .loop .inv .1)
 
 array-write-x : tie.Need-array-write-x Inv-loop μ-loop
-array-write-x c = omega (arith, counted-le (c .before .before .before .before .before .loop .inv .0 .filling), c .before .before .before .before .before .loop .inv .1)
+array-write-x c =
+    omega (arith, counted-le (c .before .before .before .before .before .loop .inv .0 .filling), c .before .before .before .before .before .loop .inv .1)
 
 add-q : tie.Need-add-q Inv-loop μ-loop
 add-q c = omega (arith, counted-le (c .before .before .before .before .before .loop .inv .0 .filling), c .before .before .before .before .before .loop .inv .1)
@@ -61,9 +64,15 @@ loop-again c =
     let x = c .before .before .before .before .before .before .args in
     let v = variablesFrom (x .counts .now) (x .numbers .now) in
     let e = ap (λ (d : VariableDef). d .enabled) (c .before .variable-at .ensures) in
-    let h : c .before .before .before .loop .i < variableCountFrom (x .counts .now) = omega (arith, c .before .before .loop-test .taken, c .before .before .before .loop .inv .1) in
+    let h : c .before .before .before .loop .i < variableCountFrom (x .counts .now) =
+    omega (arith, c .before .before .loop-test .taken, c .before .before .before .loop .inv .1) in
     ⊎-elim
-    (λ w. (draw-more (c .before .before .before .loop .inv .0) _ _ _ _ _ refl (search needs) h (sym e ∙ w .0 .taken) (w .1 .ensures) (w .2 .ensures ∙ ap (λ (d : VariableDef). uniformOf (w .1 .result .unit) (d .«min_value») (d .«max_value»)) (c .before .variable-at .ensures)) (w .3) (w .4) (w .5), c .before .before .before .loop .inv .1))
+    (λ w. (
+      draw-more (c .before .before .before .loop .inv .0) _ _ _ _ _ refl (search needs) h (sym e ∙ w .0 .taken) (w .1 .ensures)
+          (w .2 .ensures ∙ ap (λ (d : VariableDef). uniformOf (w .1 .result .unit) (d .«min_value») (d .«max_value»)) (c .before .variable-at .ensures)) (w .3)
+          (w .4) (w .5),
+      c .before .before .before .loop .inv .1,
+    ))
     (λ w. (draw-past (c .before .before .before .loop .inv .0) _ _ _ h (sym e ∙ w .0 .left) (w .1) (w .2) (w .3), c .before .before .before .loop .inv .1))
     (c .if1 .came)
 
@@ -71,8 +80,12 @@ returns : tie.Need-returns Inv-loop μ-loop
 unfolding randomParams afterDraws
 returns c =
     let x = c .before .before .before .before .args in
-    let h : variableCountFrom (x .counts .now) ≤ c .before .loop .i = omega (arith, c .loop-test .left, c .before .loop .inv .1) in
-    (drawn-params (c .before .loop .inv .0) (λ (k : ℕ). zero64) refl (search needs) h (λ k h. getD-replicate 8 k zero64 nan h), drawn-generator (c .before .loop .inv .0) h)
+    let h : variableCountFrom (x .counts .now) ≤ c .before .loop .i = omega (arith, c .loop-test .left, c .before .loop .inv .1) in (
+      drawn-params (c .before .loop .inv .0) (λ (k : ℕ). zero64) refl (search needs) h (λ k h. getD-replicate 8 k zero64 nan h),
+      drawn-generator (c .before .loop .inv .0) h,
+    )
 
 pub random-params-spec : {M : Type 1} → statement M
-random-params-spec = tie.close (tie.spec Inv-loop μ-loop variable-count-requires loop-holds variable-at-requires drawn-requires uniform-requires mul-x array-write-x add-q add-i loop-less loop-again returns)
+random-params-spec =
+    tie.close (tie.spec Inv-loop μ-loop variable-count-requires loop-holds variable-at-requires drawn-requires uniform-requires mul-x array-write-x add-q add-i
+    loop-less loop-again returns)

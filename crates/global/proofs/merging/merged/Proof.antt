@@ -19,11 +19,21 @@ keep-requires-2 c κs = search needs
 
 returns-2 : tie.Need-returns-2
 unfolding merged isLower
-returns-2 c = λ j p y d. let x = c .before .before .before .before .before .before .before .before .before .before .args in simp (before-some (x .h .trial) (resultFrom (x .h .best) (x .best-surfaces .now) (x .best-values .now) (x .best-residuals .now)) (c .before .before .before .before .before .before .before .if1 .left), c .before .before .before .before .if2 .taken) (c .keep2 .ensures j p y d)
+returns-2 c = λ j p y d. let x = c .before .before .before .before .before .before .before .before .before .before .args in
+    simp (
+      before-some (x .h .trial) (resultFrom (x .h .best) (x .best-surfaces .now) (x .best-values .now) (x .best-residuals .now))
+          (c .before .before .before .before .before .before .before .if1 .left),
+      c .before .before .before .before .if2 .taken,
+    ) (c .keep2 .ensures j p y d)
 
 returns-3 : tie.Need-returns-3
 unfolding merged isLower
-returns-3 c = λ j p y d. let x = c .before .before .before .before .before .before .before .args in simp (before-some (x .h .trial) (resultFrom (x .h .best) (x .best-surfaces .now) (x .best-values .now) (x .best-residuals .now)) (c .before .before .before .before .if1 .left), c .before .if2 .left)
+returns-3 c = λ j p y d. let x = c .before .before .before .before .before .before .before .args in
+    simp (
+      before-some (x .h .trial) (resultFrom (x .h .best) (x .best-surfaces .now) (x .best-values .now) (x .best-residuals .now))
+          (c .before .before .before .before .if1 .left),
+      c .before .if2 .left,
+    )
 
 pub merged-spec : {M : Type 1} → statement M
 merged-spec = tie.close (tie.spec keep-requires returns keep-requires-2 returns-2 returns-3)

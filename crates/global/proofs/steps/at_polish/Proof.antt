@@ -18,7 +18,8 @@ at-first-requires c κs = search needs
 
 returns : tie.Need-returns
 returns c = let x = c .before .before .before .before .before .before .before .before .before .before .before .args in
-    ap (λ (d : DampedState). withBest d (kept (standing (replicate 64 zero64)) (x .initial-merit) zero64)) (c .before .before .before .at-first .ensures (x .best-surfaces .now))
+    ap (λ (d : DampedState). withBest d (kept (standing (replicate 64 zero64)) (x .initial-merit) zero64))
+    (c .before .before .before .at-first .ensures (x .best-surfaces .now))
     ∙ ap (λ (s : Surfaces). withBest (atFirst (standing (x .best-surfaces .now))) (kept s (x .initial-merit) zero64)) standing-zero
 
 pub at-polish-spec : {M : Type 1} → statement M

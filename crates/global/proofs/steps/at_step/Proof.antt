@@ -29,7 +29,8 @@ drawn w initialMerit c k d g = record {
 }
 
 module _ (a : Annealer) (w : Walk) (initialMerit : Float) (c k : ℕ) where
-  at-step : {d : DampedState} {trial : List Float} {g : ℕ} → d ≡ holding 6 (w .surfaces) (w .params) trial → trial ≡ trialParams a w → g ≡ stepTimes (numActive (a .variables)) (w .rng) → drawn w initialMerit c k d g ≡ atStep a initialMerit w c k
+  at-step : {d : DampedState} {trial : List Float} {g : ℕ} → d ≡ holding 6 (w .surfaces) (w .params) trial → trial ≡ trialParams a w → g
+      ≡ stepTimes (numActive (a .variables)) (w .rng) → drawn w initialMerit c k d g ≡ atStep a initialMerit w c k
   unfolding afterDraws
   at-step e t n = λ i. drawn w initialMerit c k ((e ∙ ap (holding 6 (w .surfaces) (w .params)) t) i) (n i)
 
@@ -44,7 +45,8 @@ returns c = λ a ev s bs.
     let x = c .before .before .before .before .before .before .before .before .before .before .before .args in
     let t = c .before .before .before .before .before .before .before .before .trial-params in
     let w = walkFrom (x .w) s (x .params .now) bs in
-    at-step a w (x .initial-merit) (x .c) (x .k) (c .before .before .holding .ensures s (x .params .now) (t .result .params)) (t .ensures .0 a w ev refl refl) (t .ensures .1 ∙ ap (λ (v : VariableSet). stepTimes (numActive v) (x .w .rng)) (sym ev))
+    at-step a w (x .initial-merit) (x .c) (x .k) (c .before .before .holding .ensures s (x .params .now) (t .result .params)) (t .ensures .0 a w ev refl refl)
+    (t .ensures .1 ∙ ap (λ (v : VariableSet). stepTimes (numActive v) (x .w .rng)) (sym ev))
 
 pub at-step-spec : {M : Type 1} → statement M
 at-step-spec = tie.close (tie.spec trial-params-requires holding-requires returns)

@@ -23,7 +23,12 @@ advance-damped-requires : tie.Need-advance-damped-requires
 advance-damped-requires c κs = search needs
 
 resume-damped-requires : tie.Need-resume-damped-requires
-resume-damped-requires c κs = (c .before .before .before .before .before .before .before .before .before .before .before .before .before .before .before .before .before .before .before .before .before .before .before .before .before .pre .1 .0, c .before .before .before .before .before .before .before .before .before .before .before .before .before .before .before .before .before .before .before .before .before .before .before .before .before .pre .1 .1 .0)
+resume-damped-requires c κs = (
+  c .before .before .before .before .before .before .before .before .before .before .before .before .before .before .before .before .before .before .before
+      .before .before .before .before .before .before .pre .1 .0,
+  c .before .before .before .before .before .before .before .before .before .before .before .before .before .before .before .before .before .before .before
+      .before .before .before .before .before .before .pre .1 .1 .0,
+)
 
 same-length : tie.Need-same-length
 same-length c = search needs
@@ -31,13 +36,21 @@ same-length c = search needs
 returns : tie.Need-returns
 unfolding advance
 returns c =
-    let x = c .before .before .before .before .before .before .before .before .before .before .before .before .before .before .before .before .before .before .before .before .before .before .before .before .before .before .args in
+    let x = c .before .before .before .before .before .before .before .before .before .before .before .before .before .before .before .before .before .before
+    .before .before .before .before .before .before .before .before .args in
     let v = (variablesFrom (x .counts .now) (x .numbers .now)) in
     let o = optimizer (dlsConfig (settingsFrom (x .counts .now) (x .numbers .now))) v (operandCountFrom (x .counts .now)) in
-    let d = (dampedFrom (x .h .damped) (x .surfaces .now) (x .jacobian .now) (x .values .now) (x .residuals .now) (x .plus-residuals .now) (x .params .now) (x .candidate .now)) in
+    let d = (dampedFrom (x .h .damped) (x .surfaces .now) (x .jacobian .now) (x .values .now) (x .residuals .now) (x .plus-residuals .now) (x .params .now)
+    (x .candidate .now)) in
     let a = c .before .before .before .before .before .before .before .before .before .before .before .before .before .advance-damped .ensures in (
       λ k lens w. c .resume-damped .ensures o refl d
-          ∙ ap (λ (w : DampedState). resumeDamped o (standing (x .numbers .now)) (numTrialsFrom (x .counts .now)) (isFinished w) (stateFrom (x .h) (x .surfaces .now) (x .jacobian .now) (x .values .now) (x .residuals .now) (x .plus-residuals .now) (x .params .now) (x .candidate .now) (x .best-surfaces .now) (x .best-values .now) (x .best-residuals .now)) w) (a .0 k lens w ∙ ap (λ (l : DlsConfig). Damped.advance (optimizer l v (operandCountFrom (x .counts .now))) d (evaluateOf (heldJob (x .counts .now) (x .numbers .now) k) lens)) (c .before .before .before .before .before .before .before .before .before .before .before .before .before .before .before .before .before .before .before .before .before .before .dls-config .ensures)),
+          ∙ ap (λ (w : DampedState). resumeDamped o (standing (x .numbers .now)) (numTrialsFrom (x .counts .now)) (isFinished w)
+          (stateFrom (x .h) (x .surfaces .now) (x .jacobian .now) (x .values .now) (x .residuals .now) (x .plus-residuals .now) (x .params .now)
+          (x .candidate .now) (x .best-surfaces .now) (x .best-values .now) (x .best-residuals .now)) w)
+          (a .0 k lens w ∙ ap (λ (l : DlsConfig). Damped.advance (optimizer l v (operandCountFrom (x .counts .now))) d
+          (evaluateOf (heldJob (x .counts .now) (x .numbers .now) k) lens))
+          (c .before .before .before .before .before .before .before .before .before .before .before .before .before .before .before .before .before .before
+          .before .before .before .before .dls-config .ensures)),
       a .1,
     )
 

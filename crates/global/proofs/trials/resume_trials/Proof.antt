@@ -29,14 +29,25 @@ returns c = λ o ev bs bv br.
     let x = c .before .before .before .before .before .before .before .before .before .before .before .before .args in
     let t = c .before .before .before .before .before .before .before .trial-surfaces in
     ap (λ (w : DampedState). inTrial w (resultFrom (x .best) bs bv br) (t .result) (x .trial + 1)) (c .at-first .ensures _)
-    ∙ simp (lt-ltb (x .trial) (numTrialsFrom (x .counts .now)) (rw (c .before .before .before .before .before .before .before .before .before .before .num-trials .ensures) at (c .before .before .before .before .before .before .before .before .before .if1 .taken)), t .ensures .0 o ev, t .ensures .1, ev, add-one)
+    ∙ simp (
+      lt-ltb (x .trial) (numTrialsFrom (x .counts .now))
+          (rw (c .before .before .before .before .before .before .before .before .before .before .num-trials .ensures) at
+          (c .before .before .before .before .before .before .before .before .before .if1 .taken)),
+      t .ensures .0 o ev,
+      t .ensures .1,
+      ev,
+      add-one,
+    )
 
 ended-requires : tie.Need-ended-requires
 ended-requires c κs = search needs
 
 returns-2 : tie.Need-returns-2
 unfolding resumeTrials
-returns-2 c = λ o ev bs bv br. let x = c .before .before .before .before .before .before .before .before .before .before .before .args in rw (le-ltb (x .trial) (numTrialsFrom (x .counts .now)) (rw (c .before .before .before .before .before .before .before .before .before .num-trials .ensures) at (c .before .before .before .before .before .before .before .before .if1 .left))) (c .ended .ensures bs bv br)
+returns-2 c = λ o ev bs bv br. let x = c .before .before .before .before .before .before .before .before .before .before .before .args in
+    rw (le-ltb (x .trial) (numTrialsFrom (x .counts .now))
+    (rw (c .before .before .before .before .before .before .before .before .before .num-trials .ensures) at
+    (c .before .before .before .before .before .before .before .before .if1 .left))) (c .ended .ensures bs bv br)
 
 pub resume-trials-spec : {M : Type 1} → statement M
 resume-trials-spec = tie.close (tie.spec num-trials-requires trial-surfaces-requires at-first-requires add-t24 returns ended-requires returns-2)

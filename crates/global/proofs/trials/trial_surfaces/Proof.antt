@@ -13,7 +13,8 @@ lay-applied-requires c κs = search needs
 
 returns : tie.Need-returns
 unfolding trialPresc
-returns c = (λ o ev. c .lay-applied .ensures .0 ∙ simp (ev, c .before .before .before .random-params .ensures .0), c .before .before .before .random-params .ensures .1)
+returns c =
+    (λ o ev. c .lay-applied .ensures .0 ∙ simp (ev, c .before .before .before .random-params .ensures .0), c .before .before .before .random-params .ensures .1)
 
 pub trial-surfaces-spec : {M : Type 1} → statement M
 trial-surfaces-spec = tie.close (tie.spec random-params-requires lay-applied-requires returns)

@@ -31,25 +31,41 @@ at-step-requires c κs = search needs
 
 returns : tie.Need-returns
 unfolding advanceAt resumeSteps
-returns c = let x = c .before .before .before .before .before .before .before .before .before .before .before .before .before .before .before .before .before .before .args in
+returns c =
+    let x = c .before .before .before .before .before .before .before .before .before .before .before .before .before .before .before .before .before .before
+    .args in
     let im = x .h .best .«initial_merit» in
-    let j : Annealer → MeritEvaluation → Walk = λ a e. judged a (x .candidate .now) e (walkOf (stateFrom (x .h) (x .surfaces .now) (x .jacobian .now) (x .values .now) (x .residuals .now) (x .plus-residuals .now) (x .params .now) (x .candidate .now) (x .best-surfaces .now) (x .best-values .now) (x .best-residuals .now))) in
+    let j : Annealer → MeritEvaluation → Walk =
+    λ a e. judged a (x .candidate .now) e (walkOf (stateFrom (x .h) (x .surfaces .now) (x .jacobian .now) (x .values .now) (x .residuals .now)
+    (x .plus-residuals .now) (x .params .now) (x .candidate .now) (x .best-surfaces .now) (x .best-values .now) (x .best-residuals .now))) in
     λ a ec ev e em. c .at-step .ensures a ev _ _
-    ∙ ap (λ (w : Walk). atStep a im w (x .h .cycle) (x .h .step + 1)) (c .before .before .before .before .before .before .before .before .before .before .before .before .judged .ensures a ev e em)
+    ∙ ap (λ (w : Walk). atStep a im w (x .h .cycle) (x .h .step + 1))
+    (c .before .before .before .before .before .before .before .before .before .before .before .before .judged .ensures a ev e em)
     ∙ ap (λ (k : ℕ). atStep a im (j a e) (x .h .cycle) k) (add-one (x .h .step))
-    ∙ ap (λ (t : Bool). resumeSteps a t im (j a e) (x .h .cycle) (suc (x .h .step))) (sym (ap (λ (k : SimulatedAnnealingConfig). ltb (suc (x .h .step)) (k .«steps_per_temperature»)) ec ∙ sym (c .before .before .before .before .before .before .before .before .before .before .before .has-next .ensures) ∙ c .before .before .before .before .before .before .before .before .before .before .if1 .taken))
+    ∙ ap (λ (t : Bool). resumeSteps a t im (j a e) (x .h .cycle) (suc (x .h .step)))
+    (sym (ap (λ (k : SimulatedAnnealingConfig). ltb (suc (x .h .step)) (k .«steps_per_temperature»)) ec
+    ∙ sym (c .before .before .before .before .before .before .before .before .before .before .before .has-next .ensures)
+    ∙ c .before .before .before .before .before .before .before .before .before .before .if1 .taken))
 
 next-cycle-requires : tie.Need-next-cycle-requires
 next-cycle-requires c κs = search needs
 
 returns-2 : tie.Need-returns-2
 unfolding advanceAt
-returns-2 c = let x = c .before .before .before .before .before .before .before .before .before .before .before .before .before .before .before .before .before .before .before .args in
+returns-2 c =
+    let x = c .before .before .before .before .before .before .before .before .before .before .before .before .before .before .before .before .before .before
+    .before .args in
     let im = x .h .best .«initial_merit» in
-    let j : Annealer → MeritEvaluation → Walk = λ a e. judged a (x .candidate .now) e (walkOf (stateFrom (x .h) (x .surfaces .now) (x .jacobian .now) (x .values .now) (x .residuals .now) (x .plus-residuals .now) (x .params .now) (x .candidate .now) (x .best-surfaces .now) (x .best-values .now) (x .best-residuals .now))) in
+    let j : Annealer → MeritEvaluation → Walk =
+    λ a e. judged a (x .candidate .now) e (walkOf (stateFrom (x .h) (x .surfaces .now) (x .jacobian .now) (x .values .now) (x .residuals .now)
+    (x .plus-residuals .now) (x .params .now) (x .candidate .now) (x .best-surfaces .now) (x .best-values .now) (x .best-residuals .now))) in
     λ a ec ev e em. c .next-cycle .ensures a ec ev (suc (x .h .step))
-    ∙ ap (λ (w : Walk). resumeSteps a false im w (x .h .cycle) (suc (x .h .step))) (c .before .before .before .before .before .before .before .before .before .before .before .before .before .judged .ensures a ev e em)
-    ∙ ap (λ (t : Bool). resumeSteps a t im (j a e) (x .h .cycle) (suc (x .h .step))) (sym (ap (λ (k : SimulatedAnnealingConfig). ltb (suc (x .h .step)) (k .«steps_per_temperature»)) ec ∙ sym (c .before .before .before .before .before .before .before .before .before .before .before .before .has-next .ensures) ∙ c .before .before .before .before .before .before .before .before .before .before .before .if1 .left))
+    ∙ ap (λ (w : Walk). resumeSteps a false im w (x .h .cycle) (suc (x .h .step)))
+    (c .before .before .before .before .before .before .before .before .before .before .before .before .before .judged .ensures a ev e em)
+    ∙ ap (λ (t : Bool). resumeSteps a t im (j a e) (x .h .cycle) (suc (x .h .step)))
+    (sym (ap (λ (k : SimulatedAnnealingConfig). ltb (suc (x .h .step)) (k .«steps_per_temperature»)) ec
+    ∙ sym (c .before .before .before .before .before .before .before .before .before .before .before .before .has-next .ensures)
+    ∙ c .before .before .before .before .before .before .before .before .before .before .before .if1 .left))
 
 pub advance-walk-spec : {M : Type 1} → statement M
 advance-walk-spec = tie.close (tie.spec judged-requires has-next-requires add-at-step at-step-requires returns next-cycle-requires returns-2)

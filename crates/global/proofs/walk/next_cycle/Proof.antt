@@ -32,7 +32,9 @@ returns c = let x = c .before .before .before .before .before .before .before .b
     let w = walkFrom (x .w) (x .surfaces .now) (x .params .now) (x .best-surfaces .now) in
     λ a ec ev k. c .at-step .ensures a ev (x .surfaces .now) (x .best-surfaces .now)
     ∙ (λ i. atStep a (x .initial-merit) (cooled (sym ec i .«cooling_rate») w) (add-one (x .c) i) 0)
-    ∙ ap (λ (t : Bool). resumeCycles a t (x .initial-merit) (cooled (a .config .«cooling_rate») w) (suc (x .c))) (sym (sym (c .before .before .before .before .before .before .before .before .before .before .is-next-cycle .ensures a ec) ∙ c .before .before .before .before .before .before .before .before .before .if1 .taken))
+    ∙ ap (λ (t : Bool). resumeCycles a t (x .initial-merit) (cooled (a .config .«cooling_rate») w) (suc (x .c)))
+    (sym (sym (c .before .before .before .before .before .before .before .before .before .before .is-next-cycle .ensures a ec)
+    ∙ c .before .before .before .before .before .before .before .before .before .if1 .taken))
 
 at-polish-requires : tie.Need-at-polish-requires
 at-polish-requires c κs = search needs
@@ -42,7 +44,9 @@ unfolding resumeSteps resumeCycles
 returns-2 c = let x = c .before .before .before .before .before .before .before .before .before .before .before .before .before .before .before .before .args in
     let w = walkFrom (x .w) (x .surfaces .now) (x .params .now) (x .best-surfaces .now) in
     λ a ec ev k. c .at-polish .ensures
-    ∙ ap (λ (t : Bool). resumeCycles a t (x .initial-merit) (cooled (a .config .«cooling_rate») w) (suc (x .c))) (sym (sym (c .before .before .before .before .before .before .before .before .before .before .before .before .is-next-cycle .ensures a ec) ∙ c .before .before .before .before .before .before .before .before .before .before .before .if1 .left))
+    ∙ ap (λ (t : Bool). resumeCycles a t (x .initial-merit) (cooled (a .config .«cooling_rate») w) (suc (x .c)))
+    (sym (sym (c .before .before .before .before .before .before .before .before .before .before .before .before .is-next-cycle .ensures a ec)
+    ∙ c .before .before .before .before .before .before .before .before .before .before .before .if1 .left))
 
 pub next-cycle-spec : {M : Type 1} → statement M
 next-cycle-spec = tie.close (tie.spec is-next-cycle-requires add-at-step at-step-requires returns at-polish-requires returns-2)

@@ -25,13 +25,21 @@ laid-requires-2 c κs = search needs
 
 returns : tie.Need-returns
 returns c =
-    let r = c .before .before .before .before .before .before .before .before .before .before .before .before .before .before .before .before .before .before .before .before .before .before .before .before .args .row in
-    let h = c .before .before .before .before .before .before .before .before .before .before .before .before .before .before .before .before .before .before .before .before .before .before .before .head-from .ensures in
+    let r = c .before .before .before .before .before .before .before .before .before .before .before .before .before .before .before .before .before .before
+    .before .before .before .before .before .before .args .row in
+    let h = c .before .before .before .before .before .before .before .before .before .before .before .before .before .before .before .before .before .before
+    .before .before .before .before .before .head-from .ensures in
     λ i. record {
-      words = (c .before .before .before .before .before .before .before .before .before .before .before .before .before .before .before .before .before .before .before .before .before .put-words .ensures ∙ ap (heldWords (r .kind) (r .turns)) h) i;
-      scalars = (c .before .before .before .before .before .before .before .before .before .before .before .before .before .before .before .before .before .before .before .put-scalars .ensures ∙ ap heldScalars h) i;
-      counts = c .before .before .before .before .before .before .before .before .before .before .before .before .before .before .before .before .before .held-job .ensures .0 i;
-      numbers = c .before .before .before .before .before .before .before .before .before .before .before .before .before .before .before .before .before .held-job .ensures .1 i;
+      words = (c .before .before .before .before .before .before .before .before .before .before .before .before .before .before .before .before .before .before
+          .before .before .before .put-words .ensures ∙ ap (heldWords (r .kind) (r .turns)) h) i;
+      scalars =
+          (c .before .before .before .before .before .before .before .before .before .before .before .before .before .before .before .before .before .before
+          .before .put-scalars .ensures ∙ ap heldScalars h) i;
+      counts = c .before .before .before .before .before .before .before .before .before .before .before .before .before .before .before .before .before
+          .held-job .ensures .0 i;
+      numbers =
+          c .before .before .before .before .before .before .before .before .before .before .before .before .before .before .before .before .before .held-job
+          .ensures .1 i;
       surfaces = c .before .before .before .before .before .before .before .before .before .before .laid .ensures i;
       jacobian = r .damped .jacobian;
       values = r .damped .evaluation .values;

@@ -29,8 +29,11 @@ returns c =
     let h = c .before .before .before .before .before .before .before .before .before .head-of .ensures in
     λ i. record {
       job = c .before .before .before .before .before .before .job-from .ensures i;
-      damped = (c .before .before .before .before .before .damped-from .ensures ∙ (λ j. dampedFrom (h j .damped) (held .surfaces) (held .jacobian) (held .values) (held .residuals) (held .«plus_residuals») (held .params) (held .candidate))) i;
-      best = (c .before .before .before .before .result-from .ensures ∙ (λ j. resultFrom (h j .best) (held .«best_surfaces») (held .«best_values») (held .«best_residuals»))) i;
+      damped = (c .before .before .before .before .before .damped-from .ensures
+          ∙ (λ j. dampedFrom (h j .damped) (held .surfaces) (held .jacobian) (held .values) (held .residuals) (held .«plus_residuals») (held .params)
+          (held .candidate))) i;
+      best = (c .before .before .before .before .result-from .ensures
+          ∙ (λ j. resultFrom (h j .best) (held .«best_surfaces») (held .«best_values») (held .«best_residuals»))) i;
       kind = c .before .before .kind .ensures i;
       turns = c .turns .ensures i;
       generator = h i .generator;

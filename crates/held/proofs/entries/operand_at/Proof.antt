@@ -60,7 +60,8 @@ shared-slice-read-t22 : tie.Need-shared-slice-read-t22
 shared-slice-read-t22 c = search needs
 
 returns : tie.Need-returns
-returns c = let x = c .before .before .before .before .before .before .before .args in rw (c .before .before .operand-type .ensures) (sym (operand-from (x .counts .now) (x .numbers .now) (x .n) (search needs)))
+returns c = let x = c .before .before .before .before .before .before .before .args in
+    rw (c .before .before .operand-type .ensures) (sym (operand-from (x .counts .now) (x .numbers .now) (x .n) (search needs)))
 
 pub operand-at-spec : {M : Type 1} → statement M
 operand-at-spec =

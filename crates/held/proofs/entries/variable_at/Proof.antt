@@ -69,7 +69,8 @@ element-copy-out-t15 : tie.Need-element-copy-out-t15
 element-copy-out-t15 c = search needs
 
 returns : tie.Need-returns
-returns c = let x = c .before .before .before .before .before .before .before .before .args in rw (c .before .before .before .before .variable-type .ensures) (sym (variable-from (x .counts .now) (x .numbers .now) (x .i) (search needs)))
+returns c = let x = c .before .before .before .before .before .before .before .before .args in
+    rw (c .before .before .before .before .variable-type .ensures) (sym (variable-from (x .counts .now) (x .numbers .now) (x .i) (search needs)))
 
 pub variable-at-spec : {M : Type 1} → statement M
 variable-at-spec =

@@ -40,11 +40,17 @@ loop-less : tie.Need-loop-less Inv-loop μ-loop
 loop-less c = omega arith
 
 loop-again : tie.Need-loop-again Inv-loop μ-loop
-loop-again c = (omega arith, tab-step (flatSurface (c .before .before .before .before .before .args .flat .now)) _ (c .before .before .loop .surfaces) (c .before .before .loop .i) _ noSurface (c .before .before .loop .inv .1) (c .surface-at .ensures) (omega arith))
+loop-again c = (
+  omega arith,
+  tab-step (flatSurface (c .before .before .before .before .before .args .flat .now)) _ (c .before .before .loop .surfaces)
+      (c .before .before .loop .i) _ noSurface (c .before .before .loop .inv .1) (c .surface-at .ensures) (omega arith),
+)
 
 returns : tie.Need-returns Inv-loop μ-loop
 unfolding standing
-returns c = tab-full (flatSurface (c .before .before .before .before .args .flat .now)) _ (c .before .loop .surfaces) (c .before .loop .i) 16 (c .before .loop .inv .1) refl (omega arith) (omega arith)
+returns c =
+    tab-full (flatSurface (c .before .before .before .before .args .flat .now)) _ (c .before .loop .surfaces) (c .before .loop .i) 16 (c .before .loop .inv .1)
+    refl (omega arith) (omega arith)
 
 pub stand-spec : {M : Type 1} → statement M
 stand-spec =

@@ -43,11 +43,17 @@ loop-less : tie.Need-loop-less Inv-loop μ-loop
 loop-less c = omega arith
 
 loop-again : tie.Need-loop-again Inv-loop μ-loop
-loop-again c = (omega arith, tab-step (λ (k : ℕ). getD (c .before .before .before .args .numbers .now) (indexAt k) nan) _ (c .before .before .loop .indices) (c .before .before .loop .k) _ nan (c .before .before .loop .inv .1) refl (omega arith))
+loop-again c = (
+  omega arith,
+  tab-step (λ (k : ℕ). getD (c .before .before .before .args .numbers .now) (indexAt k) nan) _ (c .before .before .loop .indices)
+      (c .before .before .loop .k) _ nan (c .before .before .loop .inv .1) refl (omega arith),
+)
 
 returns : tie.Need-returns Inv-loop μ-loop
 unfolding indicesFrom
-returns c = tab-full (λ (k : ℕ). getD (c .before .before .args .numbers .now) (indexAt k) nan) _ (c .before .loop .indices) (c .before .loop .k) 64 (c .before .loop .inv .1) refl (omega arith) (omega arith)
+returns c =
+    tab-full (λ (k : ℕ). getD (c .before .before .args .numbers .now) (indexAt k) nan) _ (c .before .loop .indices) (c .before .loop .k) 64
+    (c .before .loop .inv .1) refl (omega arith) (omega arith)
 
 pub all-indices-spec : {M : Type 1} → statement M
 all-indices-spec =

@@ -40,11 +40,18 @@ loop-less : tie.Need-loop-less Inv-loop μ-loop
 loop-less c = omega arith
 
 loop-again : tie.Need-loop-again Inv-loop μ-loop
-loop-again c = (omega arith, tab-step (operandRecordFrom (c .before .before .before .before .before .args .counts .now) (c .before .before .before .before .before .args .numbers .now)) _ (c .before .before .loop .records) (c .before .before .loop .n) _ noOperandRecord (c .before .before .loop .inv .1) (c .operand-record .ensures) (omega arith))
+loop-again c = (
+  omega arith,
+  tab-step (operandRecordFrom (c .before .before .before .before .before .args .counts .now)
+      (c .before .before .before .before .before .args .numbers .now)) _ (c .before .before .loop .records) (c .before .before .loop .n) _ noOperandRecord
+      (c .before .before .loop .inv .1) (c .operand-record .ensures) (omega arith),
+)
 
 returns : tie.Need-returns Inv-loop μ-loop
 unfolding operandRecordsFrom
-returns c = tab-full (operandRecordFrom (c .before .before .before .before .args .counts .now) (c .before .before .before .before .args .numbers .now)) _ (c .before .loop .records) (c .before .loop .n) 12 (c .before .loop .inv .1) refl (omega arith) (omega arith)
+returns c =
+    tab-full (operandRecordFrom (c .before .before .before .before .args .counts .now) (c .before .before .before .before .args .numbers .now)) _
+    (c .before .loop .records) (c .before .loop .n) 12 (c .before .loop .inv .1) refl (omega arith) (omega arith)
 
 pub operand-records-spec : {M : Type 1} → statement M
 operand-records-spec =

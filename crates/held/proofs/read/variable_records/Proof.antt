@@ -40,11 +40,18 @@ loop-less : tie.Need-loop-less Inv-loop μ-loop
 loop-less c = omega arith
 
 loop-again : tie.Need-loop-again Inv-loop μ-loop
-loop-again c = (omega arith, tab-step (variableRecordFrom (c .before .before .before .before .before .args .counts .now) (c .before .before .before .before .before .args .numbers .now)) _ (c .before .before .loop .records) (c .before .before .loop .i) _ noVariableRecord (c .before .before .loop .inv .1) (c .variable-record .ensures) (omega arith))
+loop-again c = (
+  omega arith,
+  tab-step (variableRecordFrom (c .before .before .before .before .before .args .counts .now)
+      (c .before .before .before .before .before .args .numbers .now)) _ (c .before .before .loop .records) (c .before .before .loop .i) _ noVariableRecord
+      (c .before .before .loop .inv .1) (c .variable-record .ensures) (omega arith),
+)
 
 returns : tie.Need-returns Inv-loop μ-loop
 unfolding variableRecordsFrom
-returns c = tab-full (variableRecordFrom (c .before .before .before .before .args .counts .now) (c .before .before .before .before .args .numbers .now)) _ (c .before .loop .records) (c .before .loop .i) 8 (c .before .loop .inv .1) refl (omega arith) (omega arith)
+returns c =
+    tab-full (variableRecordFrom (c .before .before .before .before .args .counts .now) (c .before .before .before .before .args .numbers .now)) _
+    (c .before .loop .records) (c .before .loop .i) 8 (c .before .loop .inv .1) refl (omega arith) (omega arith)
 
 pub variable-records-spec : {M : Type 1} → statement M
 variable-records-spec =

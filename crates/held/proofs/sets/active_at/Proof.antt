@@ -44,10 +44,20 @@ returns c =
     let x = c .before .before .before .before .before .before .before .args in
     let v = variablesFrom (x .counts .now) (x .numbers .now) in
     let e = ap (λ (d : VariableDef). d .enabled) (c .before .before .variable-at .ensures) in
-    c .before .before .variable-at .ensures ∙ sym (active-here v (c .before .before .before .before .loop .i) (x .q) (omega (arith, c .before .before .before .before .loop .inv .1)) (sym e ∙ c .before .if1 .taken) (sym (c .if2 .taken) ∙ c .before .before .before .before .loop .inv .2))
+    c .before .before .variable-at .ensures ∙ sym (active-here v (c .before .before .before .before .loop .i) (x .q) (omega (
+      arith,
+      c .before .before .before .before .loop .inv .1,
+    )) (sym e ∙ c .before .if1 .taken)
+    (sym (c .if2 .taken) ∙ c .before .before .before .before .loop .inv .2))
 
 add-p : tie.Need-add-p Inv-loop μ-loop
-add-p c = let x = c .before .before .before .before .before .before .before .args in omega (arith, c .before .before .before .before .loop .inv .1, count-le (variablesFrom (x .counts .now) (x .numbers .now)) (c .before .before .before .before .loop .i))
+add-p c = let x = c .before .before .before .before .before .before .before .args in
+    omega (
+      arith,
+      c .before .before .before .before .loop .inv .1,
+      count-le (variablesFrom (x .counts .now) (x .numbers .now))
+          (c .before .before .before .before .loop .i),
+    )
 
 add-i : tie.Need-add-i Inv-loop μ-loop
 add-i c = omega arith
@@ -61,8 +71,18 @@ loop-again c =
     let v = variablesFrom (x .counts .now) (x .numbers .now) in
     let e = ap (λ (d : VariableDef). d .enabled) (c .before .variable-at .ensures) in
     ⊎-elim
-    (λ w. (omega arith, c .before .before .before .loop .inv .1, omega (arith, w .2, c .before .before .before .loop .inv .2, count-more v (c .before .before .before .loop .i) (sym e ∙ w .0 .taken)), higher _ _ _ (c .before .before .before .loop .inv .3) (w .1 .left) (w .2)))
-    (λ w. (omega arith, c .before .before .before .loop .inv .1, omega (arith, w .1, c .before .before .before .loop .inv .2, count-past v (c .before .before .before .loop .i) (sym e ∙ w .0 .left)), omega (arith, w .1, c .before .before .before .loop .inv .3)))
+    (λ w. (
+      omega arith,
+      c .before .before .before .loop .inv .1,
+      omega (arith, w .2, c .before .before .before .loop .inv .2, count-more v (c .before .before .before .loop .i) (sym e ∙ w .0 .taken)),
+      higher _ _ _ (c .before .before .before .loop .inv .3) (w .1 .left) (w .2),
+    ))
+    (λ w. (
+      omega arith,
+      c .before .before .before .loop .inv .1,
+      omega (arith, w .1, c .before .before .before .loop .inv .2, count-past v (c .before .before .before .loop .i) (sym e ∙ w .0 .left)),
+      omega (arith, w .1, c .before .before .before .loop .inv .3),
+    ))
     (c .if1 .came)
 
 returns-2 : tie.Need-returns-2 Inv-loop μ-loop

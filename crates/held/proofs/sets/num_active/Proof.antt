@@ -28,7 +28,8 @@ variable-at-requires : tie.Need-variable-at-requires Inv-loop μ-loop
 variable-at-requires c κs = omega arith
 
 add-p : tie.Need-add-p Inv-loop μ-loop
-add-p c = let x = c .before .before .before .before .before .before .args in omega (arith, c .before .before .before .loop .inv .1, count-le (variablesFrom (x .counts .now) (x .numbers .now)) (c .before .before .before .loop .i))
+add-p c = let x = c .before .before .before .before .before .before .args in
+    omega (arith, c .before .before .before .loop .inv .1, count-le (variablesFrom (x .counts .now) (x .numbers .now)) (c .before .before .before .loop .i))
 
 add-i : tie.Need-add-i Inv-loop μ-loop
 add-i c = omega arith
@@ -42,8 +43,16 @@ loop-again c =
     let v = variablesFrom (x .counts .now) (x .numbers .now) in
     let e = ap (λ (d : VariableDef). d .enabled) (c .before .variable-at .ensures) in
     ⊎-elim
-    (λ w. (omega arith, c .before .before .before .loop .inv .1, omega (arith, w .1, c .before .before .before .loop .inv .2, count-more v (c .before .before .before .loop .i) (sym e ∙ w .0 .taken))))
-    (λ w. (omega arith, c .before .before .before .loop .inv .1, omega (arith, w .1, c .before .before .before .loop .inv .2, count-past v (c .before .before .before .loop .i) (sym e ∙ w .0 .left))))
+    (λ w. (
+      omega arith,
+      c .before .before .before .loop .inv .1,
+      omega (arith, w .1, c .before .before .before .loop .inv .2, count-more v (c .before .before .before .loop .i) (sym e ∙ w .0 .taken)),
+    ))
+    (λ w. (
+      omega arith,
+      c .before .before .before .loop .inv .1,
+      omega (arith, w .1, c .before .before .before .loop .inv .2, count-past v (c .before .before .before .loop .i) (sym e ∙ w .0 .left)),
+    ))
     (c .if1 .came)
 
 returns : tie.Need-returns Inv-loop μ-loop

@@ -19,7 +19,8 @@ use Rattle.held.proofs.values.apply_values.Statement.{statement}
 use Rattle.held.proofs.values.apply_values.Tie as tie
 
 abbrev Inv-loop : tie.InvT-loop
-Inv-loop counts numbers flat₀ values count q₀ i₀ flat q i = Applying (variablesFrom counts numbers) values (standing flat₀) (standing flat) q i × (count ≡ variableCountFrom counts) × Behind flat₀ flat
+Inv-loop counts numbers flat₀ values count q₀ i₀ flat q i =
+    Applying (variablesFrom counts numbers) values (standing flat₀) (standing flat) q i × (count ≡ variableCountFrom counts) × Behind flat₀ flat
 
 abbrev μ-loop : tie.MeasureT-loop
 μ-loop counts numbers flat₀ values count q₀ i₀ flat q i = count - i
@@ -65,14 +66,20 @@ loop-again c =
     let is = c .before .variable-at .ensures in
     let e = ap (λ (d : VariableDef). d .enabled) is in
     let h : l .i < variableCountFrom (x .counts .now) = omega (arith, c .before .before .loop-test .taken, l .inv .1) in
-    let stored : VariableDef → List OpticalSurface = λ d. put (standing (l .flat)) (d .«var_type») (applyClamp (getD (x .t3) (l .q) nan) (d .«min_value») (d .«max_value»)) in
+    let stored : VariableDef → List OpticalSurface =
+    λ d. put (standing (l .flat)) (d .«var_type») (applyClamp (getD (x .t3) (l .q) nan) (d .«min_value») (d .«max_value»)) in
     ⊎-elim
     (λ w. (
       apply-more (l .inv .0) _ _ h (sym e ∙ w .0 .taken) (ap standing (w .5) ∙ w .2 .ensures .0 ∙ ap stored is) (w .6),
       l .inv .1,
       further (l .inv .2) (w .2 .ensures .1) (w .5),
     ))
-    (λ w. (apply-past (l .inv .0) _ _ h (sym e ∙ w .0 .left) (ap standing (w .1)) (w .2), l .inv .1, further (l .inv .2) (record { long = refl; rest = refl }) (w .1)))
+    (λ w. (
+      apply-past (l .inv .0) _ _ h (sym e ∙ w .0 .left) (ap standing (w .1)) (w .2),
+      l .inv .1,
+      further (l .inv .2) (record { long = refl; rest = refl })
+          (w .1),
+    ))
     (c .if1 .came)
 
 same-length : tie.Need-same-length Inv-loop μ-loop

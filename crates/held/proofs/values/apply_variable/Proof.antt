@@ -31,7 +31,8 @@ returns c =
     let old = new .before .before in
     let at = old .before .before .before in
     let a = at .before .before .before .args in (
-      put .put-surface .ensures .0 ∙ put-stored (a .flat .now) (a .d .«var_type») _ (at .surface-index .result) (at .before .apply-clamp .result) _ _ (at .surface-index .ensures) (omega arith) (at .before .apply-clamp .ensures) (old .surface-at .ensures) (new .with-value .ensures),
+      put .put-surface .ensures .0 ∙ put-stored (a .flat .now) (a .d .«var_type») _ (at .surface-index .result) (at .before .apply-clamp .result) _ _
+          (at .surface-index .ensures) (omega arith) (at .before .apply-clamp .ensures) (old .surface-at .ensures) (new .with-value .ensures),
       put .put-surface .ensures .1,
     )
 

@@ -19,7 +19,8 @@ use Rattle.held.proofs.values.extract_values.Statement.{statement}
 use Rattle.held.proofs.values.extract_values.Tie as tie
 
 abbrev Inv-loop : tie.InvT-loop
-Inv-loop counts numbers flat count x₀ q₀ i₀ x q i = Filling (variablesFrom counts numbers) (λ (d : VariableDef) (k : ℕ). valueOf (standing flat) (d .«var_type»)) x₀ x q i × (count ≡ variableCountFrom counts)
+Inv-loop counts numbers flat count x₀ q₀ i₀ x q i =
+    Filling (variablesFrom counts numbers) (λ (d : VariableDef) (k : ℕ). valueOf (standing flat) (d .«var_type»)) x₀ x q i × (count ≡ variableCountFrom counts)
 
 abbrev μ-loop : tie.MeasureT-loop
 μ-loop counts numbers flat count x₀ q₀ i₀ x q i = count - i
@@ -57,16 +58,23 @@ loop-again c =
     let x = c .before .before .before .before .before .before .before .args in
     let v = variablesFrom (x .counts .now) (x .numbers .now) in
     let e = ap (λ (d : VariableDef). d .enabled) (c .before .variable-at .ensures) in
-    let h : c .before .before .before .loop .i < variableCountFrom (x .counts .now) = omega (arith, c .before .before .loop-test .taken, c .before .before .before .loop .inv .1) in
-    let y = ap (λ (d : VariableDef). valueOf (standing (c .before .before .before .before .before .before .before .args .flat .now)) (d .«var_type»)) (c .before .variable-at .ensures) in
+    let h : c .before .before .before .loop .i < variableCountFrom (x .counts .now) =
+    omega (arith, c .before .before .loop-test .taken, c .before .before .before .loop .inv .1) in
+    let y = ap (λ (d : VariableDef). valueOf (standing (c .before .before .before .before .before .before .before .args .flat .now)) (d .«var_type»))
+    (c .before .variable-at .ensures) in
     ⊎-elim
-    (λ w. (fill-more (c .before .before .before .loop .inv .0) _ _ _ refl (search needs) h (sym e ∙ w .0 .taken) (w .1 .ensures ∙ y) (w .2) (w .3), c .before .before .before .loop .inv .1))
+    (λ w. (
+      fill-more (c .before .before .before .loop .inv .0) _ _ _ refl (search needs) h (sym e ∙ w .0 .taken) (w .1 .ensures ∙ y) (w .2) (w .3),
+      c .before .before .before .loop .inv .1,
+    ))
     (λ w. (fill-past (c .before .before .before .loop .inv .0) _ _ h (sym e ∙ w .0 .left) (w .1) (w .2), c .before .before .before .loop .inv .1))
     (c .if1 .came)
 
 returns : tie.Need-returns Inv-loop μ-loop
 unfolding extracted
-returns c = fill-end (c .before .loop .inv .0) (λ (k : ℕ). zero64) refl (search needs) (omega (arith, c .loop-test .left, c .before .loop .inv .1)) (λ k h. getD-replicate 8 k zero64 nan h)
+returns c =
+    fill-end (c .before .loop .inv .0) (λ (k : ℕ). zero64) refl (search needs) (omega (arith, c .loop-test .left, c .before .loop .inv .1))
+    (λ k h. getD-replicate 8 k zero64 nan h)
 
 pub extract-values-spec : {M : Type 1} → statement M
 extract-values-spec =

@@ -22,7 +22,8 @@ quantity-requires c κs = search needs
 returns : tie.Need-returns
 returns c =
     let a = c .before .before .before .before .before .args in
-    let s = c .before .surface-at .ensures ∙ sym (standing-at (a .flat .now) (c .before .before .before .surface-index .result) (c .before .before .if1 .taken)) ∙ ap (surfaceAt (standing (a .flat .now))) (c .before .before .before .surface-index .ensures) in
+    let s = c .before .surface-at .ensures ∙ sym (standing-at (a .flat .now) (c .before .before .before .surface-index .result) (c .before .before .if1 .taken))
+    ∙ ap (surfaceAt (standing (a .flat .now))) (c .before .before .before .surface-index .ensures) in
     c .quantity .ensures ∙ ap (λ (s : OpticalSurface). quantityOf s (a .kind)) s
 
 no-surface-requires : tie.Need-no-surface-requires
@@ -34,7 +35,8 @@ quantity-requires-2 c κs = search needs
 returns-2 : tie.Need-returns-2
 returns-2 c =
     let a = c .before .before .before .before .before .args in
-    let s = c .before .no-surface .ensures ∙ sym (List·getD-eq-default (standing (a .flat .now)) noSurface {n = surfaceIndex (a .kind)} (rw (standing-long (a .flat .now), ← c .before .before .before .surface-index .ensures) (c .before .before .if1 .left))) in
+    let s = c .before .no-surface .ensures ∙ sym (List·getD-eq-default (standing (a .flat .now)) noSurface {n = surfaceIndex (a .kind)}
+    (rw (standing-long (a .flat .now), ← c .before .before .before .surface-index .ensures) (c .before .before .if1 .left))) in
     c .quantity2 .ensures ∙ ap (λ (s : OpticalSurface). quantityOf s (a .kind)) s
 
 pub value-of-spec : {M : Type 1} → statement M

@@ -32,7 +32,9 @@ array-write-numbers-7 : tie.Need-array-write-numbers-7
 array-write-numbers-7 c = search needs
 
 returns : tie.Need-returns
-returns c = let l = c .lens-numbers in front-more (l .result) _ (pupilAndSettings (c .before .before .before .before .args .job)) pupilAt (minValueAt 0) (l .ensures) refl (search needs)
+returns c =
+    let l = c .lens-numbers in front-more (l .result) _ (pupilAndSettings (c .before .before .before .before .args .job)) pupilAt (minValueAt 0) (l .ensures)
+    refl (search needs)
 
 pub first-numbers-spec : {M : Type 1} → statement M
 first-numbers-spec =

@@ -37,8 +37,14 @@ returns : tie.Need-returns
 unfolding heldCounts heldNumbers
 returns c =
     let j = c .before .before .before .before .before .before .before .before .before .before .before .before .before .before .args .job in (
-      c .before .before .lay-operands .ensures .0 ∙ ap (λ (p : List ℕ). p ++ inTurn (λ (n : ℕ). operandCounts (operandRecordAt j n)) 12) (c .before .before .before .before .before .before .before .lay-variables .ensures .0 ∙ ap (λ (p : List ℕ). p ++ inTurn (λ (i : ℕ). variableCounts (variableRecordAt j i)) 8) (c .before .before .before .before .before .before .before .before .before .before .before .before .before .first-counts .ensures)),
-      c .before .before .lay-operands .ensures .1 ∙ ap (λ (p : List Float). p ++ inTurn (λ (n : ℕ). operandNumbers (operandRecordAt j n)) 12) (c .before .before .before .before .before .before .before .lay-variables .ensures .1 ∙ ap (λ (p : List Float). p ++ inTurn (λ (i : ℕ). variableNumbers (variableRecordAt j i)) 8) (c .before .before .before .before .before .before .before .before .before .before .before .before .first-numbers .ensures)),
+      c .before .before .lay-operands .ensures .0 ∙ ap (λ (p : List ℕ). p ++ inTurn (λ (n : ℕ). operandCounts (operandRecordAt j n)) 12)
+          (c .before .before .before .before .before .before .before .lay-variables .ensures .0
+          ∙ ap (λ (p : List ℕ). p ++ inTurn (λ (i : ℕ). variableCounts (variableRecordAt j i)) 8)
+          (c .before .before .before .before .before .before .before .before .before .before .before .before .before .first-counts .ensures)),
+      c .before .before .lay-operands .ensures .1 ∙ ap (λ (p : List Float). p ++ inTurn (λ (n : ℕ). operandNumbers (operandRecordAt j n)) 12)
+          (c .before .before .before .before .before .before .before .lay-variables .ensures .1
+          ∙ ap (λ (p : List Float). p ++ inTurn (λ (i : ℕ). variableNumbers (variableRecordAt j i)) 8)
+          (c .before .before .before .before .before .before .before .before .before .before .before .before .first-numbers .ensures)),
     )
 
 pub held-job-spec : {M : Type 1} → statement M

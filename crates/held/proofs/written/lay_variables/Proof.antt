@@ -14,7 +14,10 @@ use Rattle.held.proofs.written.lay_variables.Statement.{statement}
 use Rattle.held.proofs.written.lay_variables.Tie as tie
 
 abbrev Inv-loop : tie.InvT-loop
-Inv-loop counts₀ numbers₀ records i₀ counts numbers i = (i ≤ 8) × (length counts ≡ length counts₀) × (length numbers ≡ length numbers₀) × (take (variableKindAt i) counts ≡ take (variableKindAt 0) counts₀ ++ inTurn (λ (k : ℕ). variableCounts (getD records k noVariableRecord)) i) × (take (minValueAt i) numbers ≡ take (minValueAt 0) numbers₀ ++ inTurn (λ (k : ℕ). variableNumbers (getD records k noVariableRecord)) i)
+Inv-loop counts₀ numbers₀ records i₀ counts numbers i =
+    (i ≤ 8) × (length counts ≡ length counts₀) × (length numbers ≡ length numbers₀)
+    × (take (variableKindAt i) counts ≡ take (variableKindAt 0) counts₀ ++ inTurn (λ (k : ℕ). variableCounts (getD records k noVariableRecord)) i)
+    × (take (minValueAt i) numbers ≡ take (minValueAt 0) numbers₀ ++ inTurn (λ (k : ℕ). variableNumbers (getD records k noVariableRecord)) i)
 
 abbrev μ-loop : tie.MeasureT-loop
 μ-loop counts₀ numbers₀ records i₀ counts numbers i = 8 - i
@@ -30,7 +33,8 @@ array-copy-out-v : tie.Need-array-copy-out-v Inv-loop μ-loop
 array-copy-out-v c = omega arith
 
 lay-variable-requires : tie.Need-lay-variable-requires Inv-loop μ-loop
-lay-variable-requires c κs = (omega arith, omega (arith, c .before .before .before .before .loop .inv .1), omega (arith, c .before .before .before .before .loop .inv .2))
+lay-variable-requires c κs =
+    (omega arith, omega (arith, c .before .before .before .before .loop .inv .1), omega (arith, c .before .before .before .before .loop .inv .2))
 
 add-i : tie.Need-add-i Inv-loop μ-loop
 add-i c = omega arith
@@ -43,10 +47,22 @@ loop-again c =
     let l = c .before .before .before .before .before .before .before .before .before .loop in
     let e = c .before .before .before .before .lay-variable .ensures in (
       omega arith,
-      ap length (e .0) ∙ length-sets (l .counts) (variableKindAt (l .i)) (variableCounts (getD (c .before .before .before .before .before .before .before .before .before .before .before .before .args .t1) (l .i) noVariableRecord)) ∙ l .inv .1,
-      ap length (e .1) ∙ length-sets (l .numbers) (minValueAt (l .i)) (variableNumbers (getD (c .before .before .before .before .before .before .before .before .before .before .before .before .args .t1) (l .i) noVariableRecord)) ∙ l .inv .2,
-      ap (take (variableKindAt (l .i + 1))) (e .0) ∙ turn-more (λ (k : ℕ). variableCounts (getD (c .before .before .before .before .before .before .before .before .before .before .before .before .args .t1) k noVariableRecord)) (l .i) (variableKindAt (l .i)) (variableKindAt (l .i + 1)) (l .counts) (take (variableKindAt 0) (c .before .before .before .before .before .before .before .before .before .before .before .before .args .counts .now)) (l .inv .3) (omega arith) (omega (arith, l .inv .1)),
-      ap (take (minValueAt (l .i + 1))) (e .1) ∙ turn-more (λ (k : ℕ). variableNumbers (getD (c .before .before .before .before .before .before .before .before .before .before .before .before .args .t1) k noVariableRecord)) (l .i) (minValueAt (l .i)) (minValueAt (l .i + 1)) (l .numbers) (take (minValueAt 0) (c .before .before .before .before .before .before .before .before .before .before .before .before .args .numbers .now)) (l .inv .4) (omega arith) (omega (arith, l .inv .2)),
+      ap length (e .0) ∙ length-sets (l .counts) (variableKindAt (l .i))
+          (variableCounts (getD (c .before .before .before .before .before .before .before .before .before .before .before .before .args .t1)
+          (l .i) noVariableRecord)) ∙ l .inv .1,
+      ap length (e .1) ∙ length-sets (l .numbers) (minValueAt (l .i))
+          (variableNumbers (getD (c .before .before .before .before .before .before .before .before .before .before .before .before .args .t1)
+          (l .i) noVariableRecord)) ∙ l .inv .2,
+      ap (take (variableKindAt (l .i + 1))) (e .0) ∙ turn-more
+          (λ (k : ℕ). variableCounts (getD (c .before .before .before .before .before .before .before .before .before .before .before .before .args .t1)
+          k noVariableRecord)) (l .i) (variableKindAt (l .i)) (variableKindAt (l .i + 1)) (l .counts)
+          (take (variableKindAt 0) (c .before .before .before .before .before .before .before .before .before .before .before .before .args .counts .now))
+          (l .inv .3) (omega arith) (omega (arith, l .inv .1)),
+      ap (take (minValueAt (l .i + 1))) (e .1) ∙ turn-more
+          (λ (k : ℕ). variableNumbers (getD (c .before .before .before .before .before .before .before .before .before .before .before .before .args .t1)
+          k noVariableRecord)) (l .i) (minValueAt (l .i)) (minValueAt (l .i + 1)) (l .numbers)
+          (take (minValueAt 0) (c .before .before .before .before .before .before .before .before .before .before .before .before .args .numbers .now))
+          (l .inv .4) (omega arith) (omega (arith, l .inv .2)),
     )
 
 same-length : tie.Need-same-length Inv-loop μ-loop

@@ -19,7 +19,9 @@ use Rattle.held.proofs.written.lens_numbers.Statement.{statement}
 use Rattle.held.proofs.written.lens_numbers.Tie as tie
 
 abbrev Inv-loop : tie.InvT-loop
-Inv-loop indices numbers₀ k₀ numbers k = (k ≤ 64) × (length numbers ≡ 195) × (take (indexAt 0) numbers ≡ take (indexAt 0) numbers₀) × (take (indexAt k) numbers ≡ take (indexAt 0) numbers ++ tab (λ (j : ℕ). getD indices j nan) k)
+Inv-loop indices numbers₀ k₀ numbers k =
+    (k ≤ 64) × (length numbers ≡ 195) × (take (indexAt 0) numbers ≡ take (indexAt 0) numbers₀)
+    × (take (indexAt k) numbers ≡ take (indexAt 0) numbers ++ tab (λ (j : ℕ). getD indices j nan) k)
 
 abbrev μ-loop : tie.MeasureT-loop
 μ-loop indices numbers₀ k₀ numbers k = 64 - k
@@ -63,13 +65,18 @@ loop-again c =
       omega arith,
       length-set (l .numbers) (indexAt (l .k)) v ∙ l .inv .1,
       front ∙ l .inv .2,
-      entry-more (λ (k : ℕ). getD (c .before .before .before .before .before .args .t2) k nan) (l .k) (indexAt (l .k)) (indexAt (l .k + 1)) (l .numbers) (take (indexAt 0) (l .numbers)) v (l .inv .3) refl (omega arith) (omega (arith, l .inv .1)) ∙ ap (λ (p : List Float). p ++ tab (λ (k : ℕ). getD (c .before .before .before .before .before .args .t2) k nan) (l .k + 1)) (sym front),
+      entry-more (λ (k : ℕ). getD (c .before .before .before .before .before .args .t2) k nan) (l .k) (indexAt (l .k)) (indexAt (l .k + 1)) (l .numbers)
+          (take (indexAt 0) (l .numbers)) v (l .inv .3) refl (omega arith) (omega (arith, l .inv .1))
+          ∙ ap (λ (p : List Float). p ++ tab (λ (k : ℕ). getD (c .before .before .before .before .before .args .t2) k nan) (l .k + 1)) (sym front),
     )
 
 returns : tie.Need-returns Inv-loop μ-loop
 returns c =
     let e : c .before .loop .k ≡ 64 = omega arith in
-    rw e at (c .before .loop .inv .3) ∙ ap (λ (p : List Float). p ++ tab (λ (k : ℕ). getD (c .before .before .before .before .before .args .t2) k nan) 64) (c .before .loop .inv .2 ∙ ap (take 64) (c .before .before .before .lay-flat .ensures) ∙ take-at (laidFlat (c .before .before .before .before .before .args .surfaces) 16) _ 64 (length-laid (c .before .before .before .before .before .args .surfaces) 16))
+    rw e at (c .before .loop .inv .3) ∙ ap (λ (p : List Float). p ++ tab (λ (k : ℕ). getD (c .before .before .before .before .before .args .t2) k nan) 64)
+    (c .before .loop .inv .2 ∙ ap (take 64) (c .before .before .before .lay-flat .ensures)
+    ∙ take-at (laidFlat (c .before .before .before .before .before .args .surfaces) 16) _ 64
+    (length-laid (c .before .before .before .before .before .args .surfaces) 16))
 
 pub lens-numbers-spec : {M : Type 1} → statement M
 lens-numbers-spec =

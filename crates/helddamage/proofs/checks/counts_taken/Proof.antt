@@ -22,7 +22,9 @@ lens-counts-taken-requires c κs = search needs
 returns : tie.Need-returns
 returns c = λ numbers kind.
     let a = c .before .before .before .before .args in
-    let lens = (λ i. lensCountsTaken (sym (c .before .before .before .surface-count .ensures) i) (sym (c .before .before .slot-count .ensures) i)) ∙ sym (c .before .lens-counts-taken .ensures) ∙ not-true _ (c .if1 .taken) in
+    let lens =
+    (λ i. lensCountsTaken (sym (c .before .before .before .surface-count .ensures) i) (sym (c .before .before .slot-count .ensures) i))
+    ∙ sym (c .before .lens-counts-taken .ensures) ∙ not-true _ (c .if1 .taken) in
     sym (ap (λ (b : Bool). b && leb (variableCountFrom (a .counts .now)) 8 && leb (operandCountFrom (a .counts .now)) 12) lens)
 
 variable-count-requires : tie.Need-variable-count-requires
@@ -31,7 +33,10 @@ variable-count-requires c κs = search needs
 returns-2 : tie.Need-returns-2
 returns-2 c = λ numbers kind.
     let a = c .before .before .before .before .before .before .args in
-    let lens = (λ i. lensCountsTaken (sym (c .before .before .before .before .before .surface-count .ensures) i) (sym (c .before .before .before .before .slot-count .ensures) i)) ∙ sym (c .before .before .before .lens-counts-taken .ensures) ∙ not-false _ (c .before .before .if1 .left) in
+    let lens =
+    (λ i. lensCountsTaken (sym (c .before .before .before .before .before .surface-count .ensures) i)
+    (sym (c .before .before .before .before .slot-count .ensures) i)) ∙ sym (c .before .before .before .lens-counts-taken .ensures)
+    ∙ not-false _ (c .before .before .if1 .left) in
     let some = ap (λ (n : ℕ). leb n 8) (sym (c .before .variable-count .ensures)) ∙ lt-leb _ _ (c .if2 .taken) in
     sym (λ i. lens i && some i && leb (operandCountFrom (a .counts .now)) 12)
 
@@ -41,7 +46,10 @@ operand-count-requires c κs = search needs
 returns-3 : tie.Need-returns-3
 returns-3 c = λ numbers kind.
     let a = c .before .before .before .before .before .before .before .args in
-    let lens = (λ i. lensCountsTaken (sym (c .before .before .before .before .before .before .surface-count .ensures) i) (sym (c .before .before .before .before .before .slot-count .ensures) i)) ∙ sym (c .before .before .before .before .lens-counts-taken .ensures) ∙ not-false _ (c .before .before .before .if1 .left) in
+    let lens =
+    (λ i. lensCountsTaken (sym (c .before .before .before .before .before .before .surface-count .ensures) i)
+    (sym (c .before .before .before .before .before .slot-count .ensures) i)) ∙ sym (c .before .before .before .before .lens-counts-taken .ensures)
+    ∙ not-false _ (c .before .before .before .if1 .left) in
     let some = ap (λ (n : ℕ). leb n 8) (sym (c .before .before .variable-count .ensures)) ∙ le-leb _ _ (c .before .if2 .left) in
     ap (λ (n : ℕ). leb n 12) (c .operand-count .ensures) ∙ sym (λ i. lens i && some i && leb (operandCountFrom (a .counts .now)) 12)
 

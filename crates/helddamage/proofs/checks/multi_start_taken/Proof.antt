@@ -18,14 +18,19 @@ dls-taken-requires c κs = search needs
 
 returns : tie.Need-returns
 unfolding multiStartTaken
-returns c = sym (ap (λ (b : Bool). b && countTaken (numTrialsFrom (c .before .before .before .before .args .counts .now))) (ap dlsTaken (sym (c .before .before .dls-config .ensures)) ∙ sym (c .before .dls-taken .ensures) ∙ not-true _ (c .if1 .taken)))
+returns c =
+    sym (ap (λ (b : Bool). b && countTaken (numTrialsFrom (c .before .before .before .before .args .counts .now)))
+    (ap dlsTaken (sym (c .before .before .dls-config .ensures)) ∙ sym (c .before .dls-taken .ensures) ∙ not-true _ (c .if1 .taken)))
 
 num-trials-requires : tie.Need-num-trials-requires
 num-trials-requires c κs = search needs
 
 returns-2 : tie.Need-returns-2
 unfolding multiStartTaken
-returns-2 c = ap (λ (n : ℕ). leb n 1000) (c .num-trials .ensures) ∙ sym (ap (λ (b : Bool). b && countTaken (numTrialsFrom (c .before .before .before .before .before .args .counts .now))) (ap dlsTaken (sym (c .before .before .before .dls-config .ensures)) ∙ sym (c .before .before .dls-taken .ensures) ∙ not-false _ (c .before .if1 .left)))
+returns-2 c =
+    ap (λ (n : ℕ). leb n 1000) (c .num-trials .ensures) ∙ sym
+    (ap (λ (b : Bool). b && countTaken (numTrialsFrom (c .before .before .before .before .before .args .counts .now)))
+    (ap dlsTaken (sym (c .before .before .before .dls-config .ensures)) ∙ sym (c .before .before .dls-taken .ensures) ∙ not-false _ (c .before .if1 .left)))
 
 pub multi-start-taken-spec : {M : Type 1} → statement M
 multi-start-taken-spec =

@@ -23,13 +23,22 @@ annealing-taken-requires : tie.Need-annealing-taken-requires
 annealing-taken-requires c κs = search needs
 
 returns : tie.Need-returns
-returns c = c .dls-taken .ensures ∙ ap dlsTaken (c .before .dls-config .ensures) ∙ sym (ap settingsTaken (is-damped _ (settingsFrom (c .before .before .before .before .args .counts .now) (c .before .before .before .before .args .numbers .now)) (c .before .before .match .keys1)))
+returns c =
+    c .dls-taken .ensures ∙ ap dlsTaken (c .before .dls-config .ensures)
+    ∙ sym (ap settingsTaken (is-damped _ (settingsFrom (c .before .before .before .before .args .counts .now)
+    (c .before .before .before .before .args .numbers .now)) (c .before .before .match .keys1)))
 
 returns-2 : tie.Need-returns-2
-returns-2 c = c .multi-start-taken .ensures ∙ sym (ap settingsTaken (is-multi-start _ (settingsFrom (c .before .before .before .args .counts .now) (c .before .before .before .args .numbers .now)) (c .before .match .keys2)))
+returns-2 c =
+    c .multi-start-taken .ensures
+    ∙ sym (ap settingsTaken (is-multi-start _ (settingsFrom (c .before .before .before .args .counts .now) (c .before .before .before .args .numbers .now))
+    (c .before .match .keys2)))
 
 returns-3 : tie.Need-returns-3
-returns-3 c = c .annealing-taken .ensures ∙ ap annealingTaken (c .before .annealing-config .ensures) ∙ sym (ap settingsTaken (is-annealing _ (settingsFrom (c .before .before .before .before .args .counts .now) (c .before .before .before .before .args .numbers .now)) (c .before .before .match .rest .0 .1) (c .before .before .match .rest .1)))
+returns-3 c =
+    c .annealing-taken .ensures ∙ ap annealingTaken (c .before .annealing-config .ensures)
+    ∙ sym (ap settingsTaken (is-annealing _ (settingsFrom (c .before .before .before .before .args .counts .now)
+    (c .before .before .before .before .args .numbers .now)) (c .before .before .match .rest .0 .1) (c .before .before .match .rest .1)))
 
 pub settings-taken-spec : {M : Type 1} → statement M
 settings-taken-spec =

@@ -33,8 +33,10 @@ surface-taken-requires c κs = search needs
 returns : tie.Need-returns Inv-loop μ-loop
 returns c =
     let a = c .before .before .before .before .before .before .args in
-    let is = ap surfaceTaken (c .before .before .surface-at .ensures ∙ sym (standing-at (a .flat .now) (c .before .before .before .before .loop .i) (omega arith))) in
-    sym (not-all (λ (k : ℕ). surfaceTaken (surfaceAt (standing (a .flat .now)) k)) (a .count) (c .before .before .before .before .loop .i) (c .before .before .before .loop-test .taken) (sym (c .before .surface-taken .ensures ∙ is) ∙ not-true _ (c .if1 .taken)))
+    let is = ap surfaceTaken (c .before .before .surface-at .ensures
+    ∙ sym (standing-at (a .flat .now) (c .before .before .before .before .loop .i) (omega arith))) in
+    sym (not-all (λ (k : ℕ). surfaceTaken (surfaceAt (standing (a .flat .now)) k)) (a .count) (c .before .before .before .before .loop .i)
+    (c .before .before .before .loop-test .taken) (sym (c .before .surface-taken .ensures ∙ is) ∙ not-true _ (c .if1 .taken)))
 
 add-i : tie.Need-add-i Inv-loop μ-loop
 add-i c = omega arith
@@ -45,8 +47,12 @@ loop-less c = omega arith
 loop-again : tie.Need-loop-again Inv-loop μ-loop
 loop-again c =
     let a = c .before .before .before .before .before .before .args in
-    let is = ap surfaceTaken (c .before .before .surface-at .ensures ∙ sym (standing-at (a .flat .now) (c .before .before .before .before .loop .i) (omega arith))) in
-    (omega arith, all-more (λ (k : ℕ). surfaceTaken (surfaceAt (standing (a .flat .now)) k)) (c .before .before .before .before .loop .i) (c .before .before .before .before .loop .inv .1) (sym (c .before .surface-taken .ensures ∙ is) ∙ not-false _ (c .if1 .left)))
+    let is = ap surfaceTaken (c .before .before .surface-at .ensures
+    ∙ sym (standing-at (a .flat .now) (c .before .before .before .before .loop .i) (omega arith))) in (
+      omega arith,
+      all-more (λ (k : ℕ). surfaceTaken (surfaceAt (standing (a .flat .now)) k)) (c .before .before .before .before .loop .i)
+          (c .before .before .before .before .loop .inv .1) (sym (c .before .surface-taken .ensures ∙ is) ∙ not-false _ (c .if1 .left)),
+    )
 
 returns-2 : tie.Need-returns-2 Inv-loop μ-loop
 returns-2 c =

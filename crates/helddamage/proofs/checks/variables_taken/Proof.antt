@@ -18,7 +18,10 @@ use Rattle.helddamage.proofs.checks.variables_taken.Statement.{statemen
 use Rattle.helddamage.proofs.checks.variables_taken.Tie as tie
 
 abbrev Inv-loop : tie.InvT-loop
-Inv-loop counts numbers surfaces count i₀ i = (i ≤ count) × (count ≡ variableCountFrom counts) × (allBelow (λ (k : ℕ). variableTaken (surfaceCountFrom counts) (variableAt (variablesFrom counts numbers) k) && variableKnown (variableRecordAt (jobRecordFrom counts numbers) k)) i ≡ true)
+Inv-loop counts numbers surfaces count i₀ i =
+    (i ≤ count) × (count ≡ variableCountFrom counts)
+    × (allBelow (λ (k : ℕ). variableTaken (surfaceCountFrom counts) (variableAt (variablesFrom counts numbers) k)
+    && variableKnown (variableRecordAt (jobRecordFrom counts numbers) k)) i ≡ true)
 
 abbrev μ-loop : tie.MeasureT-loop
 μ-loop counts numbers surfaces count i₀ i = count - i
@@ -42,7 +45,14 @@ returns c =
     let a = c .before .before .before .before .before .before .before .args in
     let l : c .before .before .before .loop .i < 8 = omega (arith, c .before .before .before .loop .inv .1) in
     let h : c .before .before .before .loop .i < variableCountFrom (a .counts .now) = omega (arith, c .before .before .before .loop .inv .1) in
-    sym (sym (all-both (λ (k : ℕ). variableTaken (surfaceCountFrom (a .counts .now)) (variableAt (variablesFrom (a .counts .now) (a .numbers .now)) k)) (λ (k : ℕ). variableKnown (variableRecordAt (jobRecordFrom (a .counts .now) (a .numbers .now)) k)) (variableCountFrom (a .counts .now))) ∙ not-all (λ (k : ℕ). variableTaken (surfaceCountFrom (a .counts .now)) (variableAt (variablesFrom (a .counts .now) (a .numbers .now)) k) && variableKnown (variableRecordAt (jobRecordFrom (a .counts .now) (a .numbers .now)) k)) (variableCountFrom (a .counts .now)) (c .before .before .before .loop .i) h (second-fails (variableTaken (surfaceCountFrom (a .counts .now)) (variableAt (variablesFrom (a .counts .now) (a .numbers .now)) (c .before .before .before .loop .i))) _ (sym (c .before .variable-known .ensures (a .numbers .now) ∙ sym (ap variableKnown (variable-record (a .counts .now) (a .numbers .now) (c .before .before .before .loop .i) l))) ∙ not-true _ (c .if1 .taken))))
+    sym (sym (all-both (λ (k : ℕ). variableTaken (surfaceCountFrom (a .counts .now)) (variableAt (variablesFrom (a .counts .now) (a .numbers .now)) k))
+    (λ (k : ℕ). variableKnown (variableRecordAt (jobRecordFrom (a .counts .now) (a .numbers .now)) k)) (variableCountFrom (a .counts .now)))
+    ∙ not-all (λ (k : ℕ). variableTaken (surfaceCountFrom (a .counts .now)) (variableAt (variablesFrom (a .counts .now) (a .numbers .now)) k)
+    && variableKnown (variableRecordAt (jobRecordFrom (a .counts .now) (a .numbers .now)) k)) (variableCountFrom (a .counts .now))
+    (c .before .before .before .loop .i) h (second-fails (variableTaken (surfaceCountFrom (a .counts .now))
+    (variableAt (variablesFrom (a .counts .now) (a .numbers .now)) (c .before .before .before .loop .i))) _
+    (sym (c .before .variable-known .ensures (a .numbers .now)
+    ∙ sym (ap variableKnown (variable-record (a .counts .now) (a .numbers .now) (c .before .before .before .loop .i) l))) ∙ not-true _ (c .if1 .taken))))
 
 variable-at-requires : tie.Need-variable-at-requires Inv-loop μ-loop
 variable-at-requires c κs = (omega (arith, c .before .before .before .loop .inv .1), search needs)
@@ -55,8 +65,16 @@ unfolding variablesTaken
 returns-2 c =
     let a = c .before .before .before .before .before .before .before .before .before .before .args in
     let l : c .before .before .before .before .before .before .loop .i < 8 = omega (arith, c .before .before .before .before .before .before .loop .inv .1) in
-    let h : c .before .before .before .before .before .before .loop .i < variableCountFrom (a .counts .now) = omega (arith, c .before .before .before .before .before .before .loop .inv .1) in
-    sym (sym (all-both (λ (k : ℕ). variableTaken (surfaceCountFrom (a .counts .now)) (variableAt (variablesFrom (a .counts .now) (a .numbers .now)) k)) (λ (k : ℕ). variableKnown (variableRecordAt (jobRecordFrom (a .counts .now) (a .numbers .now)) k)) (variableCountFrom (a .counts .now))) ∙ not-all (λ (k : ℕ). variableTaken (surfaceCountFrom (a .counts .now)) (variableAt (variablesFrom (a .counts .now) (a .numbers .now)) k) && variableKnown (variableRecordAt (jobRecordFrom (a .counts .now) (a .numbers .now)) k)) (variableCountFrom (a .counts .now)) (c .before .before .before .before .before .before .loop .i) h (first-fails _ _ (sym (c .before .variable-taken .ensures ∙ (λ i. variableTaken (c .before .before .before .before .before .before .before .before .surface-count .ensures i) (c .before .before .variable-at .ensures i))) ∙ not-true _ (c .if2 .taken))))
+    let h : c .before .before .before .before .before .before .loop .i < variableCountFrom (a .counts .now) =
+    omega (arith, c .before .before .before .before .before .before .loop .inv .1) in
+    sym (sym (all-both (λ (k : ℕ). variableTaken (surfaceCountFrom (a .counts .now)) (variableAt (variablesFrom (a .counts .now) (a .numbers .now)) k))
+    (λ (k : ℕ). variableKnown (variableRecordAt (jobRecordFrom (a .counts .now) (a .numbers .now)) k)) (variableCountFrom (a .counts .now)))
+    ∙ not-all (λ (k : ℕ). variableTaken (surfaceCountFrom (a .counts .now)) (variableAt (variablesFrom (a .counts .now) (a .numbers .now)) k)
+    && variableKnown (variableRecordAt (jobRecordFrom (a .counts .now) (a .numbers .now)) k)) (variableCountFrom (a .counts .now))
+    (c .before .before .before .before .before .before .loop .i) h
+    (first-fails _ _ (sym (c .before .variable-taken .ensures
+    ∙ (λ i. variableTaken (c .before .before .before .before .before .before .before .before .surface-count .ensures i)
+    (c .before .before .variable-at .ensures i))) ∙ not-true _ (c .if2 .taken))))
 
 add-i : tie.Need-add-i Inv-loop μ-loop
 add-i c = omega arith
@@ -68,17 +86,29 @@ loop-again : tie.Need-loop-again Inv-loop μ-loop
 loop-again c =
     let a = c .before .before .before .before .before .before .before .before .before .before .args in
     let l : c .before .before .before .before .before .before .loop .i < 8 = omega (arith, c .before .before .before .before .before .before .loop .inv .1) in
-    let h : c .before .before .before .before .before .before .loop .i < variableCountFrom (a .counts .now) = omega (arith, c .before .before .before .before .before .before .loop .inv .1) in
-    let t = sym (c .before .variable-taken .ensures ∙ (λ i. variableTaken (c .before .before .before .before .before .before .before .before .surface-count .ensures i) (c .before .before .variable-at .ensures i))) ∙ not-false _ (c .if2 .left) in
-    let k = sym (c .before .before .before .before .variable-known .ensures (a .numbers .now) ∙ sym (ap variableKnown (variable-record (a .counts .now) (a .numbers .now) (c .before .before .before .before .before .before .loop .i) l))) ∙ not-false _ (c .before .before .before .if1 .left) in
-    (omega arith, c .before .before .before .before .before .before .loop .inv .1, all-more (λ (k : ℕ). variableTaken (surfaceCountFrom (a .counts .now)) (variableAt (variablesFrom (a .counts .now) (a .numbers .now)) k) && variableKnown (variableRecordAt (jobRecordFrom (a .counts .now) (a .numbers .now)) k)) (c .before .before .before .before .before .before .loop .i) (c .before .before .before .before .before .before .loop .inv .2) (λ i. t i && k i))
+    let h : c .before .before .before .before .before .before .loop .i < variableCountFrom (a .counts .now) =
+    omega (arith, c .before .before .before .before .before .before .loop .inv .1) in
+    let t = sym (c .before .variable-taken .ensures ∙ (λ i. variableTaken
+    (c .before .before .before .before .before .before .before .before .surface-count .ensures i) (c .before .before .variable-at .ensures i)))
+    ∙ not-false _ (c .if2 .left) in
+    let k = sym (c .before .before .before .before .variable-known .ensures (a .numbers .now)
+    ∙ sym (ap variableKnown (variable-record (a .counts .now) (a .numbers .now) (c .before .before .before .before .before .before .loop .i) l)))
+    ∙ not-false _ (c .before .before .before .if1 .left) in (
+      omega arith,
+      c .before .before .before .before .before .before .loop .inv .1,
+      all-more (λ (k : ℕ). variableTaken (surfaceCountFrom (a .counts .now)) (variableAt (variablesFrom (a .counts .now) (a .numbers .now)) k)
+          && variableKnown (variableRecordAt (jobRecordFrom (a .counts .now) (a .numbers .now)) k)) (c .before .before .before .before .before .before .loop .i)
+          (c .before .before .before .before .before .before .loop .inv .2) (λ i. t i && k i),
+    )
 
 returns-3 : tie.Need-returns-3 Inv-loop μ-loop
 unfolding variablesTaken
 returns-3 c =
     let a = c .before .before .before .before .before .args in
     let e : c .before .loop .i ≡ variableCountFrom (a .counts .now) = omega (arith, c .before .loop .inv .1) in
-    sym (sym (all-both (λ (k : ℕ). variableTaken (surfaceCountFrom (a .counts .now)) (variableAt (variablesFrom (a .counts .now) (a .numbers .now)) k)) (λ (k : ℕ). variableKnown (variableRecordAt (jobRecordFrom (a .counts .now) (a .numbers .now)) k)) (variableCountFrom (a .counts .now))) ∙ rw e at (c .before .loop .inv .2))
+    sym (sym (all-both (λ (k : ℕ). variableTaken (surfaceCountFrom (a .counts .now)) (variableAt (variablesFrom (a .counts .now) (a .numbers .now)) k))
+    (λ (k : ℕ). variableKnown (variableRecordAt (jobRecordFrom (a .counts .now) (a .numbers .now)) k)) (variableCountFrom (a .counts .now)))
+    ∙ rw e at (c .before .loop .inv .2))
 
 pub variables-taken-spec : {M : Type 1} → statement M
 variables-taken-spec =

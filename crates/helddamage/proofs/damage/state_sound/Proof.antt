@@ -29,22 +29,39 @@ returns : tie.Need-returns
 unfolding stateSound
 returns c = λ numbers o e.
     let a = c .before .before .before .before .before .before .args in
-    let phase = (λ i. ltb (sym (c .before .last-phase .ensures (settingsFrom (a .counts .now) numbers) ∙ ap (λ (k : ℕ). lastPhase (method k (settingsFrom (a .counts .now) numbers))) (c .before .before .kind .ensures)) i) (sym (c .before .before .before .phase .ensures) i)) ∙ lt-ltb _ _ (c .if1 .taken) in
-    sym (λ i. not (phase i) && surfacesSound (method (kindFrom (a .words .now)) (settingsFrom (a .counts .now) numbers)) (surfaceCountFrom (a .counts .now)) (stateWith (a .words .now) (a .surfaces .now) (a .best .now) o) && countersSound (method (kindFrom (a .words .now)) (settingsFrom (a .counts .now) numbers)) (numActive (variablesFrom (a .counts .now) numbers)) (stateWith (a .words .now) (a .surfaces .now) (a .best .now) o))
+    let phase =
+    (λ i. ltb (sym (c .before .last-phase .ensures (settingsFrom (a .counts .now) numbers)
+    ∙ ap (λ (k : ℕ). lastPhase (method k (settingsFrom (a .counts .now) numbers))) (c .before .before .kind .ensures)) i)
+    (sym (c .before .before .before .phase .ensures) i)) ∙ lt-ltb _ _ (c .if1 .taken) in
+    sym (λ i. not (phase i) && surfacesSound (method (kindFrom (a .words .now)) (settingsFrom (a .counts .now) numbers)) (surfaceCountFrom (a .counts .now))
+    (stateWith (a .words .now) (a .surfaces .now) (a .best .now) o)
+    && countersSound (method (kindFrom (a .words .now)) (settingsFrom (a .counts .now) numbers)) (numActive (variablesFrom (a .counts .now) numbers))
+    (stateWith (a .words .now) (a .surfaces .now) (a .best .now) o))
 
 surface-count-requires : tie.Need-surface-count-requires
 surface-count-requires c κs = search needs
 
 surfaces-sound-requires : tie.Need-surfaces-sound-requires
-surfaces-sound-requires c κs = (omega (arith, c .surface-count .ensures), c .before .before .before .before .before .before .before .pre .1, c .before .before .before .before .before .before .before .pre .2)
+surfaces-sound-requires c κs = (
+  omega (arith, c .surface-count .ensures),
+  c .before .before .before .before .before .before .before .pre .1,
+  c .before .before .before .before .before .before .before .pre .2,
+)
 
 returns-2 : tie.Need-returns-2
 unfolding stateSound
 returns-2 c = λ numbers o e.
     let a = c .before .before .before .before .before .before .before .before .before .args in
-    let phase = (λ i. ltb (sym (c .before .before .before .before .last-phase .ensures (settingsFrom (a .counts .now) numbers) ∙ ap (λ (k : ℕ). lastPhase (method k (settingsFrom (a .counts .now) numbers))) (c .before .before .before .before .before .kind .ensures)) i) (sym (c .before .before .before .before .before .before .phase .ensures) i)) ∙ le-ltb _ _ (c .before .before .before .if1 .left) in
-    let surfaces = ap (λ (n : ℕ). surfacesSound (method (kindFrom (a .words .now)) (settingsFrom (a .counts .now) numbers)) n (stateWith (a .words .now) (a .surfaces .now) (a .best .now) o)) (sym (c .before .before .surface-count .ensures)) ∙ sym (c .before .surfaces-sound .ensures (settingsFrom (a .counts .now) numbers) o) ∙ not-true _ (c .if2 .taken) in
-    sym (λ i. not (phase i) && surfaces i && countersSound (method (kindFrom (a .words .now)) (settingsFrom (a .counts .now) numbers)) (numActive (variablesFrom (a .counts .now) numbers)) (stateWith (a .words .now) (a .surfaces .now) (a .best .now) o))
+    let phase =
+    (λ i. ltb (sym (c .before .before .before .before .last-phase .ensures (settingsFrom (a .counts .now) numbers)
+    ∙ ap (λ (k : ℕ). lastPhase (method k (settingsFrom (a .counts .now) numbers))) (c .before .before .before .before .before .kind .ensures)) i)
+    (sym (c .before .before .before .before .before .before .phase .ensures) i)) ∙ le-ltb _ _ (c .before .before .before .if1 .left) in
+    let surfaces =
+    ap (λ (n : ℕ). surfacesSound (method (kindFrom (a .words .now)) (settingsFrom (a .counts .now) numbers)) n
+    (stateWith (a .words .now) (a .surfaces .now) (a .best .now) o)) (sym (c .before .before .surface-count .ensures))
+    ∙ sym (c .before .surfaces-sound .ensures (settingsFrom (a .counts .now) numbers) o) ∙ not-true _ (c .if2 .taken) in
+    sym (λ i. not (phase i) && surfaces i && countersSound (method (kindFrom (a .words .now)) (settingsFrom (a .counts .now) numbers))
+    (numActive (variablesFrom (a .counts .now) numbers)) (stateWith (a .words .now) (a .surfaces .now) (a .best .now) o))
 
 counters-sound-requires : tie.Need-counters-sound-requires
 counters-sound-requires c κs = search needs
@@ -53,9 +70,19 @@ returns-3 : tie.Need-returns-3
 unfolding stateSound
 returns-3 c = λ numbers o e.
     let a = c .before .before .before .before .before .before .before .before .before .before .args in
-    let phase = (λ i. ltb (sym (c .before .before .before .before .before .last-phase .ensures (settingsFrom (a .counts .now) numbers) ∙ ap (λ (k : ℕ). lastPhase (method k (settingsFrom (a .counts .now) numbers))) (c .before .before .before .before .before .before .kind .ensures)) i) (sym (c .before .before .before .before .before .before .before .phase .ensures) i)) ∙ le-ltb _ _ (c .before .before .before .before .if1 .left) in
-    let surfaces = ap (λ (n : ℕ). surfacesSound (method (kindFrom (a .words .now)) (settingsFrom (a .counts .now) numbers)) n (stateWith (a .words .now) (a .surfaces .now) (a .best .now) o)) (sym (c .before .before .before .surface-count .ensures)) ∙ sym (c .before .before .surfaces-sound .ensures (settingsFrom (a .counts .now) numbers) o) ∙ not-false _ (c .before .if2 .left) in
-    c .counters-sound .ensures numbers (a .surfaces .now) (a .best .now) o ∙ ap (λ (n : ℕ). countersSound (method (kindFrom (a .words .now)) (settingsFrom (a .counts .now) numbers)) n (stateWith (a .words .now) (a .surfaces .now) (a .best .now) o)) e ∙ sym (λ i. not (phase i) && surfaces i && countersSound (method (kindFrom (a .words .now)) (settingsFrom (a .counts .now) numbers)) (numActive (variablesFrom (a .counts .now) numbers)) (stateWith (a .words .now) (a .surfaces .now) (a .best .now) o))
+    let phase =
+    (λ i. ltb (sym (c .before .before .before .before .before .last-phase .ensures (settingsFrom (a .counts .now) numbers)
+    ∙ ap (λ (k : ℕ). lastPhase (method k (settingsFrom (a .counts .now) numbers))) (c .before .before .before .before .before .before .kind .ensures)) i)
+    (sym (c .before .before .before .before .before .before .before .phase .ensures) i)) ∙ le-ltb _ _ (c .before .before .before .before .if1 .left) in
+    let surfaces =
+    ap (λ (n : ℕ). surfacesSound (method (kindFrom (a .words .now)) (settingsFrom (a .counts .now) numbers)) n
+    (stateWith (a .words .now) (a .surfaces .now) (a .best .now) o)) (sym (c .before .before .before .surface-count .ensures))
+    ∙ sym (c .before .before .surfaces-sound .ensures (settingsFrom (a .counts .now) numbers) o) ∙ not-false _ (c .before .if2 .left) in
+    c .counters-sound .ensures numbers (a .surfaces .now) (a .best .now) o
+    ∙ ap (λ (n : ℕ). countersSound (method (kindFrom (a .words .now)) (settingsFrom (a .counts .now) numbers)) n
+    (stateWith (a .words .now) (a .surfaces .now) (a .best .now) o)) e
+    ∙ sym (λ i. not (phase i) && surfaces i && countersSound (method (kindFrom (a .words .now)) (settingsFrom (a .counts .now) numbers))
+    (numActive (variablesFrom (a .counts .now) numbers)) (stateWith (a .words .now) (a .surfaces .now) (a .best .now) o))
 
 pub state-sound-spec : {M : Type 1} → statement M
 state-sound-spec =

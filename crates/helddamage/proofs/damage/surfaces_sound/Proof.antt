@@ -28,8 +28,14 @@ returns : tie.Need-returns
 unfolding surfacesSound
 returns c = λ r o.
     let a = c .before .before .before .before .before .before .before .args in
-    let current = c .before .taken-if .ensures ∙ ap (λ (u : Bool). takenIf u (standing (a .surfaces .now)) (a .count)) (c .before .before .uses-current .ensures r (stateWith (a .words .now) (a .surfaces .now) (a .best .now) o) (sym (c .before .before .before .phase .ensures)) ∙ ap (λ (k : ℕ). usesCurrent (method k r) (stateWith (a .words .now) (a .surfaces .now) (a .best .now) o)) (c .before .before .before .before .kind .ensures)) in
-    sym (ap (λ (b : Bool). b && takenIf (usesBest (method (kindFrom (a .words .now)) r) (stateWith (a .words .now) (a .surfaces .now) (a .best .now) o)) (standing (a .best .now)) (a .count)) (sym current ∙ not-true _ (c .if1 .taken)))
+    let current =
+    c .before .taken-if .ensures ∙ ap (λ (u : Bool). takenIf u (standing (a .surfaces .now)) (a .count))
+    (c .before .before .uses-current .ensures r (stateWith (a .words .now) (a .surfaces .now) (a .best .now) o)
+    (sym (c .before .before .before .phase .ensures)) ∙ ap
+    (λ (k : ℕ). usesCurrent (method k r) (stateWith (a .words .now) (a .surfaces .now) (a .best .now) o))
+    (c .before .before .before .before .kind .ensures)) in
+    sym (ap (λ (b : Bool). b && takenIf (usesBest (method (kindFrom (a .words .now)) r) (stateWith (a .words .now) (a .surfaces .now) (a .best .now) o))
+    (standing (a .best .now)) (a .count)) (sym current ∙ not-true _ (c .if1 .taken)))
 
 trial-requires : tie.Need-trial-requires
 trial-requires c κs = search needs
@@ -44,9 +50,21 @@ returns-2 : tie.Need-returns-2
 unfolding surfacesSound
 returns-2 c = λ r o.
     let a = c .before .before .before .before .before .before .before .before .before .before .args in
-    let current = c .before .before .before .before .taken-if .ensures ∙ ap (λ (u : Bool). takenIf u (standing (a .surfaces .now)) (a .count)) (c .before .before .before .before .before .uses-current .ensures r (stateWith (a .words .now) (a .surfaces .now) (a .best .now) o) (sym (c .before .before .before .before .before .before .phase .ensures)) ∙ ap (λ (k : ℕ). usesCurrent (method k r) (stateWith (a .words .now) (a .surfaces .now) (a .best .now) o)) (c .before .before .before .before .before .before .before .kind .ensures)) in
-    let best = c .taken-if2 .ensures ∙ ap (λ (u : Bool). takenIf u (standing (a .best .now)) (a .count)) (c .before .uses-best .ensures r (stateWith (a .words .now) (a .surfaces .now) (a .best .now) o) (sym (c .before .before .before .before .before .before .phase .ensures)) (sym (c .before .before .trial .ensures)) ∙ ap (λ (k : ℕ). usesBest (method k r) (stateWith (a .words .now) (a .surfaces .now) (a .best .now) o)) (c .before .before .before .before .before .before .before .kind .ensures)) in
-    best ∙ sym (ap (λ (b : Bool). b && takenIf (usesBest (method (kindFrom (a .words .now)) r) (stateWith (a .words .now) (a .surfaces .now) (a .best .now) o)) (standing (a .best .now)) (a .count)) (sym current ∙ not-false _ (c .before .before .before .if1 .left)))
+    let current =
+    c .before .before .before .before .taken-if .ensures
+    ∙ ap (λ (u : Bool). takenIf u (standing (a .surfaces .now)) (a .count))
+    (c .before .before .before .before .before .uses-current .ensures r (stateWith (a .words .now) (a .surfaces .now) (a .best .now) o)
+    (sym (c .before .before .before .before .before .before .phase .ensures))
+    ∙ ap (λ (k : ℕ). usesCurrent (method k r) (stateWith (a .words .now) (a .surfaces .now) (a .best .now) o))
+    (c .before .before .before .before .before .before .before .kind .ensures)) in
+    let best =
+    c .taken-if2 .ensures ∙ ap (λ (u : Bool). takenIf u (standing (a .best .now)) (a .count))
+    (c .before .uses-best .ensures r (stateWith (a .words .now) (a .surfaces .now) (a .best .now) o)
+    (sym (c .before .before .before .before .before .before .phase .ensures)) (sym (c .before .before .trial .ensures))
+    ∙ ap (λ (k : ℕ). usesBest (method k r) (stateWith (a .words .now) (a .surfaces .now) (a .best .now) o))
+    (c .before .before .before .before .before .before .before .kind .ensures)) in
+    best ∙ sym (ap (λ (b : Bool). b && takenIf (usesBest (method (kindFrom (a .words .now)) r) (stateWith (a .words .now) (a .surfaces .now) (a .best .now) o))
+    (standing (a .best .now)) (a .count)) (sym current ∙ not-false _ (c .before .before .before .if1 .left)))
 
 pub surfaces-sound-spec : {M : Type 1} → statement M
 surfaces-sound-spec =

@@ -14,7 +14,9 @@ surfaces-taken-requires : tie.Need-surfaces-taken-requires
 surfaces-taken-requires c κs = search needs
 
 returns-2 : tie.Need-returns-2
-returns-2 c = c .surfaces-taken .ensures ∙ sym (ap (λ (b : Bool). b || surfacesTaken (standing (c .before .before .before .args .flat .now)) (c .before .before .before .args .count)) (c .before .if1 .left))
+returns-2 c =
+    c .surfaces-taken .ensures ∙ sym (ap (λ (b : Bool). b
+    || surfacesTaken (standing (c .before .before .before .args .flat .now)) (c .before .before .before .args .count)) (c .before .if1 .left))
 
 pub taken-if-spec : {M : Type 1} → statement M
 taken-if-spec = tie.close (tie.spec returns surfaces-taken-requires returns-2)

@@ -17,7 +17,10 @@ returns-2 : tie.Need-returns-2
 returns-2 c = λ numbers. sym (ap cycleLimit (is-multi-start _ (settingsFrom (c .before .args .counts .now) numbers) (c .match .keys2)))
 
 returns-3 : tie.Need-returns-3
-returns-3 c = λ numbers. c .max-cooling-cycles .ensures ∙ sym (ap cycleLimit (is-annealing _ (settingsFrom (c .before .before .args .counts .now) numbers) (c .before .match .rest .0 .1) (c .before .match .rest .1)))
+returns-3 c =
+    λ numbers. c .max-cooling-cycles .ensures
+    ∙ sym (ap cycleLimit (is-annealing _ (settingsFrom (c .before .before .args .counts .now) numbers) (c .before .match .rest .0 .1)
+    (c .before .match .rest .1)))
 
 pub cycle-limit-spec : {M : Type 1} → statement M
 cycle-limit-spec = tie.close (tie.spec max-cooling-cycles-requires returns returns-2 returns-3)

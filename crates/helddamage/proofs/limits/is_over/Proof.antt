@@ -26,7 +26,9 @@ returns-2 c = λ r s e. c .damped-over2 .ensures (s .damped) e ∙ sym (ap (λ (
 
 returns-3 : tie.Need-returns-3
 unfolding finishedBy
-returns-3 c = λ r s e. c .annealing-over .ensures s e ∙ sym (ap (λ (m : Method). finishedBy m s) (is-annealing _ r (c .before .match .rest .0 .1) (c .before .match .rest .1)))
+returns-3 c =
+    λ r s e. c .annealing-over .ensures s e
+    ∙ sym (ap (λ (m : Method). finishedBy m s) (is-annealing _ r (c .before .match .rest .0 .1) (c .before .match .rest .1)))
 
 pub is-over-spec : {M : Type 1} → statement M
 is-over-spec =

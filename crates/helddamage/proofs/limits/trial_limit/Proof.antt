@@ -14,7 +14,9 @@ returns : tie.Need-returns
 returns c = λ numbers. sym (ap trialLimit (is-damped _ (settingsFrom (c .before .args .counts .now) numbers) (c .match .keys1)))
 
 returns-2 : tie.Need-returns-2
-returns-2 c = λ numbers. c .num-trials .ensures ∙ sym (ap trialLimit (is-multi-start _ (settingsFrom (c .before .before .args .counts .now) numbers) (c .before .match .keys2)))
+returns-2 c =
+    λ numbers. c .num-trials .ensures
+    ∙ sym (ap trialLimit (is-multi-start _ (settingsFrom (c .before .before .args .counts .now) numbers) (c .before .match .keys2)))
 
 returns-3 : tie.Need-returns-3
 returns-3 c = λ numbers. sym (ap trialLimit (is-annealing _ (settingsFrom (c .before .args .counts .now) numbers) (c .match .rest .0 .1) (c .match .rest .1)))

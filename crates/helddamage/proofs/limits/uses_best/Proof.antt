@@ -27,11 +27,16 @@ returns c = λ r s e t. sym (ap (λ (m : Method). usesBest m s) (is-damped _ r (
 
 returns-2 : tie.Need-returns-2
 unfolding finishedBy
-returns-2 c = λ r s e t. lt-ltb 0 (c .before .before .args .trial) (c .if1 .taken) ∙ first-holds _ _ (ap (ltb 0) t ∙ lt-ltb 0 (c .before .before .args .trial) (c .if1 .taken)) ∙ sym (ap (λ (m : Method). usesBest m s) (is-multi-start _ r (c .before .match .keys2)))
+returns-2 c =
+    λ r s e t. lt-ltb 0 (c .before .before .args .trial) (c .if1 .taken)
+    ∙ first-holds _ _ (ap (ltb 0) t ∙ lt-ltb 0 (c .before .before .args .trial) (c .if1 .taken))
+    ∙ sym (ap (λ (m : Method). usesBest m s) (is-multi-start _ r (c .before .match .keys2)))
 
 returns-3 : tie.Need-returns-3
 unfolding finishedBy
-returns-3 c = λ r s e t. c .damped-over .ensures (s .damped) e ∙ first-fails _ _ (ap (ltb 0) t ∙ le-ltb 0 (c .before .before .before .args .trial) (c .before .if1 .left)) ∙ sym (ap (λ (m : Method). usesBest m s) (is-multi-start _ r (c .before .before .match .keys2)))
+returns-3 c =
+    λ r s e t. c .damped-over .ensures (s .damped) e ∙ first-fails _ _ (ap (ltb 0) t ∙ le-ltb 0 (c .before .before .before .args .trial) (c .before .if1 .left))
+    ∙ sym (ap (λ (m : Method). usesBest m s) (is-multi-start _ r (c .before .before .match .keys2)))
 
 returns-4 : tie.Need-returns-4
 returns-4 c = λ r s e t. ap (λ (k : ℕ). eqb k 6) (sym e) ∙ sym (ap (λ (m : Method). usesBest m s) (is-annealing _ r (c .match .rest .0 .1) (c .match .rest .1)))

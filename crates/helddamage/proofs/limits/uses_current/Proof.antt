@@ -17,7 +17,8 @@ returns c = λ r s e. sym (ap (λ (m : Method). usesCurrent m s) (is-damped _ r 
 
 returns-2 : tie.Need-returns-2
 unfolding finishedBy
-returns-2 c = λ r s e. ap not (c .damped-over .ensures (s .damped) e) ∙ sym (ap (λ (m : Method). usesCurrent m s) (is-multi-start _ r (c .before .match .keys2)))
+returns-2 c =
+    λ r s e. ap not (c .damped-over .ensures (s .damped) e) ∙ sym (ap (λ (m : Method). usesCurrent m s) (is-multi-start _ r (c .before .match .keys2)))
 
 returns-3 : tie.Need-returns-3
 returns-3 c = λ r s e. sym (ap (λ (m : Method). usesCurrent m s) (is-annealing _ r (c .match .rest .0 .1) (c .match .rest .1)))

@@ -16,7 +16,8 @@ use Rattle.heldmerit.proofs.evaluation.merit_of.Statement.{statement}
 use Rattle.heldmerit.proofs.evaluation.merit_of.Tie as tie
 
 abbrev Inv-loop : tie.InvT-loop
-Inv-loop values counts numbers many total₀ n₀ total n = (n ≤ many) × (many ≡ operandCountFrom counts) × (total ≡ termsOver (operandsFrom counts numbers) values n)
+Inv-loop values counts numbers many total₀ n₀ total n =
+    (n ≤ many) × (many ≡ operandCountFrom counts) × (total ≡ termsOver (operandsFrom counts numbers) values n)
 
 abbrev μ-loop : tie.MeasureT-loop
 μ-loop values counts numbers many total₀ n₀ total n = many - n
@@ -51,8 +52,12 @@ loop-again c =
     let x = c .before .before .before .before .before .before .before .before .args in
     let f = operandsFrom (x .counts .now) (x .numbers .now) in
     let v = getD (x .values .now) (c .before .before .before .before .before .loop .n) nan in
-    let is = c .before .before .before .operand-at .ensures in
-    (omega arith, c .before .before .before .before .before .loop .inv .1, terms-more f (x .values .now) (c .before .before .before .before .before .loop .n) _ _ (c .before .before .before .before .before .loop .inv .2) (term-is (c .before .before .before .operand-at .result) refl (c .before .difference-of .ensures) ∙ ap (λ (o : MeritOperand). term o v) is))
+    let is = c .before .before .before .operand-at .ensures in (
+      omega arith,
+      c .before .before .before .before .before .loop .inv .1,
+      terms-more f (x .values .now) (c .before .before .before .before .before .loop .n) _ _ (c .before .before .before .before .before .loop .inv .2)
+          (term-is (c .before .before .before .operand-at .result) refl (c .before .difference-of .ensures) ∙ ap (λ (o : MeritOperand). term o v) is),
+    )
 
 counted-total-requires : tie.Need-counted-total-requires Inv-loop μ-loop
 counted-total-requires c κs = search needs
@@ -64,7 +69,8 @@ returns c = λ kind s e.
     let f = operandsFrom (x .counts .now) (x .numbers .now) in
     let m : c .before .before .loop .n ≡ operandCountFrom (x .counts .now) = omega (arith, c .before .before .loop .inv .1) in
     c .counted-total .ensures ∙ ap countedTotal (c .before .before .loop .inv .2 ∙ ap (termsOver f (x .values .now)) m)
-    ∙ merit-over (surfaceAt s) (slotIndex (indicesFrom (x .numbers .now))) (pupilFrom (x .numbers .now)) (surfaceCountFrom (x .counts .now)) f (x .values .now) e
+    ∙ merit-over (surfaceAt s) (slotIndex (indicesFrom (x .numbers .now))) (pupilFrom (x .numbers .now)) (surfaceCountFrom (x .counts .now)) f (x .values .now)
+    e
 
 pub merit-of-spec : {M : Type 1} → statement M
 merit-of-spec =

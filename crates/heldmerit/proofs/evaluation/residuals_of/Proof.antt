@@ -19,7 +19,8 @@ use Rattle.heldmerit.proofs.evaluation.residuals_of.Statement.{statemen
 use Rattle.heldmerit.proofs.evaluation.residuals_of.Tie as tie
 
 abbrev Inv-loop : tie.InvT-loop
-Inv-loop values counts numbers many residuals₀ known₀ n₀ residuals known n = (n ≤ many) × (many ≡ operandCountFrom counts) × Standing (residualOver (operandsFrom counts numbers) values) n residuals × RootKnown known
+Inv-loop values counts numbers many residuals₀ known₀ n₀ residuals known n =
+    (n ≤ many) × (many ≡ operandCountFrom counts) × Standing (residualOver (operandsFrom counts numbers) values) n residuals × RootKnown known
 
 abbrev μ-loop : tie.MeasureT-loop
 μ-loop values counts numbers many residuals₀ known₀ n₀ residuals known n = many - n
@@ -63,8 +64,15 @@ loop-again c =
     let x = c .before .before .before .before .before .before .before .before .before .args in
     let f = operandsFrom (x .counts .now) (x .numbers .now) in
     let v = getD (x .values .now) (c .before .before .before .before .before .before .loop .n) nan in
-    let is = c .before .before .before .before .operand-at .ensures in
-    (omega arith, c .before .before .before .before .before .before .loop .inv .1, tab-step (residualOver f (x .values .now)) _ (c .before .before .before .before .before .before .loop .residuals) (c .before .before .before .before .before .before .loop .n) _ nan (c .before .before .before .before .before .before .loop .inv .2) (residual-is (c .before .before .before .before .operand-at .result) refl (c .before .before .difference-of .ensures) (c .before .root-of .ensures .0) ∙ ap (λ (o : MeritOperand). residual o v) is) (omega arith), c .before .root-of .ensures .1)
+    let is = c .before .before .before .before .operand-at .ensures in (
+      omega arith,
+      c .before .before .before .before .before .before .loop .inv .1,
+      tab-step (residualOver f (x .values .now)) _ (c .before .before .before .before .before .before .loop .residuals)
+          (c .before .before .before .before .before .before .loop .n) _ nan (c .before .before .before .before .before .before .loop .inv .2)
+          (residual-is (c .before .before .before .before .operand-at .result) refl (c .before .before .difference-of .ensures) (c .before .root-of .ensures .0)
+          ∙ ap (λ (o : MeritOperand). residual o v) is) (omega arith),
+      c .before .root-of .ensures .1,
+    )
 
 returns : tie.Need-returns Inv-loop μ-loop
 unfolding evaluateOf
@@ -72,8 +80,10 @@ returns c = λ kind s e.
     let x = c .before .before .before .before .args in
     let f = operandsFrom (x .counts .now) (x .numbers .now) in
     let m : c .before .loop .n ≡ operandCountFrom (x .counts .now) = omega (arith, c .before .loop .inv .1) in
-    all-stand (residualOver f (x .values .now)) (operandCountFrom (x .counts .now)) (c .before .loop .n) (c .before .loop .residuals) (c .before .loop .inv .2) m
-    ∙ residuals-over (surfaceAt s) (slotIndex (indicesFrom (x .numbers .now))) (pupilFrom (x .numbers .now)) (surfaceCountFrom (x .counts .now)) f (x .values .now) e
+    all-stand (residualOver f (x .values .now)) (operandCountFrom (x .counts .now)) (c .before .loop .n) (c .before .loop .residuals) (c .before .loop .inv .2)
+    m
+    ∙ residuals-over (surfaceAt s) (slotIndex (indicesFrom (x .numbers .now))) (pupilFrom (x .numbers .now)) (surfaceCountFrom (x .counts .now)) f
+    (x .values .now) e
 
 pub residuals-of-spec : {M : Type 1} → statement M
 residuals-of-spec =

@@ -27,7 +27,10 @@ use Rattle.heldmerit.proofs.evaluation.values_of.Statement.{statement}
 use Rattle.heldmerit.proofs.evaluation.values_of.Tie as tie
 
 abbrev Inv-loop : tie.InvT-loop
-Inv-loop flat counts numbers count many slots values₀ n₀ values n = (n ≤ many) × Standing (valueAt (flatSurface flat) (slotIndex (indicesFrom numbers)) (pupilFrom numbers) (surfaceCountFrom counts) (operandsFrom counts numbers)) n values × (many ≡ operandCountFrom counts) × (count ≡ surfaceCountFrom counts) × ((w : ℕ) → w < 4 → getD slots w Failed ≡ paraxialOf (flatSurface flat) (slotIndex (indicesFrom numbers) w) (pupilFrom numbers) (surfaceCountFrom counts))
+Inv-loop flat counts numbers count many slots values₀ n₀ values n =
+    (n ≤ many) × Standing (valueAt (flatSurface flat) (slotIndex (indicesFrom numbers)) (pupilFrom numbers) (surfaceCountFrom counts)
+    (operandsFrom counts numbers)) n values × (many ≡ operandCountFrom counts) × (count ≡ surfaceCountFrom counts)
+    × ((w : ℕ) → w < 4 → getD slots w Failed ≡ paraxialOf (flatSurface flat) (slotIndex (indicesFrom numbers) w) (pupilFrom numbers) (surfaceCountFrom counts))
 
 abbrev μ-loop : tie.MeasureT-loop
 μ-loop flat counts numbers count many slots values₀ n₀ values n = many - n
@@ -53,9 +56,19 @@ loop-holds : tie.Need-loop-holds Inv-loop μ-loop
 unfolding tab
 loop-holds c =
     let x = c .before .before .before .before .before .before .before .args in
-    let trace : ℕ → Paraxial = λ w. paraxialOf (flatSurface (x .flat .now)) (slotIndex (indicesFrom (x .numbers .now)) w) (pupilFrom (x .numbers .now)) (surfaceCountFrom (x .counts .now)) in
-    let traced : c .paraxial-slots .result ≡ tab trace 4 = c .paraxial-slots .ensures ∙ (λ i. tab (λ (w : ℕ). paraxialOf (flatSurface (x .flat .now)) (slotIndex (c .before .before .indices .ensures i) w) (c .before .pupil .ensures i) (c .before .before .before .before .surface-count .ensures i)) 4) in
-    (omega arith, refl, c .before .before .before .operand-count .ensures, c .before .before .before .before .surface-count .ensures, λ w h. ap (λ (l : List Paraxial). getD l w Failed) traced ∙ getD-tab trace 4 w Failed h)
+    let trace : ℕ → Paraxial =
+    λ w. paraxialOf (flatSurface (x .flat .now)) (slotIndex (indicesFrom (x .numbers .now)) w) (pupilFrom (x .numbers .now))
+    (surfaceCountFrom (x .counts .now)) in
+    let traced : c .paraxial-slots .result ≡ tab trace 4 =
+    c .paraxial-slots .ensures
+    ∙ (λ i. tab (λ (w : ℕ). paraxialOf (flatSurface (x .flat .now)) (slotIndex (c .before .before .indices .ensures i) w) (c .before .pupil .ensures i)
+    (c .before .before .before .before .surface-count .ensures i)) 4) in (
+      omega arith,
+      refl,
+      c .before .before .before .operand-count .ensures,
+      c .before .before .before .before .surface-count .ensures,
+      λ w h. ap (λ (l : List Paraxial). getD l w Failed) traced ∙ getD-tab trace 4 w Failed h,
+    )
 
 operand-at-requires : tie.Need-operand-at-requires Inv-loop μ-loop
 operand-at-requires c κs = (omega (arith, c .before .loop .inv .2), search needs)
@@ -83,8 +96,18 @@ loop-again c =
     let more : l .n < operandCountFrom (x .counts .now) = omega (arith, l .inv .2) in
     let room : l .n < 12 = omega (arith, c .before .before .before .before .before .before .before .before .before .before .before .pre .1 .1 .0) in
     let o = c .before .operand-at in
-    let v = value-next (flatSurface (x .flat .now)) (slotIndex (indicesFrom (x .numbers .now))) (pupilFrom (x .numbers .now)) (surfaceCountFrom (x .counts .now)) f (c .before .before .before .before .paraxial-slots .result) (l .values) (l .n) (o .result) _ (c .before .before .before .before .before .before .before .before .before .before .before .pre .1 .1 .1 .1) more (omega arith) (l .inv .4) (l .inv .1) (o .ensures) (c .value-of .ensures ∙ ap (λ (k : ℕ). valueOf (l .values) (λ (w : ℕ). getD (c .before .before .before .before .paraxial-slots .result) w Failed) (flatSurface (x .flat .now)) k (o .result .«operand_type»)) (l .inv .3)) in
-    (omega arith, tab-step (valueAt (flatSurface (x .flat .now)) (slotIndex (indicesFrom (x .numbers .now))) (pupilFrom (x .numbers .now)) (surfaceCountFrom (x .counts .now)) f) _ (l .values) (l .n) _ nan (l .inv .1) v (omega arith), l .inv .2, l .inv .3, l .inv .4)
+    let v = value-next (flatSurface (x .flat .now)) (slotIndex (indicesFrom (x .numbers .now))) (pupilFrom (x .numbers .now))
+    (surfaceCountFrom (x .counts .now)) f (c .before .before .before .before .paraxial-slots .result) (l .values) (l .n) (o .result) _
+    (c .before .before .before .before .before .before .before .before .before .before .before .pre .1 .1 .1 .1) more (omega arith) (l .inv .4) (l .inv .1)
+    (o .ensures) (c .value-of .ensures ∙ ap (λ (k : ℕ). valueOf (l .values) (λ (w : ℕ). getD (c .before .before .before .before .paraxial-slots .result)
+    w Failed) (flatSurface (x .flat .now)) k (o .result .«operand_type»)) (l .inv .3)) in (
+      omega arith,
+      tab-step (valueAt (flatSurface (x .flat .now)) (slotIndex (indicesFrom (x .numbers .now))) (pupilFrom (x .numbers .now))
+          (surfaceCountFrom (x .counts .now)) f) _ (l .values) (l .n) _ nan (l .inv .1) v (omega arith),
+      l .inv .2,
+      l .inv .3,
+      l .inv .4,
+    )
 
 returns : tie.Need-returns Inv-loop μ-loop
 unfolding evaluateOf
@@ -92,8 +115,10 @@ returns c = λ kind s rest e.
     let x = c .before .before .before .before .before .before .before .before .before .args in
     let f = operandsFrom (x .counts .now) (x .numbers .now) in
     let m : c .before .loop .n ≡ operandCountFrom (x .counts .now) = omega (arith, c .before .loop .inv .2) in
-    all-stand (valueAt (flatSurface (x .flat .now)) (slotIndex (indicesFrom (x .numbers .now))) (pupilFrom (x .numbers .now)) (surfaceCountFrom (x .counts .now)) f) (operandCountFrom (x .counts .now)) (c .before .loop .n) (c .before .loop .values) (c .before .loop .inv .1) m
-    ∙ ap (λ (m : MeritEvaluation). m .values) (laid-evaluation (lensWith (heldJob (x .counts .now) (x .numbers .now) kind) s) f rest (x .flat .now) e (c .before .before .before .before .before .before .before .before .before .pre .1 .1 .1 .1))
+    all-stand (valueAt (flatSurface (x .flat .now)) (slotIndex (indicesFrom (x .numbers .now))) (pupilFrom (x .numbers .now))
+    (surfaceCountFrom (x .counts .now)) f) (operandCountFrom (x .counts .now)) (c .before .loop .n) (c .before .loop .values) (c .before .loop .inv .1) m
+    ∙ ap (λ (m : MeritEvaluation). m .values) (laid-evaluation (lensWith (heldJob (x .counts .now) (x .numbers .now) kind) s) f rest (x .flat .now) e
+    (c .before .before .before .before .before .before .before .before .before .pre .1 .1 .1 .1))
 
 pub values-of-spec : {M : Type 1} → statement M
 values-of-spec =

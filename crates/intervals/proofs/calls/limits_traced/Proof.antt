@@ -23,7 +23,9 @@ refused-requires-2 : tie.Need-refused-requires-2
 refused-requires-2 c κs = search needs
 
 returns-2 : tie.Need-returns-2
-returns-2 c = c .refused2 .ensures ∙ by-limits _ _ _ _ (c .before .before .before .before .trace-number .ensures) (c .before .before .before .if1 .left) (too-few _ _ _ (c .before .if2 .taken))
+returns-2 c =
+    c .refused2 .ensures ∙ by-limits _ _ _ _ (c .before .before .before .before .trace-number .ensures) (c .before .before .before .if1 .left)
+    (too-few _ _ _ (c .before .if2 .taken))
 
 all-given-requires : tie.Need-all-given-requires
 all-given-requires c κs = traceable _ _ _ (sym (c .before .before .before .trace-number .ensures) ∙ none _ (c .before .before .if1 .left)) .surfaces
@@ -34,7 +36,8 @@ refused-requires-3 c κs = search needs
 returns-3 : tie.Need-returns-3
 returns-3 c =
     c .refused3 .ensures
-    ∙ by-limits _ _ _ _ (c .before .before .before .before .before .before .trace-number .ensures) (c .before .before .before .before .before .if1 .left) (not-given _ _ _ (c .before .before .before .if2 .left) (sym (c .before .before .all-given .ensures) ∙ not-true _ (c .before .if3 .taken)))
+    ∙ by-limits _ _ _ _ (c .before .before .before .before .before .before .trace-number .ensures) (c .before .before .before .before .before .if1 .left)
+    (not-given _ _ _ (c .before .before .before .if2 .left) (sym (c .before .before .all-given .ensures) ∙ not-true _ (c .before .if3 .taken)))
 
 worked-requires : tie.Need-worked-requires
 worked-requires c κs =
@@ -48,13 +51,18 @@ returns-4 : tie.Need-returns-4
 returns-4 c =
     let given = sym (c .before .before .before .before .before .all-given .ensures) ∙ not-false _ (c .before .before .before .before .if3 .left) in
     let finite = sym (ap (λ (w : WorkedLimits). w .finite) (c .before .before .before .worked .ensures)) ∙ not-true _ (c .before .if4 .taken) in
-    c .refused4 .ensures ∙ by-limits _ _ _ _ (c .before .before .before .before .before .before .before .before .before .trace-number .ensures) (c .before .before .before .before .before .before .before .before .if1 .left) (taken-as _ _ _ (c .before .before .before .before .before .before .if2 .left) given false finite)
+    c .refused4 .ensures ∙ by-limits _ _ _ _ (c .before .before .before .before .before .before .before .before .before .trace-number .ensures)
+    (c .before .before .before .before .before .before .before .before .if1 .left)
+    (taken-as _ _ _ (c .before .before .before .before .before .before .if2 .left) given false finite)
 
 returns-5 : tie.Need-returns-5
 returns-5 c =
     let given = sym (c .before .before .before .before .before .all-given .ensures) ∙ not-false _ (c .before .before .before .before .if3 .left) in
     let finite = sym (ap (λ (w : WorkedLimits). w .finite) (c .before .before .before .worked .ensures)) ∙ not-false _ (c .before .if4 .left) in
-    done _ _ _ _ (c .before .before .before .before .before .before .before .before .before .trace-number .ensures) (c .before .before .before .before .before .before .before .before .if1 .left) (taken-as _ _ _ (c .before .before .before .before .before .before .if2 .left) given true finite) _ (ap (λ (w : WorkedLimits). w .traced) (c .before .before .before .worked .ensures))
+    done _ _ _ _ (c .before .before .before .before .before .before .before .before .before .trace-number .ensures)
+    (c .before .before .before .before .before .before .before .before .if1 .left)
+    (taken-as _ _ _ (c .before .before .before .before .before .before .if2 .left) given true finite) _
+    (ap (λ (w : WorkedLimits). w .traced) (c .before .before .before .worked .ensures))
 
 pub limits-traced-spec : {M : Type 1} → statement M
 limits-traced-spec =

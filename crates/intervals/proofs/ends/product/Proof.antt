@@ -22,7 +22,15 @@ greater-of-requires-3 : tie.Need-greater-of-requires-3
 greater-of-requires-3 c κs = search needs
 
 returns : tie.Need-returns
-returns c = rw (c .greater-of3 .ensures, c .before .greater-of2 .ensures, c .before .before .greater-of .ensures, c .before .before .before .lesser-of3 .ensures, c .before .before .before .before .lesser-of2 .ensures, c .before .before .before .before .before .lesser-of .ensures)
+returns c =
+    rw (
+      c .greater-of3 .ensures,
+      c .before .greater-of2 .ensures,
+      c .before .before .greater-of .ensures,
+      c .before .before .before .lesser-of3 .ensures,
+      c .before .before .before .before .lesser-of2 .ensures,
+      c .before .before .before .before .before .lesser-of .ensures,
+    )
 
 pub product-spec : {M : Type 1} → statement M
 product-spec =

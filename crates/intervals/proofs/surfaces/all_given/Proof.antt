@@ -41,7 +41,8 @@ returns-2 : tie.Need-returns-2 Inv-loop μ-loop
 returns-2 c =
     let taken : ℕ → Bool = λ k. givenTaken (thicknessAt (c .before .before .before .before .before .before .before .before .args .limits) k) in
     let apart = sym (c .before .before .before .is-crossed .ensures) ∙ c .before .before .if1 .left in
-    sym (not-all taken _ (c .before .before .before .before .before .before .loop .k) (omega arith) (rw (apart, sym (c .before .ends-finite .ensures) ∙ not-true _ (c .if2 .taken))))
+    sym (not-all taken _ (c .before .before .before .before .before .before .loop .k) (omega arith)
+    (rw (apart, sym (c .before .ends-finite .ensures) ∙ not-true _ (c .if2 .taken))))
 
 add-k : tie.Need-add-k Inv-loop μ-loop
 add-k c = search needs
@@ -52,8 +53,11 @@ loop-less c = search needs
 loop-again : tie.Need-loop-again Inv-loop μ-loop
 loop-again c =
     let taken : ℕ → Bool = λ k. givenTaken (thicknessAt (c .before .before .before .before .before .before .before .before .args .limits) k) in
-    let apart = sym (c .before .before .before .is-crossed .ensures) ∙ c .before .before .if1 .left in
-    (search needs, all-more taken _ (c .before .before .before .before .before .before .loop .inv .1) (rw (apart, sym (c .before .ends-finite .ensures) ∙ not-false _ (c .if2 .left))))
+    let apart = sym (c .before .before .before .is-crossed .ensures) ∙ c .before .before .if1 .left in (
+      search needs,
+      all-more taken _ (c .before .before .before .before .before .before .loop .inv .1)
+          (rw (apart, sym (c .before .ends-finite .ensures) ∙ not-false _ (c .if2 .left))),
+    )
 
 returns-3 : tie.Need-returns-3 Inv-loop μ-loop
 returns-3 c =

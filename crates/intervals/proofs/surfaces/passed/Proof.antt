@@ -65,9 +65,11 @@ both-requires-4 c κs = search needs
 
 returns : tie.Need-returns
 returns c =
-    let x = c .before .before .before .before .before .before .before .before .before .before .before .before .before .before .before .before .before .before .before .before .before .before .args in
+    let x = c .before .before .before .before .before .before .before .before .before .before .before .before .before .before .before .before .before .before
+    .before .before .before .before .args in
     passed-is (x .thickness) (x .radius) (x .index) (x .ray) _ _ _ _ _ _ _ _ _ _ _
-    (c .before .before .before .before .before .before .before .before .before .before .before .before .before .before .before .before .before .before .curvature-of .ensures)
+    (c .before .before .before .before .before .before .before .before .before .before .before .before .before .before .before .before .before .before
+    .curvature-of .ensures)
     (c .before .before .before .before .before .before .before .before .before .before .before .before .before .before .before .before .before .exact .ensures)
     (c .before .before .before .before .before .before .before .before .before .before .before .before .before .before .before .before .exact2 .ensures)
     (c .before .before .before .before .before .before .before .before .before .before .before .before .before .before .before .product .ensures)
@@ -77,8 +79,12 @@ returns c =
     (c .before .before .before .before .before .before .before .before .before .before .before .product3 .ensures)
     (c .before .before .before .before .before .before .before .before .before .before .sum .ensures)
     (c .before .before .before .both3 .ensures
-    ∙ (λ i. (c .before .before .before .before .before .before .before .both .ensures ∙ (λ j. c .before .before .before .before .before .before .before .before .before .ends-finite .ensures j && c .before .before .before .before .before .before .before .before .ends-finite2 .ensures j)) i
-    && (c .before .before .before .before .both2 .ensures ∙ (λ j. c .before .before .before .before .before .before .ends-finite3 .ensures j && c .before .before .before .before .before .ends-finite4 .ensures j)) i))
+    ∙ (λ i. (c .before .before .before .before .before .before .before .both .ensures
+    ∙ (λ j. c .before .before .before .before .before .before .before .before .before .ends-finite .ensures j
+    && c .before .before .before .before .before .before .before .before .ends-finite2 .ensures j)) i
+    && (c .before .before .before .before .both2 .ensures
+    ∙ (λ j. c .before .before .before .before .before .before .ends-finite3 .ensures j
+    && c .before .before .before .before .before .ends-finite4 .ensures j)) i))
     (c .both4 .ensures ∙ (λ j. c .before .before .ends-finite5 .ensures j && c .before .ends-finite6 .ensures j))
 
 pub passed-spec : {M : Type 1} → statement M

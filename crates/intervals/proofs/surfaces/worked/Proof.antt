@@ -18,7 +18,8 @@ Inv-loop slot surfaces indices thicknesses count pupil heights₀ slopes₀ trac
     (count ≤ 16) ×
     (length heights₀ ≡ 16) ×
     (length slopes₀ ≡ 16) ×
-    Working (surfaceAt surfaces) (thicknessAt (record { thicknesses = thicknesses })) (slotIndex indices slot) pupil heights₀ slopes₀ heights slopes track ray arrived finite k
+    Working (surfaceAt surfaces) (thicknessAt (record { thicknesses = thicknesses })) (slotIndex indices slot) pupil heights₀ slopes₀ heights slopes track ray
+    arrived finite k
 
 abbrev μ-loop : tie.MeasureT-loop
 μ-loop slot surfaces indices thicknesses count pupil heights₀ slopes₀ track₀ ray₀ arrived₀ finite₀ k₀ heights slopes track ray arrived finite k = count - k
@@ -33,7 +34,14 @@ ends-finite-requires : tie.Need-ends-finite-requires Inv-loop μ-loop
 ends-finite-requires c κs = search needs
 
 loop-holds : tie.Need-loop-holds Inv-loop μ-loop
-loop-holds c = (search needs, search needs, search needs, search needs, first _ _ _ _ _ _ _ _ _ (c .before .before .before .exact .ensures) (c .before .before .start-of .ensures) (c .ends-finite .ensures))
+loop-holds c = (
+  search needs,
+  search needs,
+  search needs,
+  search needs,
+  first _ _ _ _ _ _ _ _ _ (c .before .before .before .exact .ensures)
+      (c .before .before .start-of .ensures) (c .ends-finite .ensures),
+)
 
 mul-s : tie.Need-mul-s Inv-loop μ-loop
 mul-s c = search needs
@@ -102,12 +110,20 @@ loop-less c = search needs
 loop-again : tie.Need-loop-again Inv-loop μ-loop
 loop-again c =
     let l = c .before .before .before .before .before .before .before .before .before .before .before .before .loop in
-    let more = c .both3 .ensures ∙ ap (λ (x : Bool). l .finite && x) (c .before .both2 .ensures ∙ (λ i. c .before .before .before .both .ensures i && c .before .before .ends-finite2 .ensures i)) in
+    let more =
+    c .both3 .ensures ∙ ap (λ (x : Bool). l .finite && x)
+    (c .before .both2 .ensures ∙ (λ i. c .before .before .before .both .ensures i && c .before .before .ends-finite2 .ensures i)) in
     let below = c .before .before .before .before .before .before .before .before .before .before .before .loop-test .taken in
     let few = l .inv .1 in
     let high = l .inv .2 in
-    let steep = l .inv .3 in
-    (omega arith, few, high, steep, another _ _ _ _ _ _ (l .inv .4) (omega arith) (omega arith) _ _ _ (c .before .before .before .before .before .before .before .before .passed .ensures) (c .before .before .before .before .sum .ensures) more)
+    let steep = l .inv .3 in (
+      omega arith,
+      few,
+      high,
+      steep,
+      another _ _ _ _ _ _ (l .inv .4) (omega arith) (omega arith) _ _ _
+          (c .before .before .before .before .before .before .before .before .passed .ensures) (c .before .before .before .before .sum .ensures) more,
+    )
 
 returns : tie.Need-returns Inv-loop μ-loop
 returns c =

@@ -25,7 +25,9 @@ loop-less : tie.Need-loop-less Inv-loop μ-loop
 loop-less c = search needs
 
 loop-again : tie.Need-loop-again Inv-loop μ-loop
-loop-again c = more _ _ _ _ (c .before .before .before .before .loop .inv) (c .before .before .before .loop-test .taken) (c .before .before .if1 .taken) (c .read-row .ensures .0) (c .read-row .ensures .1)
+loop-again c =
+    more _ _ _ _ (c .before .before .before .before .loop .inv) (c .before .before .before .loop-test .taken) (c .before .before .if1 .taken)
+    (c .read-row .ensures .0) (c .read-row .ensures .1)
 
 returns : tie.Need-returns Inv-loop μ-loop
 unfolding pastIndices withIndices

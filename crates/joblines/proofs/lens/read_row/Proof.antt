@@ -36,7 +36,9 @@ loop-again : tie.Need-loop-again Inv-loop μ-loop
 loop-again c =
     let l = c .before .before .before .before .before .before .loop in
     let read = c .before .before .before .float .ensures in
-    more _ _ _ _ (l .inv) (c .before .before .before .before .before .loop-test .taken) (c .before .before .before .before .if1 .taken) (ap (λ (r : FloatRead). r .next) read) (c .before .keep-index .ensures ∙ ap (λ (r : FloatRead). indexStored (c .before .before .before .before .before .before .before .before .args .i) (l .w) (r .value) (l .indices)) read)
+    more _ _ _ _ (l .inv) (c .before .before .before .before .before .loop-test .taken) (c .before .before .before .before .if1 .taken)
+    (ap (λ (r : FloatRead). r .next) read) (c .before .keep-index .ensures
+    ∙ ap (λ (r : FloatRead). indexStored (c .before .before .before .before .before .before .before .before .args .i) (l .w) (r .value) (l .indices)) read)
 
 returns : tie.Need-returns Inv-loop μ-loop
 unfolding pastRow putRow

@@ -28,7 +28,8 @@ returns c =
     let thickness = c .before .before .float3 .ensures ∙ ap (λ (r : FloatRead). floatFrom line (r .next)) conic in
     let semi = c .before .float4 .ensures ∙ ap (λ (r : FloatRead). floatFrom line (r .next)) thickness in
     λ i. record {
-      surface = record { «radius_mm» = radius i .value; «conic_constant» = conic i .value; «thickness_mm» = thickness i .value; «semi_diameter_mm» = semi i .value };
+      surface =
+          record { «radius_mm» = radius i .value; «conic_constant» = conic i .value; «thickness_mm» = thickness i .value; «semi_diameter_mm» = semi i .value };
       next = semi i .next;
     }
 

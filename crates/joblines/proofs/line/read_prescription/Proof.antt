@@ -46,11 +46,21 @@ returns : tie.Need-returns
 unfolding prescriptionFrom
 returns c =
     let line = c .before .before .before .before .before .before .before .before .before .before .before .before .before .before .before .args .line .now in
-    let count = c .before .before .before .before .before .before .before .before .before .before .before .decimal .ensures ∙ ap (decimalFrom line) (c .before .before .before .before .before .before .before .before .before .before .before .before .tag .ensures) in
-    let read = c .before .before .before .before .before .before .before .before .before .before .read-surfaces .ensures ∙ (λ i. surfacesFrom line (count i .next) (count i .value)) in
-    let slots = c .before .before .before .before .before .before .before .decimal2 .ensures ∙ ap (decimalFrom line) (c .before .before .before .before .before .before .before .before .tag2 .ensures ∙ (λ i. pastTag line (read i .next) indicesMark)) in
-    let next = c .before .before .before .before .before .read-indices .ensures .0 ∙ (λ i. pastIndices line (slots i .next) (count i .value) (slots i .value)) in
-    let indices = c .before .before .before .before .before .read-indices .ensures .1 ∙ (λ i. withIndices line (slots i .next) (count i .value) (slots i .value) (replicate 64 (no-number i))) in
+    let count =
+    c .before .before .before .before .before .before .before .before .before .before .before .decimal .ensures
+    ∙ ap (decimalFrom line) (c .before .before .before .before .before .before .before .before .before .before .before .before .tag .ensures) in
+    let read =
+    c .before .before .before .before .before .before .before .before .before .before .read-surfaces .ensures
+    ∙ (λ i. surfacesFrom line (count i .next) (count i .value)) in
+    let slots =
+    c .before .before .before .before .before .before .before .decimal2 .ensures
+    ∙ ap (decimalFrom line) (c .before .before .before .before .before .before .before .before .tag2 .ensures
+    ∙ (λ i. pastTag line (read i .next) indicesMark)) in
+    let next =
+    c .before .before .before .before .before .read-indices .ensures .0 ∙ (λ i. pastIndices line (slots i .next) (count i .value) (slots i .value)) in
+    let indices =
+    c .before .before .before .before .before .read-indices .ensures .1
+    ∙ (λ i. withIndices line (slots i .next) (count i .value) (slots i .value) (replicate 64 (no-number i))) in
     let pupil = c .before .before .float .ensures ∙ ap (floatFrom line) (c .before .before .before .tag3 .ensures ∙ (λ i. pastTag line (next i) pupilMark)) in
     λ i. record {
       prescription = record {

@@ -44,7 +44,8 @@ returns c =
     let step = c .before .before .before .float3 .ensures ∙ ap (λ (r : FloatRead). floatFrom line (r .next)) hi in
     let type = c .before .before .variable-type .ensures ∙ (λ i. variableType (kind i .value) (surface i .value)) in
     λ i. record {
-      variable = record { «var_type» = type i; «min_value» = lo i .value; «max_value» = hi i .value; «step_size» = step i .value; enabled = eqb (enabled i .value) 1 };
+      variable =
+          record { «var_type» = type i; «min_value» = lo i .value; «max_value» = hi i .value; «step_size» = step i .value; enabled = eqb (enabled i .value) 1 };
       next = step i .next;
     }
 

@@ -12,7 +12,8 @@ use Rattle.joblines.proofs.sets.read_variables.Statement.{statement}
 use Rattle.joblines.proofs.sets.read_variables.Tie as tie
 
 abbrev Inv-loop : tie.InvT-loop
-Inv-loop line count variables₀ next₀ i₀ variables next i = Reading (pastVariable line) (putVariable line) next₀ (replicate 8 unreadVariable) count variables next i
+Inv-loop line count variables₀ next₀ i₀ variables next i =
+    Reading (pastVariable line) (putVariable line) next₀ (replicate 8 unreadVariable) count variables next i
 
 abbrev μ-loop : tie.MeasureT-loop
 μ-loop line count variables₀ next₀ i₀ variables next i = count - i
@@ -40,7 +41,8 @@ loop-again c =
     let l = c .before .before .before .before .before .loop in
     let this = variableFrom (c .before .before .before .before .before .before .before .args .line .now) (l .next) .variable in
     let read = c .before .before .read-variable .ensures in
-    more _ _ _ _ (l .inv) (c .before .before .before .before .loop-test .taken) (c .before .before .before .if1 .taken) (ap (λ (r : VariableRead). r .next) read)
+    more _ _ _ _ (l .inv) (c .before .before .before .before .loop-test .taken) (c .before .before .before .if1 .taken)
+    (ap (λ (r : VariableRead). r .next) read)
     (⊎-elim
     (λ w. stored (l .variables) 8 (l .i) this (w .0 .taken) (ap (λ (r : VariableRead). r .variable) read) (w .2))
     (λ w. no-room (l .variables) 8 (l .i) this (w .0 .left) (w .1))

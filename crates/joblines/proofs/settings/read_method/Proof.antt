@@ -37,7 +37,8 @@ returns-4 : tie.Need-returns-4
 unfolding methodFrom
 returns-4 c =
     let r = c .before .before .match .rest in
-    simp (ne-eqb _ _ (r .0 .0 .1), ne-eqb _ _ (r .0 .1), ne-eqb _ _ (r .1)) (c .read-damped-method2 .ensures ∙ ap (dampedMethodFrom (c .before .before .before .before .args .line .now)) (c .before .out-of-form .ensures))
+    simp (ne-eqb _ _ (r .0 .0 .1), ne-eqb _ _ (r .0 .1), ne-eqb _ _ (r .1))
+    (c .read-damped-method2 .ensures ∙ ap (dampedMethodFrom (c .before .before .before .before .args .line .now)) (c .before .out-of-form .ensures))
 
 pub read-method-spec : {M : Type 1} → statement M
 read-method-spec =

@@ -25,7 +25,9 @@ float-requires c κs = search needs
 
 returns-2 : tie.Need-returns-2
 unfolding floatSettingFrom
-returns-2 c = given {A = NumberSettingRead} (λ (d : Cursor). record { setting = Default; next = d }) (c .before .before .before .tag .ensures) (c .before .before .if1 .left) (ap (λ (r : FloatRead). record { setting = Is (r .value); next = r .next }) (c .before .float .ensures))
+returns-2 c =
+    given {A = NumberSettingRead} (λ (d : Cursor). record { setting = Default; next = d }) (c .before .before .before .tag .ensures)
+    (c .before .before .if1 .left) (ap (λ (r : FloatRead). record { setting = Is (r .value); next = r .next }) (c .before .float .ensures))
 
 pub read-number-spec : {M : Type 1} → statement M
 read-number-spec =

@@ -18,15 +18,34 @@ is-finite-requires c κs = search needs
 
 returns-2 : tie.Need-returns-2
 unfolding annealingTaken
-returns-2 c = simp (sym (c .before .before .before .from-zero-to .ensures) ∙ not-false _ (c .before .before .if1 .left), sym (c .before .is-finite .ensures) ∙ not-true _ (c .if2 .taken))
+returns-2 c =
+    simp (
+      sym (c .before .before .before .from-zero-to .ensures) ∙ not-false _ (c .before .before .if1 .left),
+      sym (c .before .is-finite .ensures)
+          ∙ not-true _ (c .if2 .taken),
+    )
 
 returns-3 : tie.Need-returns-3
 unfolding annealingTaken
-returns-3 c = simp (sym (c .before .before .before .before .before .from-zero-to .ensures) ∙ not-false _ (c .before .before .before .before .if1 .left), sym (c .before .before .before .is-finite .ensures) ∙ not-false _ (c .before .before .if2 .left), lt-leb _ _ (c .if3 .taken))
+returns-3 c =
+    simp (
+      sym (c .before .before .before .before .before .from-zero-to .ensures)
+          ∙ not-false _ (c .before .before .before .before .if1 .left),
+      sym (c .before .before .before .is-finite .ensures)
+          ∙ not-false _ (c .before .before .if2 .left),
+      lt-leb _ _ (c .if3 .taken),
+    )
 
 returns-4 : tie.Need-returns-4
 unfolding annealingTaken
-returns-4 c = rw (sym (c .before .before .before .before .before .before .from-zero-to .ensures) ∙ not-false _ (c .before .before .before .before .before .if1 .left), sym (c .before .before .before .before .is-finite .ensures) ∙ not-false _ (c .before .before .before .if2 .left), le-leb _ _ (c .before .if3 .left))
+returns-4 c =
+    rw (
+      sym (c .before .before .before .before .before .before .from-zero-to .ensures)
+          ∙ not-false _ (c .before .before .before .before .before .if1 .left),
+      sym (c .before .before .before .before .is-finite .ensures)
+          ∙ not-false _ (c .before .before .before .if2 .left),
+      le-leb _ _ (c .before .if3 .left),
+    )
 
 pub annealing-taken-spec : {M : Type 1} → statement M
 annealing-taken-spec =

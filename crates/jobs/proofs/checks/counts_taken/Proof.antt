@@ -15,7 +15,12 @@ returns-2 : tie.Need-returns-2
 returns-2 c = simp (sym (c .before .before .before .lens-counts-taken .ensures) ∙ not-false _ (c .before .before .if1 .left), lt-leb _ _ (c .if2 .taken))
 
 returns-3 : tie.Need-returns-3
-returns-3 c = simp (sym (c .before .before .before .before .lens-counts-taken .ensures) ∙ not-false _ (c .before .before .before .if1 .left), le-leb _ _ (c .before .if2 .left))
+returns-3 c =
+    simp (
+      sym (c .before .before .before .before .lens-counts-taken .ensures)
+          ∙ not-false _ (c .before .before .before .if1 .left),
+      le-leb _ _ (c .before .if2 .left),
+    )
 
 pub counts-taken-spec : {M : Type 1} → statement M
 counts-taken-spec = tie.close (tie.spec lens-counts-taken-requires returns returns-2 returns-3)

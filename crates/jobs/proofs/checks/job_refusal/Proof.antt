@@ -1,4 +1,5 @@
--- `jobs::checks::job_refusal` meets its contract: behind each test none of the causes so far holds, and each arm answers by the law of its number. Assumes nothing.
+-- `jobs::checks::job_refusal` meets its contract: behind each test none of the causes so far holds, and each arm answers by the law of its number. Assumes
+-- nothing.
 use mathlib.Core.Path.{sym}
 use borrow.Author.Needs.{needs}
 use borrow.Author.Tests.{not-false, eq-eqb, ne-eqb}
@@ -66,7 +67,9 @@ lens-taken-requires : tie.Need-lens-taken-requires
 lens-taken-requires c κs = (counted (c .before .before .before) .surfaces, counted (c .before .before .before) .slots)
 
 returns-2 : tie.Need-returns-2
-returns-2 c = sym (refused-3 (job-1 (c .before .before .before .before .before)) .1 (rw (c .before .lens-taken .ensures) at (c .if2 .taken), passed-1 (c .before .before .before .before .before)))
+returns-2 c =
+    sym (refused-3 (job-1 (c .before .before .before .before .before)) .1
+    (rw (c .before .lens-taken .ensures) at (c .if2 .taken), passed-1 (c .before .before .before .before .before)))
 
 variables-taken-requires : tie.Need-variables-taken-requires
 variables-taken-requires c κs = counted (c .before .before .before .before .before) .variables

@@ -22,7 +22,8 @@ returns-4 c = rw (c .match .keys4)
 
 returns-5 : tie.Need-returns-5
 unfolding slotType
-returns-5 c = simp (ne-eqb _ _ (c .match .rest .0 .0 .0 .1), ne-eqb _ _ (c .match .rest .0 .0 .1), ne-eqb _ _ (c .match .rest .0 .1), ne-eqb _ _ (c .match .rest .1))
+returns-5 c =
+    simp (ne-eqb _ _ (c .match .rest .0 .0 .0 .1), ne-eqb _ _ (c .match .rest .0 .0 .1), ne-eqb _ _ (c .match .rest .0 .1), ne-eqb _ _ (c .match .rest .1))
 
 pub slot-type-spec : {M : Type 1} → statement M
 slot-type-spec = tie.close (tie.spec returns returns-2 returns-3 returns-4 returns-5)

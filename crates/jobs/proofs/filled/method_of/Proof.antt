@@ -44,12 +44,14 @@ returns c =
 returns-2 : tie.Need-returns-2
 returns-2 c =
     let asked = c .before .before .before .request2 .given in
-    ap MultiStart (c .multi-start-of .ensures ∙ ap (λ (d : MultiStartConfig). multiStartOf d (asked .0 .0)) (c .before .multi-start-defaults .ensures)) ∙ sym (ap methodOf (asked .1))
+    ap MultiStart (c .multi-start-of .ensures ∙ ap (λ (d : MultiStartConfig). multiStartOf d (asked .0 .0)) (c .before .multi-start-defaults .ensures))
+    ∙ sym (ap methodOf (asked .1))
 
 returns-3 : tie.Need-returns-3
 returns-3 c =
     let asked = c .before .before .before .request3 .given in
-    ap Annealing (c .annealing-of .ensures ∙ ap (λ (d : SimulatedAnnealingConfig). annealingOf d (asked .0 .0)) (c .before .annealing-defaults .ensures)) ∙ sym (ap methodOf (asked .1))
+    ap Annealing (c .annealing-of .ensures ∙ ap (λ (d : SimulatedAnnealingConfig). annealingOf d (asked .0 .0)) (c .before .annealing-defaults .ensures))
+    ∙ sym (ap methodOf (asked .1))
 
 pub method-of-spec : {M : Type 1} → statement M
 method-of-spec =

@@ -38,7 +38,8 @@ operand-known-requires c κs = search needs
 returns : tie.Need-returns Inv-loop μ-loop
 returns c =
     let records = c .before .before .before .before .before .before .args .held .operands in
-    sym (not-all (known records) _ (c .before .before .before .before .loop .i) (c .before .before .before .loop-test .taken) (sym (c .before .operand-known .ensures) ∙ not-true _ (c .if1 .taken)))
+    sym (not-all (known records) _ (c .before .before .before .before .loop .i) (c .before .before .before .loop-test .taken)
+    (sym (c .before .operand-known .ensures) ∙ not-true _ (c .if1 .taken)))
 
 add-i : tie.Need-add-i Inv-loop μ-loop
 add-i c = search needs
@@ -48,8 +49,11 @@ loop-less c = search needs
 
 loop-again : tie.Need-loop-again Inv-loop μ-loop
 loop-again c =
-    let records = c .before .before .before .before .before .before .args .held .operands in
-    (search needs, all-more (known records) _ (c .before .before .before .before .loop .inv .1) (sym (c .before .operand-known .ensures) ∙ not-false _ (c .if1 .left)))
+    let records = c .before .before .before .before .before .before .args .held .operands in (
+      search needs,
+      all-more (known records) _ (c .before .before .before .before .loop .inv .1)
+          (sym (c .before .operand-known .ensures) ∙ not-false _ (c .if1 .left)),
+    )
 
 returns-2 : tie.Need-returns-2 Inv-loop μ-loop
 returns-2 c =

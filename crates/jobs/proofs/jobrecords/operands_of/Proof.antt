@@ -13,7 +13,8 @@ use Rattle.jobs.proofs.jobrecords.operands_of.Statement.{statement}
 use Rattle.jobs.proofs.jobrecords.operands_of.Tie as tie
 
 abbrev Inv-loop : tie.InvT-loop
-Inv-loop records operands₀ i₀ operands i = (length operands₀ ≡ 12) × (i ≤ 12) × (operands ≡ tab (λ (k : ℕ). operandOf (getD records k noOperandRecord)) i ++ drop i operands₀)
+Inv-loop records operands₀ i₀ operands i =
+    (length operands₀ ≡ 12) × (i ≤ 12) × (operands ≡ tab (λ (k : ℕ). operandOf (getD records k noOperandRecord)) i ++ drop i operands₀)
 
 abbrev μ-loop : tie.MeasureT-loop
 μ-loop records operands₀ i₀ operands i = 12 - i

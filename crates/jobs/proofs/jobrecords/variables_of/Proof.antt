@@ -13,7 +13,8 @@ use Rattle.jobs.proofs.jobrecords.variables_of.Statement.{statement}
 use Rattle.jobs.proofs.jobrecords.variables_of.Tie as tie
 
 abbrev Inv-loop : tie.InvT-loop
-Inv-loop records variables₀ i₀ variables i = (length variables₀ ≡ 8) × (i ≤ 8) × (variables ≡ tab (λ (k : ℕ). variableOf (getD records k noVariableRecord)) i ++ drop i variables₀)
+Inv-loop records variables₀ i₀ variables i =
+    (length variables₀ ≡ 8) × (i ≤ 8) × (variables ≡ tab (λ (k : ℕ). variableOf (getD records k noVariableRecord)) i ++ drop i variables₀)
 
 abbrev μ-loop : tie.MeasureT-loop
 μ-loop records variables₀ i₀ variables i = 8 - i

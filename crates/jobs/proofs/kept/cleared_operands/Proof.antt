@@ -40,8 +40,11 @@ loop-again : tie.Need-loop-again Inv-loop μ-loop
 loop-again c =
     let x = c .before .before .before .args in
     let l : length (x .operands) ≡ 12 = search needs in
-    let done = ap (set (c .before .before .loop .cleared) (c .before .before .loop .i)) (c .zero-operand .ensures) in
-    (search needs, clear-more (below (x .count)) zeroOperand noOperand (x .operands) (c .before .before .loop .inv .1) _ done (search needs) (le-ltb _ _ (c .before .before .loop .inv .0)))
+    let done = ap (set (c .before .before .loop .cleared) (c .before .before .loop .i)) (c .zero-operand .ensures) in (
+      search needs,
+      clear-more (below (x .count)) zeroOperand noOperand (x .operands) (c .before .before .loop .inv .1) _ done (search needs)
+          (le-ltb _ _ (c .before .before .loop .inv .0)),
+    )
 
 returns : tie.Need-returns Inv-loop μ-loop
 returns c =

@@ -40,8 +40,11 @@ loop-again : tie.Need-loop-again Inv-loop μ-loop
 loop-again c =
     let x = c .before .before .before .args in
     let l : length (x .variables) ≡ 8 = search needs in
-    let done = ap (set (c .before .before .loop .cleared) (c .before .before .loop .i)) (c .zero-variable .ensures) in
-    (search needs, clear-more (below (x .count)) zeroVariable noVariable (x .variables) (c .before .before .loop .inv .1) _ done (search needs) (le-ltb _ _ (c .before .before .loop .inv .0)))
+    let done = ap (set (c .before .before .loop .cleared) (c .before .before .loop .i)) (c .zero-variable .ensures) in (
+      search needs,
+      clear-more (below (x .count)) zeroVariable noVariable (x .variables) (c .before .before .loop .inv .1) _ done (search needs)
+          (le-ltb _ _ (c .before .before .loop .inv .0)),
+    )
 
 returns : tie.Need-returns Inv-loop μ-loop
 returns c =

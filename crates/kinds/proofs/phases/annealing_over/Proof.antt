@@ -15,7 +15,9 @@ damped-over-requires : tie.Need-damped-over-requires
 damped-over-requires c κs = search needs
 
 returns-3 : tie.Need-returns-3
-returns-3 c = λ s e. c .damped-over .ensures (s .damped) e ∙ sym (polish-over (c .before .before .before .args .phase) (c .before .before .if1 .left) (c .before .if2 .left) s e)
+returns-3 c =
+    λ s e. c .damped-over .ensures (s .damped) e ∙ sym (polish-over (c .before .before .before .args .phase) (c .before .before .if1 .left)
+    (c .before .if2 .left) s e)
 
 pub annealing-over-spec : {M : Type 1} → statement M
 annealing-over-spec = tie.close (tie.spec returns returns-2 damped-over-requires returns-3)

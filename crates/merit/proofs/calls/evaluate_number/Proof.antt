@@ -19,7 +19,8 @@ unfolding evaluateNumber
 returns-2 c = simp (sym (c .before .before .before .lens-counts-taken .ensures) ∙ not-false _ (c .before .before .if1 .left), lt-leb _ _ (c .if2 .taken))
 
 lens-taken-requires : tie.Need-lens-taken-requires
-lens-taken-requires c κs = counts-room (c .before .before .before .before .args .prescription) (c .before .before .before .lens-counts-taken .ensures) (c .before .before .if1 .left)
+lens-taken-requires c κs =
+    counts-room (c .before .before .before .before .args .prescription) (c .before .before .before .lens-counts-taken .ensures) (c .before .before .if1 .left)
 
 returns-3 : tie.Need-returns-3
 unfolding evaluateNumber
@@ -34,7 +35,9 @@ operands-taken-requires c κs = search needs
 returns-4 : tie.Need-returns-4
 unfolding evaluateNumber
 returns-4 c =
-    let counted = sym (c .before .before .before .before .before .before .before .lens-counts-taken .ensures) ∙ not-false _ (c .before .before .before .before .before .before .if1 .left) in
+    let counted =
+    sym (c .before .before .before .before .before .before .before .lens-counts-taken .ensures)
+    ∙ not-false _ (c .before .before .before .before .before .before .if1 .left) in
     let few = le-leb _ _ (c .before .before .before .before .if2 .left) in
     let lens = sym (c .before .before .before .lens-taken .ensures) ∙ not-false _ (c .before .before .if3 .left) in
     simp (counted, few, lens, sym (c .before .operands-taken .ensures) ∙ not-true _ (c .if4 .taken))
@@ -42,7 +45,9 @@ returns-4 c =
 returns-5 : tie.Need-returns-5
 unfolding evaluateNumber
 returns-5 c =
-    let counted = sym (c .before .before .before .before .before .before .before .lens-counts-taken .ensures) ∙ not-false _ (c .before .before .before .before .before .before .if1 .left) in
+    let counted =
+    sym (c .before .before .before .before .before .before .before .lens-counts-taken .ensures)
+    ∙ not-false _ (c .before .before .before .before .before .before .if1 .left) in
     let few = le-leb _ _ (c .before .before .before .before .if2 .left) in
     let lens = sym (c .before .before .before .lens-taken .ensures) ∙ not-false _ (c .before .before .if3 .left) in
     simp (counted, few, lens, sym (c .before .operands-taken .ensures) ∙ not-false _ (c .if4 .left))

@@ -21,14 +21,20 @@ evaluate-flat-requires : tie.Need-evaluate-flat-requires
 evaluate-flat-requires c κs =
     let a = c .before .before .before .before .before .args in
     let ok = c .before .before .before .before .before .pre in
-    let e : length (a .prescription .indices) ≡ 64 = search needs in
-    (laid-room _ _ _ _ (c .before .before .laid .ensures), omega (arith, ok .surfaces), ok .operands, slots-known (a .prescription .«slot_count») (ok .slots) (a .function) (ok .taken))
+    let e : length (a .prescription .indices) ≡ 64 = search needs in (
+      laid-room _ _ _ _ (c .before .before .laid .ensures),
+      omega (arith, ok .surfaces),
+      ok .operands,
+      slots-known (a .prescription .«slot_count») (ok .slots)
+          (a .function) (ok .taken),
+    )
 
 returns : tie.Need-returns
 returns c =
     let a = c .before .before .before .before .before .before .args in
     let ok = c .before .before .before .before .before .before .pre in
-    c .evaluate-flat .ensures ∙ laid-evaluation (a .prescription) (a .function) _ _ (c .before .before .before .laid .ensures) (slots-known (a .prescription .«slot_count») (ok .slots) (a .function) (ok .taken))
+    c .evaluate-flat .ensures ∙ laid-evaluation (a .prescription) (a .function) _ _ (c .before .before .before .laid .ensures)
+    (slots-known (a .prescription .«slot_count») (ok .slots) (a .function) (ok .taken))
 
 pub lens-evaluation-spec : {M : Type 1} → statement M
 lens-evaluation-spec =

@@ -19,7 +19,8 @@ unfolding traceNumber
 returns-2 c = simp (sym (c .before .before .before .lens-counts-taken .ensures) ∙ not-false _ (c .before .before .if1 .left), ne-eqb _ _ (c .if2 .taken))
 
 lens-taken-requires : tie.Need-lens-taken-requires
-lens-taken-requires c κs = counts-room (c .before .before .before .before .args .prescription) (c .before .before .before .lens-counts-taken .ensures) (c .before .before .if1 .left)
+lens-taken-requires c κs =
+    counts-room (c .before .before .before .before .args .prescription) (c .before .before .before .lens-counts-taken .ensures) (c .before .before .if1 .left)
 
 returns-3 : tie.Need-returns-3
 unfolding traceNumber
@@ -31,7 +32,9 @@ returns-3 c =
 returns-4 : tie.Need-returns-4
 unfolding traceNumber
 returns-4 c =
-    let counted = sym (c .before .before .before .before .before .before .before .lens-counts-taken .ensures) ∙ not-false _ (c .before .before .before .before .before .before .if1 .left) in
+    let counted =
+    sym (c .before .before .before .before .before .before .before .lens-counts-taken .ensures)
+    ∙ not-false _ (c .before .before .before .before .before .before .if1 .left) in
     let long = eq-eqb _ _ (c .before .before .before .before .if2 .left) in
     let lens = sym (c .before .before .before .lens-taken .ensures) ∙ not-false _ (c .before .before .if3 .left) in
     simp (counted, long, lens, lt-ltb _ _ (c .if4 .taken))
@@ -39,7 +42,9 @@ returns-4 c =
 returns-5 : tie.Need-returns-5
 unfolding traceNumber
 returns-5 c =
-    let counted = sym (c .before .before .before .before .before .before .before .lens-counts-taken .ensures) ∙ not-false _ (c .before .before .before .before .before .before .if1 .left) in
+    let counted =
+    sym (c .before .before .before .before .before .before .before .lens-counts-taken .ensures)
+    ∙ not-false _ (c .before .before .before .before .before .before .if1 .left) in
     let long = eq-eqb _ _ (c .before .before .before .before .if2 .left) in
     let lens = sym (c .before .before .before .lens-taken .ensures) ∙ not-false _ (c .before .before .if3 .left) in
     simp (counted, long, lens, le-ltb _ _ (c .if4 .left))

@@ -19,7 +19,9 @@ nothing-traced-requires-2 : tie.Need-nothing-traced-requires-2
 nothing-traced-requires-2 c κs = search needs
 
 returns-2 : tie.Need-returns-2
-returns-2 c = c .nothing-traced2 .ensures ∙ trace-failed _ _ _ _ (c .before .before .before .before .trace-number .ensures) (c .before .before .before .if1 .left) (c .before .if2 .taken)
+returns-2 c =
+    c .nothing-traced2 .ensures ∙ trace-failed _ _ _ _ (c .before .before .before .before .trace-number .ensures) (c .before .before .before .if1 .left)
+    (c .before .if2 .taken)
 
 lens-heights-requires : tie.Need-lens-heights-requires
 lens-heights-requires c κs =
@@ -27,7 +29,9 @@ lens-heights-requires c κs =
     (ok .surfaces, ok .below)
 
 returns-3 : tie.Need-returns-3
-returns-3 c = c .lens-heights .ensures ∙ trace-done _ _ _ _ (c .before .before .before .before .trace-number .ensures) (c .before .before .before .if1 .left) (c .before .if2 .left)
+returns-3 c =
+    c .lens-heights .ensures ∙ trace-done _ _ _ _ (c .before .before .before .before .trace-number .ensures) (c .before .before .before .if1 .left)
+    (c .before .if2 .left)
 
 pub traced-heights-spec : {M : Type 1} → statement M
 traced-heights-spec =

@@ -39,7 +39,8 @@ operand-taken-requires c κs = search needs
 returns : tie.Need-returns Inv-loop μ-loop
 returns c =
     let a = c .before .before .before .before .before .before .args in
-    sym (not-all (taken (a .slots) (a .function .operands)) _ (c .before .before .before .before .loop .n) (omega arith) (sym (c .before .operand-taken .ensures) ∙ not-true _ (c .if1 .taken)))
+    sym (not-all (taken (a .slots) (a .function .operands)) _ (c .before .before .before .before .loop .n) (omega arith)
+    (sym (c .before .operand-taken .ensures) ∙ not-true _ (c .if1 .taken)))
 
 add-n : tie.Need-add-n Inv-loop μ-loop
 add-n c = search needs
@@ -49,8 +50,11 @@ loop-less c = search needs
 
 loop-again : tie.Need-loop-again Inv-loop μ-loop
 loop-again c =
-    let a = c .before .before .before .before .before .before .args in
-    (search needs, all-more (taken (a .slots) (a .function .operands)) _ (c .before .before .before .before .loop .inv .1) (sym (c .before .operand-taken .ensures) ∙ not-false _ (c .if1 .left)))
+    let a = c .before .before .before .before .before .before .args in (
+      search needs,
+      all-more (taken (a .slots) (a .function .operands)) _ (c .before .before .before .before .loop .inv .1)
+          (sym (c .before .operand-taken .ensures) ∙ not-false _ (c .if1 .left)),
+    )
 
 returns-2 : tie.Need-returns-2 Inv-loop μ-loop
 returns-2 c =

@@ -24,7 +24,8 @@ use Rattle.merit.proofs.evaluation.evaluate_flat.Tie as tie
 
 abbrev Inv-loop : tie.InvT-loop
 Inv-loop flat indices count pupil slots operands many values₀ residuals₀ total₀ known₀ n₀ values residuals total known n =
-    Evaluated (flatSurface flat) (slotIndex indices) pupil count (record { operands = operands; «operand_count» = many }) values₀ residuals₀ values residuals total n × RootKnown known
+    Evaluated (flatSurface flat) (slotIndex indices) pupil count (record { operands = operands; «operand_count» = many }) values₀ residuals₀ values residuals
+    total n × RootKnown known
 
 abbrev μ-loop : tie.MeasureT-loop
 μ-loop flat indices count pupil slots operands many values₀ residuals₀ total₀ known₀ n₀ values residuals total known n = many - n
@@ -77,12 +78,14 @@ loop-again c =
     let turn = c .before .before in
     let more : l .n < a .function .«operand_count» = omega arith in
     let room : l .n < 12 = omega arith in
-    let traced : (w : ℕ) → w < 4 → getD (slots .result) w Failed ≡ paraxialOf (flatSurface (a .flat .now)) (slotIndex (a .indices .now) w) (a .pupil) (a .count) =
+    let traced : (w : ℕ) → w < 4 → getD (slots .result) w Failed
+    ≡ paraxialOf (flatSurface (a .flat .now)) (slotIndex (a .indices .now) w) (a .pupil) (a .count) =
     λ w h. ap (λ (s : List Paraxial). getD s w Failed) (slots .ensures) ∙ getD-tab _ 4 w Failed h in
     let surface = flatSurface (a .flat .now) in
     let index = slotIndex (a .indices .now) in
     let earlier : l .values ≡ valuesAfter surface index (a .pupil) (a .count) (a .function) (l .n) =
-    laid surface index (a .pupil) (a .count) (a .function) _ _ (l .values) (l .residuals) (l .total) (l .n) (l .inv .0) refl room ∙ sym (values-after surface index (a .pupil) (a .count) (a .function) (l .n) (omega arith)) in
+    laid surface index (a .pupil) (a .count) (a .function) _ _ (l .values) (l .residuals) (l .total) (l .n) (l .inv .0) refl room
+    ∙ sym (values-after surface index (a .pupil) (a .count) (a .function) (l .n) (omega arith)) in
     let v : turn .before .before .value-of .result ≡ valueAt surface index (a .pupil) (a .count) (a .function) (l .n) =
     turn .before .before .value-of .ensures
     ∙ ap (λ (z : List Float). valueOf z (λ (w : ℕ). getD (slots .result) w Failed) surface (a .count) (operandAt (a .function) (l .n) .«operand_type»)) earlier

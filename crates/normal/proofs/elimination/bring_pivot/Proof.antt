@@ -31,8 +31,10 @@ same-length c = search needs
 returns : tie.Need-returns
 returns c =
     let x = c .before .before .before .before .before .before .args in
-    let l = x .scratch .now in
-    (ap (λ (n : ℕ). getD l n nan) (c .before .before .system-place .ensures), brought-kept (x .p) (x .c) l (sym (c .before .before .before .pivot-row .ensures) ∙ c .before .if1 .taken))
+    let l = x .scratch .now in (
+      ap (λ (n : ℕ). getD l n nan) (c .before .before .system-place .ensures),
+      brought-kept (x .p) (x .c) l (sym (c .before .before .before .pivot-row .ensures) ∙ c .before .if1 .taken),
+    )
 
 system-place-requires-2 : tie.Need-system-place-requires-2
 system-place-requires-2 c κs =

@@ -27,7 +27,8 @@ returns c =
     let b = c .before .before .before .bring-pivot in
     let l = c .before .before .before .before .before .before in
     let x = l .before .before .args in
-    stage-stop (x .p) (l .loop .c) (x .scratch .now) (l .loop .scratch) (b .last .0) (b .result) (l .loop .inv .1) (omega arith) (search needs) (search needs) (b .ensures .1) (b .ensures .0) (c .if1 .taken)
+    stage-stop (x .p) (l .loop .c) (x .scratch .now) (l .loop .scratch) (b .last .0) (b .result) (l .loop .inv .1) (omega arith) (search needs) (search needs)
+    (b .ensures .1) (b .ensures .0) (c .if1 .taken)
 
 reduce-below-requires : tie.Need-reduce-below-requires Inv-loop μ-loop
 reduce-below-requires c κs = search needs
@@ -42,8 +43,11 @@ loop-again : tie.Need-loop-again Inv-loop μ-loop
 loop-again c =
     let b = c .before .before .before .before .before .before .before .bring-pivot in
     let l = c .before .before .before .before .before .before .before .before .before .before in
-    let x = l .before .before .args in
-    (omega arith, stage-more (x .p) (l .loop .c) (x .scratch .now) (l .loop .scratch) (b .last .0) (b .result) (l .loop .inv .1) (omega arith) (search needs) (search needs) (b .ensures .1) (b .ensures .0) _ (c .before .before .before .before .if1 .left) (c .before .before .reduce-below .ensures))
+    let x = l .before .before .args in (
+      omega arith,
+      stage-more (x .p) (l .loop .c) (x .scratch .now) (l .loop .scratch) (b .last .0) (b .result) (l .loop .inv .1) (omega arith) (search needs)
+          (search needs) (b .ensures .1) (b .ensures .0) _ (c .before .before .before .before .if1 .left) (c .before .before .reduce-below .ensures),
+    )
 
 same-length-2 : tie.Need-same-length-2 Inv-loop μ-loop
 same-length-2 c = search needs

@@ -64,8 +64,12 @@ loop-less c = search needs
 
 loop-again : tie.Need-loop-again Inv-loop μ-loop
 loop-again c =
-    let l = c .before .before .before in
-    (search needs, simp length-set (omega arith), exchange-turn (l .before .args .scratch .now) (l .before .args .a) (l .before .args .b) (l .before .args .n) (l .loop .k) (search needs) (omega arith) _ (l .loop .inv .2))
+    let l = c .before .before .before in (
+      search needs,
+      simp length-set (omega arith),
+      exchange-turn (l .before .args .scratch .now) (l .before .args .a) (l .before .args .b) (l .before .args .n)
+          (l .loop .k) (search needs) (omega arith) _ (l .loop .inv .2),
+    )
 
 same-length : tie.Need-same-length Inv-loop μ-loop
 same-length c = search needs

@@ -14,7 +14,8 @@ use Rattle.normal.proofs.elimination.pivot_row.Statement.{statement}
 use Rattle.normal.proofs.elimination.pivot_row.Tie as tie
 
 abbrev Inv-loop : tie.InvT-loop
-Inv-loop scratch p c best₀ most₀ r₀ best most r = (c < r) × (r ≤ p) × (c ≤ best) × (best < r) × (best ≡ pivotRow (systemIn scratch) c (r - suc c)) × (most ≡ magnitude (systemIn scratch best c))
+Inv-loop scratch p c best₀ most₀ r₀ best most r =
+    (c < r) × (r ≤ p) × (c ≤ best) × (best < r) × (best ≡ pivotRow (systemIn scratch) c (r - suc c)) × (most ≡ magnitude (systemIn scratch best c))
 
 abbrev μ-loop : tie.MeasureT-loop
 μ-loop scratch p c best₀ most₀ r₀ best most r = p - r
@@ -36,8 +37,15 @@ add-r c = search needs
 
 loop-holds : tie.Need-loop-holds Inv-loop μ-loop
 loop-holds c =
-    let x = c .before .before .before .before .args in
-    (omega arith, omega arith, omega arith, omega arith, pivot-first (systemIn (x .scratch .now)) (x .c), c .abs .ensures ∙ ap (λ (n : ℕ). magnitude (getD (x .scratch .now) n nan)) (c .before .before .system-place .ensures))
+    let x = c .before .before .before .before .args in (
+      omega arith,
+      omega arith,
+      omega arith,
+      omega arith,
+      pivot-first (systemIn (x .scratch .now)) (x .c),
+      c .abs .ensures
+          ∙ ap (λ (n : ℕ). magnitude (getD (x .scratch .now) n nan)) (c .before .before .system-place .ensures),
+    )
 
 system-place-requires-2 : tie.Need-system-place-requires-2 Inv-loop μ-loop
 system-place-requires-2 c κs = search needs
@@ -62,10 +70,29 @@ loop-again c =
     let l = c .before .before .before .before .before in
     let x = l .before .before .before .before .before .args in
     let m = systemIn (x .scratch .now) in
-    let size : c .before .abs2 .result ≡ magnitude (m (l .loop .r) (x .c)) = c .before .abs2 .ensures ∙ ap (λ (n : ℕ). magnitude (getD (x .scratch .now) n nan)) (c .before .before .before .system-place2 .ensures) in
+    let size : c .before .abs2 .result ≡ magnitude (m (l .loop .r) (x .c)) =
+    c .before .abs2 .ensures ∙ ap (λ (n : ℕ). magnitude (getD (x .scratch .now) n nan)) (c .before .before .before .system-place2 .ensures) in
     ⊎-elim
-    (λ w. (omega arith, omega arith, omega arith, omega arith, w .1 ∙ pivot-lower m (x .c) (l .loop .r) (l .loop .best) (l .loop .most) _ (omega arith) (l .loop .inv .4) (l .loop .inv .5) size (w .0 .taken), w .2 ∙ size ∙ ap (λ (n : ℕ). magnitude (m n (x .c))) (sym (w .1))))
-    (λ w. (omega arith, omega arith, omega arith, omega arith, w .1 ∙ pivot-upper m (x .c) (l .loop .r) (l .loop .best) (l .loop .most) _ (omega arith) (l .loop .inv .4) (l .loop .inv .5) size (w .0 .left), w .2 ∙ l .loop .inv .5 ∙ ap (λ (n : ℕ). magnitude (m n (x .c))) (sym (w .1))))
+    (λ w. (
+      omega arith,
+      omega arith,
+      omega arith,
+      omega arith,
+      w .1
+          ∙ pivot-lower m (x .c) (l .loop .r) (l .loop .best) (l .loop .most) _ (omega arith) (l .loop .inv .4) (l .loop .inv .5) size (w .0 .taken),
+      w .2 ∙ size
+          ∙ ap (λ (n : ℕ). magnitude (m n (x .c))) (sym (w .1)),
+    ))
+    (λ w. (
+      omega arith,
+      omega arith,
+      omega arith,
+      omega arith,
+      w .1
+          ∙ pivot-upper m (x .c) (l .loop .r) (l .loop .best) (l .loop .most) _ (omega arith) (l .loop .inv .4) (l .loop .inv .5) size (w .0 .left),
+      w .2
+          ∙ l .loop .inv .5 ∙ ap (λ (n : ℕ). magnitude (m n (x .c))) (sym (w .1)),
+    ))
     (c .if1 .came)
 
 returns : tie.Need-returns Inv-loop μ-loop

@@ -15,9 +15,12 @@ none : (p c : ℕ) (pivot : Float) (l : List Float) → l ≡ rowsReduced p c pi
 unfolding rowsReduced
 none p c pivot l = ap (λ (n : ℕ). rowsReduced p c pivot n l) (none-passed c)
 
-more : (p c r : ℕ) (pivot : Float) (l : List Float) → c < r → rowReduced p c pivot r (rowsReduced p c pivot (r - suc c) l) ≡ rowsReduced p c pivot (r + 1 - suc c) l
+more : (p c r : ℕ) (pivot : Float) (l : List Float) → c < r → rowReduced p c pivot r (rowsReduced p c pivot (r - suc c) l)
+    ≡ rowsReduced p c pivot (r + 1 - suc c) l
 unfolding rowsReduced
-more p c r pivot l h = ap (λ (x : ℕ). rowReduced p c pivot x (rowsReduced p c pivot (r - suc c) l)) (sym (passed c r h)) ∙ ap (λ (x : ℕ). rowsReduced p c pivot x l) (sym (one-more c r h))
+more p c r pivot l h =
+    ap (λ (x : ℕ). rowReduced p c pivot x (rowsReduced p c pivot (r - suc c) l)) (sym (passed c r h))
+    ∙ ap (λ (x : ℕ). rowsReduced p c pivot x l) (sym (one-more c r h))
 
 abbrev Inv-loop : tie.InvT-loop
 Inv-loop scratch₀ p c pivot r₀ scratch r = (c < r) × (r ≤ p) × (length scratch ≡ length scratch₀) × (scratch ≡ rowsReduced p c pivot (r - suc c) scratch₀)
@@ -45,8 +48,14 @@ loop-less c = search needs
 loop-again : tie.Need-loop-again Inv-loop μ-loop
 loop-again c =
     let l = c .before .before .before .before .before in
-    let x = l .before .before .args in
-    (omega arith, search needs, c .before .before .reduce-row .kept .0 ∙ l .loop .inv .2, c .before .before .reduce-row .ensures ∙ ap (rowReduced (x .p) (x .c) (x .pivot) (l .loop .r)) (l .loop .inv .3) ∙ more (x .p) (x .c) (l .loop .r) (x .pivot) (x .scratch .now) (omega arith))
+    let x = l .before .before .args in (
+      omega arith,
+      search needs,
+      c .before .before .reduce-row .kept .0 ∙ l .loop .inv .2,
+      c .before .before .reduce-row .ensures
+          ∙ ap (rowReduced (x .p) (x .c) (x .pivot) (l .loop .r)) (l .loop .inv .3)
+          ∙ more (x .p) (x .c) (l .loop .r) (x .pivot) (x .scratch .now) (omega arith),
+    )
 
 same-length : tie.Need-same-length Inv-loop μ-loop
 same-length c = search needs

@@ -45,7 +45,8 @@ returns c =
     let a = c .before .before .before .before .system-place2 .ensures in
     let b = c .before .before .before .system-place3 .ensures in
     let f = c .before .before .before .before .before .before .before .system-place .ensures in
-    c .before .before .subtract .ensures ∙ (λ i. partSubtracted (a i) (b i) (x .p - x .c) (div binary64 (getD (x .scratch .now) (f i) nan) (x .pivot)) (x .scratch .now))
+    c .before .before .subtract .ensures ∙ (λ i. partSubtracted (a i) (b i) (x .p - x .c) (div binary64 (getD (x .scratch .now) (f i) nan) (x .pivot))
+    (x .scratch .now))
 
 pub reduce-row-spec : {M : Type 1} → statement M
 reduce-row-spec =

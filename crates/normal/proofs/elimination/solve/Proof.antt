@@ -37,7 +37,8 @@ returns-2 c =
     let e = u .before .before .before .before .before .before in
     let x = e .before .before .before .args in
     let yes : e .eliminate .result ≡ Yes = cc in
-    solve-some (x .p) (x .scratch .now) (e .eliminate .last .0) (u .solve-upward .last .0) (search needs) (search needs) (rw yes at (e .eliminate .ensures)) (u .solve-upward .ensures)
+    solve-some (x .p) (x .scratch .now) (e .eliminate .last .0) (u .solve-upward .last .0) (search needs) (search needs) (rw yes at (e .eliminate .ensures))
+    (u .solve-upward .ensures)
 
 pub solve-spec : {M : Type 1} → statement M
 solve-spec =

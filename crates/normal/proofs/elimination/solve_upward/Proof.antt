@@ -13,7 +13,8 @@ use Rattle.normal.proofs.elimination.solve_upward.Statement.{statement}
 use Rattle.normal.proofs.elimination.solve_upward.Tie as tie
 
 abbrev Inv-loop : tie.InvT-loop
-Inv-loop scratch₀ p i₀ scratch i = (i ≤ p) × (length scratch ≡ length scratch₀) × (scratch ≡ sets scratch₀ (stepAt + i) (unknowns p (systemIn scratch₀) (p - i)))
+Inv-loop scratch₀ p i₀ scratch i =
+    (i ≤ p) × (length scratch ≡ length scratch₀) × (scratch ≡ sets scratch₀ (stepAt + i) (unknowns p (systemIn scratch₀) (p - i)))
 
 abbrev μ-loop : tie.MeasureT-loop
 μ-loop scratch₀ p i₀ scratch i = i
@@ -42,8 +43,12 @@ loop-less c = search needs
 loop-again : tie.Need-loop-again Inv-loop μ-loop
 loop-again c =
     let l = c .before .before .before in
-    let x = l .before .before .args in
-    (omega arith, simp length-set (omega arith), upward-turn (x .p) (l .loop .i - 1) (l .loop .i) (x .scratch .now) (l .loop .scratch) _ (omega arith) (omega arith) (search needs) (search needs) (l .loop .inv .2) (c .unknown .ensures))
+    let x = l .before .before .args in (
+      omega arith,
+      simp length-set (omega arith),
+      upward-turn (x .p) (l .loop .i - 1) (l .loop .i) (x .scratch .now) (l .loop .scratch) _ (omega arith)
+          (omega arith) (search needs) (search needs) (l .loop .inv .2) (c .unknown .ensures),
+    )
 
 same-length : tie.Need-same-length Inv-loop μ-loop
 same-length c = search needs

@@ -58,8 +58,12 @@ loop-less c = search needs
 
 loop-again : tie.Need-loop-again Inv-loop μ-loop
 loop-again c =
-    let l = c .before .before .before .before in
-    (omega arith, omega arith, right-again _ _ (l .before .before .before .before .args .scratch .now) _ _ _ (omega arith) (omega arith) (l .loop .inv .2) (c .before .before .system-place2 .ensures))
+    let l = c .before .before .before .before in (
+      omega arith,
+      omega arith,
+      right-again _ _ (l .before .before .before .before .args .scratch .now) _ _ _ (omega arith) (omega arith) (l .loop .inv .2)
+          (c .before .before .system-place2 .ensures),
+    )
 
 system-place-requires-3 : tie.Need-system-place-requires-3 Inv-loop μ-loop
 system-place-requires-3 c κs = search needs

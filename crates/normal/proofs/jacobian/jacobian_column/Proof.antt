@@ -53,7 +53,12 @@ loop-less : tie.Need-loop-less Inv-loop μ-loop
 loop-less c = search needs
 
 loop-again : tie.Need-loop-again Inv-loop μ-loop
-loop-again c = (search needs, part-step _ _ _ _ _ _ _ (c .before .before .before .before .loop .inv .1) (ap (λ (x : ℕ). x + c .before .before .before .before .loop .i) (c .before .before .before .before .before .jacobian-place .ensures)) (c .jacobian-entry .ensures))
+loop-again c = (
+  search needs,
+  part-step _ _ _ _ _ _ _ (c .before .before .before .before .loop .inv .1)
+      (ap (λ (x : ℕ). x + c .before .before .before .before .loop .i) (c .before .before .before .before .before .jacobian-place .ensures))
+      (c .jacobian-entry .ensures),
+)
 
 returns : tie.Need-returns Inv-loop μ-loop
 returns c = let e : c .before .loop .i ≡ c .before .before .before .args .m = omega arith in rw e at (c .before .loop .inv .1)

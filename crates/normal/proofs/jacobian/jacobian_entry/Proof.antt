@@ -13,7 +13,14 @@ clamp-requires : tie.Need-clamp-requires
 clamp-requires c κs = search needs
 
 returns : tie.Need-returns
-returns c = simp (← c .before .before .before .before .abs .ensures, ← c .before .before .is-finite .ensures, c .before .before .before .if1 .taken, c .before .if2 .taken, c .clamp .ensures)
+returns c =
+    simp (
+      ← c .before .before .before .before .abs .ensures,
+      ← c .before .before .is-finite .ensures,
+      c .before .before .before .if1 .taken,
+      c .before .if2 .taken,
+      c .clamp .ensures,
+    )
 
 returns-2 : tie.Need-returns-2
 returns-2 c = simp (← c .before .before .before .abs .ensures, ← c .before .is-finite .ensures, c .before .before .if1 .taken, c .if2 .left)

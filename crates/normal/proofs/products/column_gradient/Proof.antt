@@ -47,8 +47,11 @@ loop-less c = search needs
 loop-again : tie.Need-loop-again Inv-loop μ-loop
 loop-again c =
     let l = c .before .before .before in
-    let s = l .before .before in
-    (search needs, sum-step _ _ _ _ (l .loop .inv .1) (λ n. mul binary64 (column-entry (s .args .jacobian .now) _ (l .loop .k) (s .args .i) (l .before .jacobian-place .ensures) n) (residualAt (s .args .residuals .now) (l .loop .k))))
+    let s = l .before .before in (
+      search needs,
+      sum-step _ _ _ _ (l .loop .inv .1) (λ n. mul binary64 (column-entry (s .args .jacobian .now) _ (l .loop .k) (s .args .i)
+          (l .before .jacobian-place .ensures) n) (residualAt (s .args .residuals .now) (l .loop .k))),
+    )
 
 returns : tie.Need-returns Inv-loop μ-loop
 unfolding gradientOf

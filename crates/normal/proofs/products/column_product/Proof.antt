@@ -53,8 +53,12 @@ loop-less c = search needs
 loop-again : tie.Need-loop-again Inv-loop μ-loop
 loop-again c =
     let l = c .before .before .before in
-    let s = l .before .before .before in
-    (search needs, sum-step _ _ _ _ (l .loop .inv .1) (λ n. mul binary64 (column-entry (s .args .jacobian .now) _ (l .loop .k) (s .args .i) (l .before .before .jacobian-place .ensures) n) (column-entry (s .args .jacobian .now) _ (l .loop .k) (s .args .j) (l .before .jacobian-place2 .ensures) n)))
+    let s = l .before .before .before in (
+      search needs,
+      sum-step _ _ _ _ (l .loop .inv .1) (λ n. mul binary64 (column-entry (s .args .jacobian .now) _ (l .loop .k) (s .args .i)
+          (l .before .before .jacobian-place .ensures) n) (column-entry (s .args .jacobian .now) _ (l .loop .k) (s .args .j)
+          (l .before .jacobian-place2 .ensures) n)),
+    )
 
 returns : tie.Need-returns Inv-loop μ-loop
 unfolding normalProduct

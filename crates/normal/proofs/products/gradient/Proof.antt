@@ -12,7 +12,8 @@ use Rattle.normal.proofs.products.gradient.Statement.{statement}
 use Rattle.normal.proofs.products.gradient.Tie as tie
 
 abbrev Inv-loop : tie.InvT-loop
-Inv-loop scratch₀ jacobian residuals m p i₀ scratch i = (i ≤ p) × (length scratch ≡ length scratch₀) × (scratch ≡ withGradient m (jacobianAt jacobian) (residualAt residuals) i scratch₀)
+Inv-loop scratch₀ jacobian residuals m p i₀ scratch i =
+    (i ≤ p) × (length scratch ≡ length scratch₀) × (scratch ≡ withGradient m (jacobianAt jacobian) (residualAt residuals) i scratch₀)
 
 abbrev μ-loop : tie.MeasureT-loop
 μ-loop scratch₀ jacobian residuals m p i₀ scratch i = p - i

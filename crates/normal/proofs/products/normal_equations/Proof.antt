@@ -24,8 +24,10 @@ returns c =
     let g = c .before .before .before .before in
     let q = g .before .before .before .before in
     let x = q .before .before .before .args in
-    equations (x .m) (x .p) (jacobianAt (x .jacobian .now)) (residualAt (x .residuals .now)) (x .scratch .now) (g .gradient .last .0) _ (search needs) (search needs)
-    (g .gradient .ensures ∙ ap (withGradient (x .m) (jacobianAt (x .jacobian .now)) (residualAt (x .residuals .now)) (x .p)) (q .product .ensures)) (c .gradient-norm .ensures)
+    equations (x .m) (x .p) (jacobianAt (x .jacobian .now)) (residualAt (x .residuals .now)) (x .scratch .now) (g .gradient .last .0) _ (search needs)
+    (search needs)
+    (g .gradient .ensures ∙ ap (withGradient (x .m) (jacobianAt (x .jacobian .now)) (residualAt (x .residuals .now)) (x .p)) (q .product .ensures))
+    (c .gradient-norm .ensures)
 
 pub normal-equations-spec : {M : Type 1} → statement M
 normal-equations-spec =

@@ -40,7 +40,8 @@ returns : tie.Need-returns Inv-loop μ-loop
 returns c =
     let l = c .before .before .before .before in
     let x = l .before .before .args in
-    ap solvedIf (sym (not-all (λ (n : ℕ). finiteOf (getD (x .scratch .now) (stepAt + n) nan)) (x .p) (l .loop .k) (omega arith) (sym (c .before .is-finite .ensures) ∙ not-true _ (c .if1 .taken))))
+    ap solvedIf (sym (not-all (λ (n : ℕ). finiteOf (getD (x .scratch .now) (stepAt + n) nan)) (x .p) (l .loop .k) (omega arith)
+    (sym (c .before .is-finite .ensures) ∙ not-true _ (c .if1 .taken))))
 
 add-k : tie.Need-add-k Inv-loop μ-loop
 add-k c = search needs
@@ -51,8 +52,11 @@ loop-less c = search needs
 loop-again : tie.Need-loop-again Inv-loop μ-loop
 loop-again c =
     let l = c .before .before .before .before in
-    let x = l .before .before .args in
-    (omega arith, all-more (λ (n : ℕ). finiteOf (getD (x .scratch .now) (stepAt + n) nan)) (l .loop .k) (l .loop .inv .1) (sym (c .before .is-finite .ensures) ∙ not-false _ (c .if1 .left)))
+    let x = l .before .before .args in (
+      omega arith,
+      all-more (λ (n : ℕ). finiteOf (getD (x .scratch .now) (stepAt + n) nan)) (l .loop .k) (l .loop .inv .1)
+          (sym (c .before .is-finite .ensures) ∙ not-false _ (c .if1 .left)),
+    )
 
 returns-2 : tie.Need-returns-2 Inv-loop μ-loop
 returns-2 c =

@@ -27,7 +27,8 @@ returns c =
     let s = e .before .before .before .before in
     let x = s .before .before .before .args in
     let no : e .solve .result ≡ No = cc in
-    attempt-none (x .p) (x .damping .value) (x .scratch .now) (s .system .last .0) (e .solve .last .0) (search needs) (search needs) (s .system .ensures) (rw no at (e .solve .ensures))
+    attempt-none (x .p) (x .damping .value) (x .scratch .now) (s .system .last .0) (e .solve .last .0) (search needs) (search needs) (s .system .ensures)
+    (rw no at (e .solve .ensures))
 
 all-finite-requires : tie.Need-all-finite-requires
 all-finite-requires c κs = search needs
@@ -41,7 +42,8 @@ returns-2 c =
     let s = e .before .before .before .before in
     let x = s .before .before .before .args in
     let yes : e .solve .result ≡ Yes = cc in
-    attempt-some (x .p) (x .damping .value) (x .scratch .now) (s .system .last .0) (e .solve .last .0) (search needs) (search needs) (s .system .ensures) (c .all-finite .result) (rw yes at (e .solve .ensures)) (c .all-finite .ensures)
+    attempt-some (x .p) (x .damping .value) (x .scratch .now) (s .system .last .0) (e .solve .last .0) (search needs) (search needs) (s .system .ensures)
+    (c .all-finite .result) (rw yes at (e .solve .ensures)) (c .all-finite .ensures)
 
 pub attempt-step-spec : {M : Type 1} → statement M
 attempt-step-spec =

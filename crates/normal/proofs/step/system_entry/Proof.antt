@@ -43,14 +43,17 @@ damped-diagonal-requires c κs = search needs
 returns-2 : tie.Need-returns-2
 returns-2 c =
     let x = c .before .before .before .before .before .before .args in
-    c .damped-diagonal .ensures ∙ ap (λ (n : ℕ). dampedDiagonal (x .damping) (getD (x .scratch .now) (productAt + n) nan)) (c .before .before .before .place .ensures .0)
-    ∙ diagonal-entry (x .p) (x .damping) (productIn (x .scratch .now)) (gradientIn (x .scratch .now)) (x .i) (x .j) (c .before .before .before .before .if1 .left) (c .before .if2 .taken)
+    c .damped-diagonal .ensures ∙ ap (λ (n : ℕ). dampedDiagonal (x .damping) (getD (x .scratch .now) (productAt + n) nan))
+    (c .before .before .before .place .ensures .0)
+    ∙ diagonal-entry (x .p) (x .damping) (productIn (x .scratch .now)) (gradientIn (x .scratch .now)) (x .i) (x .j)
+    (c .before .before .before .before .if1 .left) (c .before .if2 .taken)
 
 returns-3 : tie.Need-returns-3
 returns-3 c =
     let x = c .before .before .before .before .before .args in
     ap (λ (n : ℕ). getD (x .scratch .now) (productAt + n) nan) (c .before .before .place .ensures .0)
-    ∙ other-entry (x .p) (x .damping) (productIn (x .scratch .now)) (gradientIn (x .scratch .now)) (x .i) (x .j) (c .before .before .before .if1 .left) (c .if2 .left)
+    ∙ other-entry (x .p) (x .damping) (productIn (x .scratch .now)) (gradientIn (x .scratch .now)) (x .i) (x .j) (c .before .before .before .if1 .left)
+    (c .if2 .left)
 
 pub system-entry-spec : {M : Type 1} → statement M
 system-entry-spec =

@@ -15,7 +15,9 @@ use Rattle.normal.proofs.step.system_row.Statement.{statement}
 use Rattle.normal.proofs.step.system_row.Tie as tie
 
 abbrev Inv-loop : tie.InvT-loop
-Inv-loop scratch₀ p damping i first j₀ scratch j = (j ≤ p + 1) × (length scratch ≡ length scratch₀) × (scratch ≡ sets scratch₀ (systemPlace i 0) (tab (dampedSystem p damping (productIn scratch₀) (gradientIn scratch₀) i) j))
+Inv-loop scratch₀ p damping i first j₀ scratch j =
+    (j ≤ p + 1) × (length scratch ≡ length scratch₀) × (scratch
+    ≡ sets scratch₀ (systemPlace i 0) (tab (dampedSystem p damping (productIn scratch₀) (gradientIn scratch₀) i) j))
 
 abbrev μ-loop : tie.MeasureT-loop
 μ-loop scratch₀ p damping i first j₀ scratch j = p + 1 - j
@@ -48,8 +50,12 @@ loop-less c = search needs
 loop-again : tie.Need-loop-again Inv-loop μ-loop
 loop-again c =
     let l = c .before .before .before in
-    let x = l .before .before .before .args in
-    (search needs, simp length-set (omega arith), row-turn (x .scratch .now) (l .loop .scratch) (x .p) (x .i) (l .loop .j) _ (x .damping) _ (search needs) (omega arith) (search needs) (l .before .system-place .ensures) (l .loop .inv .2) (c .system-entry .ensures))
+    let x = l .before .before .before .args in (
+      search needs,
+      simp length-set (omega arith),
+      row-turn (x .scratch .now) (l .loop .scratch) (x .p) (x .i) (l .loop .j) _ (x .damping) _ (search needs)
+          (omega arith) (search needs) (l .before .system-place .ensures) (l .loop .inv .2) (c .system-entry .ensures),
+    )
 
 same-length : tie.Need-same-length Inv-loop μ-loop
 same-length c = search needs

@@ -26,7 +26,8 @@ row-taken-requires c κs = search needs
 returns : tie.Need-returns Inv-loop μ-loop
 returns c =
     let a = c .before .before .before .before .before .args in
-    sym (not-all (rowTaken (a .indices .now) (a .slots)) _ (c .before .before .before .loop .i) (omega arith) (sym (c .before .row-taken .ensures) ∙ not-true _ (c .if1 .taken)))
+    sym (not-all (rowTaken (a .indices .now) (a .slots)) _ (c .before .before .before .loop .i) (omega arith)
+    (sym (c .before .row-taken .ensures) ∙ not-true _ (c .if1 .taken)))
 
 add-i : tie.Need-add-i Inv-loop μ-loop
 add-i c = search needs
@@ -36,8 +37,11 @@ loop-less c = search needs
 
 loop-again : tie.Need-loop-again Inv-loop μ-loop
 loop-again c =
-    let a = c .before .before .before .before .before .args in
-    (search needs, all-more (rowTaken (a .indices .now) (a .slots)) _ (c .before .before .before .loop .inv .1) (sym (c .before .row-taken .ensures) ∙ not-false _ (c .if1 .left)))
+    let a = c .before .before .before .before .before .args in (
+      search needs,
+      all-more (rowTaken (a .indices .now) (a .slots)) _ (c .before .before .before .loop .inv .1)
+          (sym (c .before .row-taken .ensures) ∙ not-false _ (c .if1 .left)),
+    )
 
 returns-2 : tie.Need-returns-2 Inv-loop μ-loop
 returns-2 c =

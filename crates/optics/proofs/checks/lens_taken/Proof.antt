@@ -35,7 +35,9 @@ indices-taken-requires c κs =
 returns-3 : tie.Need-returns-3
 unfolding lensTaken
 returns-3 c =
-    let pupil = sym (c .before .before .before .before .before .before .before .above-zero-up-to .ensures) ∙ not-false _ (c .before .before .before .before .before .before .if1 .left) in
+    let pupil =
+    sym (c .before .before .before .before .before .before .before .above-zero-up-to .ensures)
+    ∙ not-false _ (c .before .before .before .before .before .before .if1 .left) in
     let surfaces = sym (c .before .before .before .before .surfaces-taken .ensures) ∙ not-false _ (c .before .before .before .if2 .left) in
     c .indices-taken .ensures ∙ simp (pupil, surfaces)
 

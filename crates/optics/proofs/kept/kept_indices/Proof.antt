@@ -44,8 +44,10 @@ loop-again c =
     let x = c .before .before .before .before .args in
     let used = indexUsed (x .count) (x .slots) in
     ⊎-elim
-    (λ w. clear-more used zero64 nan (x .indices) (c .before .before .before .loop .inv) _ (w .1) (search needs) (sym (c .before .index-used .ensures) ∙ not-true _ (w .0 .taken)))
-    (λ w. clear-past used zero64 nan (x .indices) (c .before .before .before .loop .inv) _ (w .1) (sym (c .before .index-used .ensures) ∙ not-false _ (w .0 .left)))
+    (λ w. clear-more used zero64 nan (x .indices) (c .before .before .before .loop .inv) _ (w .1) (search needs)
+    (sym (c .before .index-used .ensures) ∙ not-true _ (w .0 .taken)))
+    (λ w. clear-past used zero64 nan (x .indices) (c .before .before .before .loop .inv) _ (w .1)
+    (sym (c .before .index-used .ensures) ∙ not-false _ (w .0 .left)))
     (c .if1 .came)
 
 returns : tie.Need-returns Inv-loop μ-loop

@@ -35,8 +35,12 @@ loop-less c = search needs
 
 loop-again : tie.Need-loop-again Inv-loop μ-loop
 loop-again c =
-    let x = c .before .before .before .args in
-    (search needs, clear-more (below (x .count)) zeroSurface noSurface (x .surfaces) (c .before .before .loop .inv .1) _ (ap (set (c .before .before .loop .kept) (c .before .before .loop .i)) (c .zero-surface .ensures)) (search needs) (le-ltb _ _ (c .before .before .loop .inv .0)))
+    let x = c .before .before .before .args in (
+      search needs,
+      clear-more (below (x .count)) zeroSurface noSurface (x .surfaces) (c .before .before .loop .inv .1) _
+          (ap (set (c .before .before .loop .kept) (c .before .before .loop .i)) (c .zero-surface .ensures)) (search needs)
+          (le-ltb _ _ (c .before .before .loop .inv .0)),
+    )
 
 returns : tie.Need-returns Inv-loop μ-loop
 returns c =

@@ -75,8 +75,13 @@ shared-slice-read-result c = search needs
 
 returns-3 : tie.Need-returns-3
 returns-3 c =
-    let index = sym (c .before .before .before .before .before .before .is-negligible .ensures) ∙ not-false _ (c .before .before .before .before .before .if1 .left) in
-    simp (index, sym (rw (c .before .before .before .curvature-of .ensures) at (c .before .before .is-negligible2 .ensures)) ∙ not-false _ (c .before .if2 .left))
+    let index =
+    sym (c .before .before .before .before .before .before .is-negligible .ensures) ∙ not-false _ (c .before .before .before .before .before .if1 .left) in
+    simp (
+      index,
+      sym (rw (c .before .before .before .curvature-of .ensures) at (c .before .before .is-negligible2 .ensures))
+          ∙ not-false _ (c .before .if2 .left),
+    )
 
 pub ends-in-detector-spec : {M : Type 1} → statement M
 ends-in-detector-spec =

@@ -58,10 +58,13 @@ loop-again c =
     let a = c .before .before .before .before .before .before .before .before .args in
     let l = c .before .before .before .loop in
     let last = c .before .before .before .before in
-    let slot = traced (flatSurface (a .flat .now)) (slotIndex (a .indices .now)) (a .pupil) (a .count) _ (last .before .if1 .left) (last .last-rays .ensures) (l .w) (omega arith) _ (c .slot-properties .ensures) in (
+    let slot =
+    traced (flatSurface (a .flat .now)) (slotIndex (a .indices .now)) (a .pupil) (a .count) _ (last .before .if1 .left) (last .last-rays .ensures) (l .w)
+    (omega arith) _ (c .slot-properties .ensures) in (
       search needs,
       search needs,
-      tab-step (λ (w : ℕ). paraxialOf (flatSurface (a .flat .now)) (slotIndex (a .indices .now) w) (a .pupil) (a .count)) _ (l .slots) (l .w) _ Failed (l .inv .2) slot (omega arith),
+      tab-step (λ (w : ℕ). paraxialOf (flatSurface (a .flat .now)) (slotIndex (a .indices .now) w) (a .pupil) (a .count)) _ (l .slots) (l .w) _ Failed
+          (l .inv .2) slot (omega arith),
     )
 
 returns-2 : tie.Need-returns-2 Inv-loop μ-loop

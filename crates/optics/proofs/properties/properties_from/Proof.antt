@@ -18,7 +18,8 @@ abs-requires : tie.Need-abs-requires
 abs-requires c κs = search needs
 
 returns-2 : tie.Need-returns-2
-returns-2 c = simp (sym (c .before .before .before .before .is-negligible .ensures) ∙ c .before .before .before .if1 .left, c .before .focus-of .ensures, c .abs .ensures)
+returns-2 c =
+    simp (sym (c .before .before .before .before .is-negligible .ensures) ∙ c .before .before .before .if1 .left, c .before .focus-of .ensures, c .abs .ensures)
 
 pub properties-from-spec : {M : Type 1} → statement M
 properties-from-spec =

@@ -1,4 +1,6 @@
--- `optics::rays::fill_rays` meets its contract: a walk of its MIR, by hand, with a loop and a call in each turn. The borrow is opened once, before the loop, and closed once, after it. A turn calls `ray_from` with copies of the two shared slices, takes element i out of the row, stores the record that was returned, and puts it back.
+-- `optics::rays::fill_rays` meets its contract: a walk of its MIR, by hand, with a loop and a call in each turn. The borrow is opened once, before the loop,
+-- and closed once, after it. A turn calls `ray_from` with copies of the two shared slices, takes element i out of the row, stores the record that was returned,
+-- and puts it back.
 -- After the logic's own `Denote/Examples/Slices/Fill.antt`. All that the proof knows of `ray_from` is that it meets its contract.
 -- Assumes nothing.
 use mathlib.Core.Path.{_≡_, refl, sym, _∙_, ap, subst}
@@ -28,8 +30,10 @@ use contract.Running.{givenOf, tables, tablesOf}
 use sound.Loop.{loop-rule}
 use sound.WpLaws.{fmOf, WpFn-mono}
 use mir.Syntax.{loop}
-use types.Kit.{Given, Item, ‵, raw, _⊛_, some, later, ⋆, anyQ, atRet, _$_, _∵_, !, qed, by, move, keep, use1, use2, drop, split, join, pick, rewrite, fsplit, fjoin, feqI, suffices, frame, await, done}
-use types.Run.{look, init, store, store-raw, forget, stop, hop, fld, from, load, lit, unit-lit, of-opd, bin, and-then, no-more, assigns, assigns-last, stays, leaves-loop, land, returns, enter, alloc1, alloc0, params1, pass1, pass0, free1, free0, exec}
+use types.Kit.{Given, Item, ‵, raw, _⊛_, some, later, ⋆, anyQ, atRet, _$_, _∵_, !, qed, by, move, keep, use1, use2, drop, split, join, pick, rewrite, fsplit}
+use types.Kit.{fjoin, feqI, suffices, frame, await, done}
+use types.Run.{look, init, store, store-raw, forget, stop, hop, fld, from, load, lit, unit-lit, of-opd, bin, and-then, no-more, assigns, assigns-last, stays}
+use types.Run.{leaves-loop, land, returns, enter, alloc1, alloc0, params1, pass1, pass0, free1, free0, exec}
 use types.Part.{whole, sub, look-in}
 use denote.RattleType.{RattleType, owns}
 use denote.Shadow.{pureI}
@@ -88,17 +92,28 @@ abbrev Arg : Type 0
 Arg = RefT (List ParaxialRay) × (Floats × (Floats × Unit {0}))
 
 abbrev stayed : Stays (f.ended .signature .params) (f.ended .kept)
-stayed = (stay-slice (0 ∷ []) tt (plain (λ _. R)), (stay-none-slice (1 ∷ []) tt (plain (λ _. f64)) yes, (stay-none-slice (2 ∷ []) tt (plain (λ _. f64)) yes, tt)))
+stayed = (
+  stay-slice (0 ∷ []) tt (plain (λ _. R)),
+  (
+    stay-none-slice (1 ∷ []) tt (plain (λ _. f64)) yes,
+    (stay-none-slice (2 ∷ []) tt (plain (λ _. f64)) yes, tt),
+  ),
+)
 
 -- ---- the contract that the proof cites
 module _ {M : Type 1} (𝓤 : URA M) (H : Heap 𝓤) (A : Atoms 𝓤) (at-mem : Memory → SProp 𝓤) (run : Routine → Fun 𝓤) where
   abbrev RayFrom : Contract 𝓤
   RayFrom = tripleOf 𝓤 H A ray-from.signature (ray-from.spec 𝓤 H A at-mem run)
 
-  made-of : (κ₁ κ₂ : Lft) (sy su : Floats) (i : ℕ) (r : ParaxialRay) → ent 𝓤 (ensured 𝓤 H A ray-from.ended (ray-from.clauses 𝓤 H A at-mem run) (κ₁, (κ₂, tt)) (sy, (su, (i, tt))) tt r) (fact 𝓤 (r ≡ rayOf (getD (sy .now) i nan) (getD (su .now) i nan)))
-  made-of κ₁ κ₂ sy su i r = exE 𝓤 _ (λ ws. snd∗ 𝓤 (sem 𝓤 H A (lasts ray-from.ended (κ₁, (κ₂, tt)) (sy, (su, (i, tt))) ws)) (fact 𝓤 (r ≡ rayOf (getD (sy .now) i nan) (getD (su .now) i nan))))
+  made-of : (κ₁ κ₂ : Lft) (sy su : Floats) (i : ℕ) (r : ParaxialRay)
+      → ent 𝓤 (ensured 𝓤 H A ray-from.ended (ray-from.clauses 𝓤 H A at-mem run) (κ₁, (κ₂, tt)) (sy, (su, (i, tt))) tt r)
+      (fact 𝓤 (r ≡ rayOf (getD (sy .now) i nan) (getD (su .now) i nan)))
+  made-of κ₁ κ₂ sy su i r =
+      exE 𝓤 _ (λ ws. snd∗ 𝓤 (sem 𝓤 H A (lasts ray-from.ended (κ₁, (κ₂, tt)) (sy, (su, (i, tt))) ws))
+      (fact 𝓤 (r ≡ rayOf (getD (sy .now) i nan) (getD (su .now) i nan))))
 
-module _ {M : Type 1} (𝓤 : URA M) (H : Heap 𝓤) (A : Atoms 𝓤) (W : Given 𝓤 H A) (at-mem : Memory → SProp 𝓤) (run : Routine → Fun 𝓤) (κ κ₁ κ₂ : Lft) (q q₁ q₂ : Share) (b o : ℕ) (γ : GName) (xs : List ParaxialRay) (sy su : Floats) where
+module _ {M : Type 1} (𝓤 : URA M) (H : Heap 𝓤) (A : Atoms 𝓤) (W : Given 𝓤 H A) (at-mem : Memory → SProp 𝓤) (run : Routine → Fun 𝓤) (κ κ₁ κ₂ : Lft)
+    (q q₁ q₂ : Share) (b o : ℕ) (γ : GName) (xs : List ParaxialRay) (sy su : Floats) where
   abbrev n : ℕ
   n = length xs
 
@@ -142,28 +157,37 @@ module _ {M : Type 1} (𝓤 : URA M) (H : Heap 𝓤) (A : Atoms 𝓤) (W : Given
   abbrev Post : Val → SProp 𝓤
   Post = walkOf 𝓤 H A f.ended stayed (f.clauses 𝓤 H A at-mem run) .post ((κs, qs, tt, x, at), tt)
 
-  exits : Room R n → ent 𝓤 (⋆ 𝓤 H A (‵ (fobs γ (codedHoleys R .code (heres R (zs n)))) ∷ ‵ (fbor κ (Held R (length (zs n)) b o γ)) ∷ ‵ (flft κ q) ∷ tok ∷ ‵ Owns2 ∷ [])) (Post vunit)
+  exits : Room R n → ent 𝓤 (⋆ 𝓤 H A (‵ (fobs γ (codedHoleys R .code (heres R (zs n)))) ∷ ‵ (fbor κ (Held R (length (zs n)) b o γ)) ∷ ‵ (flft κ q) ∷ tok ∷ ‵
+      Owns2 ∷ [])) (Post vunit)
   exits gn =
       qed W (‵ (fobs γ (codedHoleys R .code (heres R (zs n)))) ∷ ‵ (fbor κ (Held R (length (zs n)) b o γ)) ∷ ‵ (flft κ q) ∷ tok ∷ ‵ Owns2 ∷ []) ∵
-      suffices ! _ (ends-at 𝓤 H A f.ended stayed (f.clauses 𝓤 H A at-mem run) W ((κs, qs, tt, x, at), tt) vunit tt (zs n, (tt, (tt, tt))) (filled-long xs ys us n, (tt, (tt, tt)))) $ says ! (filled-all xs ys us) $
-      move ! (2 ∷ 3 ∷ []) $ join ! $ frame ! $ fjoin ! $ pureI ! (at-slice R (at-list (zs n)) (at .0)) (tt, (tt, tt)) (ap (λ (m : ℕ). sliceVal (b, o) m ∷ []) (sym (filled-long xs ys us n)), subst (Room R) (sym (filled-long xs ys us n)) gn) $ fjoin ! $
+      suffices ! _ (ends-at 𝓤 H A f.ended stayed (f.clauses 𝓤 H A at-mem run) W ((κs, qs, tt, x, at), tt) vunit tt (
+        zs n,
+        (tt, (tt, tt)),
+      ) (filled-long xs ys us n, (tt, (tt, tt)))) $ says ! (filled-all xs ys us) $
+      move ! (2 ∷ 3 ∷ []) $ join ! $ frame ! $ fjoin ! $ pureI ! (at-slice R (at-list (zs n)) (at .0)) (tt, (tt, tt))
+      (ap (λ (m : ℕ). sliceVal (b, o) m ∷ []) (sym (filled-long xs ys us n)), subst (Room R) (sym (filled-long xs ys us n)) gn) $ fjoin ! $
       fjoin ! $ frame ! $ feqI ! (List Val) (vunit ∷ []) (vunit ∷ []) refl $ done !
 
   -- what `ray_from`'s triple binds outside, and what it asks: a copy of each slice, beside the tokens
   abbrev to-ray : ℕ → RayFrom 𝓤 H A at-mem run .Ghost
   to-ray i = (((κ₁, (κ₂, tt)), (q₁, (q₂, tt)), tt, (sy, (su, (i, tt))), (slice-vals sy, (slice-vals su, (vint w64 i ∷ [], tt)))), tt)
 
-  asked : (i : ℕ) → (i < length ys) × (i < length us) → ent 𝓤 (⋆ 𝓤 H A (tok ∷ ‵ (fsep Oy (fsep Ou (fsep (usize .own i (vint w64 i ∷ [])) ftrue))) ∷ [])) (RayFrom 𝓤 H A at-mem run .pre (to-ray i))
+  asked : (i : ℕ) → (i < length ys) × (i < length us) → ent 𝓤 (⋆ 𝓤 H A (tok ∷ ‵ (fsep Oy (fsep Ou (fsep (usize .own i (vint w64 i ∷ [])) ftrue))) ∷ []))
+      (RayFrom 𝓤 H A at-mem run .pre (to-ray i))
   asked i l = qed W (tok ∷ ‵ (fsep Oy (fsep Ou (fsep (usize .own i (vint w64 i ∷ [])) ftrue))) ∷ []) ∵ says ! l $ done !
 
-  goes-ray : (i : ℕ) → i < 2 ^ 64 → (i < length ys) × (i < length us) → ent 𝓤 (⋆ 𝓤 H A (tok ∷ ‵ Owns2 ∷ [])) (sep 𝓤 (RayFrom 𝓤 H A at-mem run .pre (to-ray i)) (sem 𝓤 H A Owns2))
-  goes-ray i gi l = qed W (tok ∷ ‵ Owns2 ∷ []) ∵ move ! (1 ∷ []) $ fsplit ! $ use1 W (‵ Oy ⊛ ‵ Oy) (shr-slice-copy 𝓤 H A W (named 1) κ₁ f64 .twice sy (slice-vals sy)) $ split ! $
+  goes-ray : (i : ℕ) → i < 2 ^ 64 → (i < length ys) × (i < length us)
+      → ent 𝓤 (⋆ 𝓤 H A (tok ∷ ‵ Owns2 ∷ [])) (sep 𝓤 (RayFrom 𝓤 H A at-mem run .pre (to-ray i)) (sem 𝓤 H A Owns2))
+  goes-ray i gi l = qed W (tok ∷ ‵ Owns2 ∷ []) ∵ move ! (1 ∷ []) $ fsplit ! $
+      use1 W (‵ Oy ⊛ ‵ Oy) (shr-slice-copy 𝓤 H A W (named 1) κ₁ f64 .twice sy (slice-vals sy)) $ split ! $
       move ! (2 ∷ []) $ fsplit ! $ use1 W (‵ Ou ⊛ ‵ Ou) (shr-slice-copy 𝓤 H A W (named 2) κ₂ f64 .twice su (slice-vals su)) $ split ! $
       nothing ! $ owned ! usize (Is usize) (uint-makes 𝓤 H A W w64) i _ (refl, gi) $ fjoin ! $ move ! (1 ∷ 0 ∷ []) $ fjoin ! $ move ! (3 ∷ 0 ∷ []) $ fjoin ! $
       -- [what the callee takes; Ou; true; Oy; the tokens]
       move ! (4 ∷ 0 ∷ []) $ use2 W (raw (RayFrom 𝓤 H A at-mem run .pre (to-ray i))) (asked i l) $ frame ! $ fjoin ! $ move ! (1 ∷ 0 ∷ []) $ fjoin ! $ done !
 
-  module _ (𝓣 : Tables 𝓤 H) (known : Triple 𝓤 (𝓣 .C #optics·ray-from) (RayFrom 𝓤 H A at-mem run)) (g : Room R n) (fewy : n ≤ length ys) (fewu : n ≤ length us) (l₀ l₁ l₂ l₃ l₄ l₅ l₆ l₇ l₈ : ℕ) where
+  module _ (𝓣 : Tables 𝓤 H) (known : Triple 𝓤 (𝓣 .C #optics·ray-from) (RayFrom 𝓤 H A at-mem run)) (g : Room R n) (fewy : n ≤ length ys) (fewu : n ≤ length us)
+      (l₀ l₁ l₂ l₃ l₄ l₅ l₆ l₇ l₈ : ℕ) where
     abbrev C : Calls 𝓤 H
     C = 𝓣 .C
 
@@ -187,13 +211,16 @@ module _ {M : Type 1} (𝓤 : URA M) (H : Heap 𝓤) (A : Atoms 𝓤) (W : Given
 
     -- what no turn touches: the parameters' locals, the result's, and the open borrow
     abbrev Frame : List (Item 𝓤)
-    Frame = ‵ (fat fullShare slice l₁ 0 (sliceVal (b, o) n)) ∷ ‵ (fat fullShare ysT l₂ 0 (only (slice-vals sy))) ∷ ‵ (fat fullShare usT l₃ 0 (only (slice-vals su))) ∷ ‵ (froom tyUnit l₀ 0)
+    Frame = ‵ (fat fullShare slice l₁ 0 (sliceVal (b, o) n)) ∷ ‵ (fat fullShare ysT l₂ 0 (only (slice-vals sy))) ∷ ‵
+        (fat fullShare usT l₃ 0 (only (slice-vals su))) ∷ ‵ (froom tyUnit l₀ 0)
         ∷ ‵ (fobor κ q (Held R n b o γ)) ∷ ‵ (fobs γ (codedHoleys R .code (heres R xs))) ∷ ‵ (fauth γ (codedHoleys R .code (heres R xs)))
-        ∷ ‵ (fdies tyUnit l₀) ∷ ‵ (fdies slice l₁) ∷ ‵ (fdies ysT l₂) ∷ ‵ (fdies usT l₃) ∷ ‵ (fdies word l₄) ∷ ‵ (fdies T′.mir l₅) ∷ ‵ (fdies word l₆) ∷ ‵ (fdies tyBool l₇) ∷ ‵ (fdies tyPtr l₈) ∷ []
+        ∷ ‵ (fdies tyUnit l₀) ∷ ‵ (fdies slice l₁) ∷ ‵ (fdies ysT l₂) ∷ ‵ (fdies usT l₃) ∷ ‵ (fdies word l₄) ∷ ‵ (fdies T′.mir l₅) ∷ ‵ (fdies word l₆) ∷ ‵
+        (fdies tyBool l₇) ∷ ‵ (fdies tyPtr l₈) ∷ []
 
     -- i records are written
     abbrev At : ℕ → List (Item 𝓤)
-    At i = tok ∷ ‵ Owns2 ∷ ‵ (row R fullShare (zs i) b o) ∷ ‵ (fat fullShare word l₄ 0 (vint w64 i)) ∷ ‵ (froom T′.mir l₅ 0) ∷ ‵ (froom word l₆ 0) ∷ ‵ (froom tyBool l₇ 0) ∷ ‵ (froom tyPtr l₈ 0) ∷ Frame
+    At i = tok ∷ ‵ Owns2 ∷ ‵ (row R fullShare (zs i) b o) ∷ ‵ (fat fullShare word l₄ 0 (vint w64 i)) ∷ ‵ (froom T′.mir l₅ 0) ∷ ‵ (froom word l₆ 0) ∷ ‵
+        (froom tyBool l₇ 0) ∷ ‵ (froom tyPtr l₈ 0) ∷ Frame
 
     -- the invariant, where t records are left
     abbrev Inv : ℕ → SProp 𝓤
@@ -211,29 +238,42 @@ module _ {M : Type 1} (𝓤 : URA M) (H : Heap 𝓤) (A : Atoms 𝓤) (W : Given
     unfolding afterTurn
     more i X small k =
         qed W (At i) ∵ exec ! C Λ En turn-1 (anyQ (afterTurn 𝓤 H X Left)) $
-        assigns ! (of-opd ! (load ! (from ! (fld ! refl (stop !))) (look-in ! 8 (sub ! 1 refl (whole !))))) (from ! (stop !)) (init ! 5 refl (tt, record { fits = g .0 })) $
+        assigns ! (of-opd ! (load ! (from ! (fld ! refl (stop !))) (look-in ! 8 (sub ! 1 refl (whole !))))) (from ! (stop !))
+        (init ! 5 refl (tt, record { fits = g .0 })) $
         assigns ! (bin ! (load ! (from ! (stop !)) (look ! 3 refl)) (load ! (from ! (stop !)) (look ! 5 refl)) tt) (from ! (stop !)) (init ! 6 refl (tt, tt)) $
         rewrite ! 6 (λ (t : Bool). ‵ (fat fullShare tyBool l₇ 0 (vbool t))) (lt-ltb i n small) refl $
         stays ! (load ! (from ! (stop !)) (look ! 6 refl)) $
         -- the call
-        use2 W (raw (RayFrom 𝓤 H A at-mem run .pre (to-ray i)) ⊛ ‵ Owns2) (goes-ray i i-fits (below i n (length ys) small fewy, below i n (length us) small fewu)) $ split ! $
-        calls-at ! (fmOf 𝓤 H (W .laws) 𝓣) (RayFrom 𝓤 H A at-mem run) known (to-ray i) (and-then ! (load ! (from ! (stop !)) (look ! 9 refl)) (and-then ! (load ! (from ! (stop !)) (look ! 10 refl)) (and-then ! (load ! (from ! (stop !)) (look ! 3 refl)) (no-more !)))) (λ v.
-        use1 W (later (some (λ (r : ParaxialRay). (tok ⊛ ‵ (R .own r (v ∷ []))) ⊛ raw (ensured 𝓤 H A ray-from.ended (ray-from.clauses 𝓤 H A at-mem run) (κ₁, (κ₂, tt)) (sy, (su, (i, tt))) tt r)))) (id⊢ 𝓤 _) $ await ! tt $ pick ! (λ r.
-        split ! $ move ! (1 ∷ []) $ use1 W (raw (fact 𝓤 (r ≡ new xs ys us i))) (made-of 𝓤 H A at-mem run κ₁ κ₂ sy su i r) $ heard ! (r ≡ new xs ys us i) (λ e. split ! $ move ! (1 ∷ []) $
+        use2 W (raw (RayFrom 𝓤 H A at-mem run .pre (to-ray i)) ⊛ ‵ Owns2)
+        (goes-ray i i-fits (below i n (length ys) small fewy, below i n (length us) small fewu)) $ split ! $
+        calls-at ! (fmOf 𝓤 H (W .laws) 𝓣) (RayFrom 𝓤 H A at-mem run) known (to-ray i)
+        (and-then ! (load ! (from ! (stop !)) (look ! 9 refl))
+        (and-then ! (load ! (from ! (stop !)) (look ! 10 refl)) (and-then ! (load ! (from ! (stop !)) (look ! 3 refl)) (no-more !)))) (λ v.
+        use1 W (later (some (λ (r : ParaxialRay). (tok ⊛ ‵ (R .own r (v ∷ [])))
+        ⊛ raw (ensured 𝓤 H A ray-from.ended (ray-from.clauses 𝓤 H A at-mem run) (κ₁, (κ₂, tt)) (sy, (su, (i, tt))) tt r)))) (id⊢ 𝓤 _) $ await ! tt $
+        pick ! (λ r.
+        split ! $ move ! (1 ∷ []) $ use1 W (raw (fact 𝓤 (r ≡ new xs ys us i))) (made-of 𝓤 H A at-mem run κ₁ κ₂ sy su i r) $
+        heard ! (r ≡ new xs ys us i) (λ e. split ! $ move ! (1 ∷ []) $
         peeks ! R (Is R) (shows 𝓤 H A R) r (v ∷ []) (λ is.
         -- [what the record owns; the tokens; what ys and us own; the row; _4; _5; _6; _7; _8; _1; …]
         land ! (from ! (stop !)) (init ! 5 refl (LL.lawful T′′.the-type T′.the-laws 𝓤 H A W .typed r _ is .0)) $
-        assigns ! (bin ! (load ! (from ! (stop !)) (look ! 4 refl)) (lit ! tt) (record { fits = place-fits i n small (g .1) })) (from ! (stop !)) (store ! 6 refl (tt, record { fits = place-fits i n small (g .1) })) $
-        assigns ! (bin ! (load ! (from ! (fld ! refl (stop !))) (look-in ! 9 (sub ! 0 refl (whole !)))) (load ! (from ! (stop !)) (look ! 6 refl)) tt) (from ! (stop !)) (init ! 8 refl (tt, tt)) $
+        assigns ! (bin ! (load ! (from ! (stop !)) (look ! 4 refl)) (lit ! tt) (record { fits = place-fits i n small (g .1) })) (from ! (stop !))
+        (store ! 6 refl (tt, record { fits = place-fits i n small (g .1) })) $
+        assigns ! (bin ! (load ! (from ! (fld ! refl (stop !))) (look-in ! 9 (sub ! 0 refl (whole !)))) (load ! (from ! (stop !)) (look ! 6 refl)) tt)
+        (from ! (stop !)) (init ! 8 refl (tt, tt)) $
         rewrite ! 8 (λ (p : ℕ). ‵ (fat fullShare tyPtr l₈ 0 (vptr b p))) (sym (place-is 16 o i)) refl $
-        move ! (3 ∷ []) $ elem-out ! R (Is R) (shows 𝓤 H A R) (LL.vals T′′.the-type T′.the-laws) (LL.tells T′′.the-type T′.the-laws) fullShare (zs i) i noRay b o within (λ _.
+        move ! (3 ∷ []) $ elem-out ! R (Is R) (shows 𝓤 H A R) (LL.vals T′′.the-type T′.the-laws) (LL.tells T′′.the-type T′.the-laws) fullShare (zs i) i noRay b
+        o within (λ _.
         -- [rays[i]; what it owns; the others; what the record owns; the tokens; what ys and us own; _4; _5; _6; _7; _8; _1; …]
-        assigns ! (of-opd ! (load ! (from ! (stop !)) (look ! 7 refl))) (from ! (hop ! (look ! 10 refl) (stop !))) (store-raw ! 0 refl (LL.lawful T′′.the-type T′.the-laws 𝓤 H A W .typed r _ is .0)) $
+        assigns ! (of-opd ! (load ! (from ! (stop !)) (look ! 7 refl))) (from ! (hop ! (look ! 10 refl) (stop !)))
+        (store-raw ! 0 refl (LL.lawful T′′.the-type T′.the-laws 𝓤 H A W .typed r _ is .0)) $
         move ! (1 ∷ []) $ drop ! $ move ! (0 ∷ 2 ∷ []) $ elem-put ! R fullShare (zs i) i r (v ∷ []) b o within $
         -- [the row; the tokens; what ys and us own; _4; _5; _6; _7; _8; _1; …]
-        assigns-last ! (bin ! (load ! (from ! (stop !)) (look ! 3 refl)) (lit ! tt) (record { fits = next-fits i n small (g .0) })) (from ! (stop !)) (store ! 3 refl (tt, record { fits = next-fits i n small (g .0) })) $
+        assigns-last ! (bin ! (load ! (from ! (stop !)) (look ! 3 refl)) (lit ! tt) (record { fits = next-fits i n small (g .0) })) (from ! (stop !))
+        (store ! 3 refl (tt, record { fits = next-fits i n small (g .0) })) $
         forget ! 4 refl $ forget ! 5 refl $ forget ! 6 refl $ forget ! 7 refl $
-        rewrite ! 3 (λ (j : ℕ). ‵ (fat fullShare word l₄ 0 (vint w64 j))) (add-one i) refl $ rewrite ! 0 (λ (z : ParaxialRay). ‵ (row R fullShare (set (zs i) i z) b o)) e refl $ move ! (1 ∷ 2 ∷ []) $ by ! k)))))
+        rewrite ! 3 (λ (j : ℕ). ‵ (fat fullShare word l₄ 0 (vint w64 j))) (add-one i) refl $
+        rewrite ! 0 (λ (z : ParaxialRay). ‵ (row R fullShare (set (zs i) i z) b o)) e refl $ move ! (1 ∷ 2 ∷ []) $ by ! k)))))
       where
         i-fits : i < 2 ^ 64
         i-fits = omega (arith, g .0)
@@ -246,24 +286,29 @@ module _ {M : Type 1} (𝓤 : URA M) (H : Heap 𝓤) (A : Atoms 𝓤) (W : Given
     unfolding afterTurn
     ends X =
         qed W (At n) ∵ exec ! C Λ En turn-1 (anyQ (afterTurn 𝓤 H X Left)) $
-        assigns ! (of-opd ! (load ! (from ! (fld ! refl (stop !))) (look-in ! 8 (sub ! 1 refl (whole !))))) (from ! (stop !)) (init ! 5 refl (tt, record { fits = g .0 })) $
+        assigns ! (of-opd ! (load ! (from ! (fld ! refl (stop !))) (look-in ! 8 (sub ! 1 refl (whole !))))) (from ! (stop !))
+        (init ! 5 refl (tt, record { fits = g .0 })) $
         assigns ! (bin ! (load ! (from ! (stop !)) (look ! 3 refl)) (load ! (from ! (stop !)) (look ! 5 refl)) tt) (from ! (stop !)) (init ! 6 refl (tt, tt)) $
         rewrite ! 6 (λ (t : Bool). ‵ (fat fullShare tyBool l₇ 0 (vbool t))) (le-ltb n n (le-refl n)) refl $
         leaves-loop ! (load ! (from ! (stop !)) (look ! 6 refl)) $ exec ! C Λ En t-3 (atRet En Post) $
         assigns ! (of-opd ! (unit-lit !)) (from ! (stop !)) (init ! 11 refl (tt, tt)) $
         move ! (2 ∷ 12 ∷ 13 ∷ 14 ∷ []) $ closes-slice ! tt R xs (zs n) (filled-long xs ys us n) b o $
         -- [obs; the borrow; the token; the tokens; what ys and us own; _4; _5; _6; _7; _8; _1; _2; _3; _0; and that each local dies]
-        returns ! (look ! 13 refl) $ forget ! 5 refl $ forget ! 7 refl $ forget ! 8 refl $ forget ! 10 refl $ forget ! 11 refl $ forget ! 12 refl $ forget ! 13 refl $
+        returns ! (look ! 13 refl) $ forget ! 5 refl $ forget ! 7 refl $ forget ! 8 refl $ forget ! 10 refl $ forget ! 11 refl $ forget ! 12 refl $
+        forget ! 13 refl $
         move ! (13 ∷ 14 ∷ []) $ free1 ! $ move ! (10 ∷ 13 ∷ []) $ free1 ! $ move ! (10 ∷ 12 ∷ []) $ free1 ! $ move ! (10 ∷ 11 ∷ []) $ free1 ! $
-        move ! (5 ∷ 10 ∷ []) $ free1 ! $ move ! (5 ∷ 9 ∷ []) $ free1 ! $ move ! (5 ∷ 8 ∷ []) $ free1 ! $ move ! (5 ∷ 7 ∷ []) $ free1 ! $ move ! (5 ∷ 6 ∷ []) $ free1 ! $ free0 ! $
+        move ! (5 ∷ 10 ∷ []) $ free1 ! $ move ! (5 ∷ 9 ∷ []) $ free1 ! $ move ! (5 ∷ 8 ∷ []) $ free1 ! $ move ! (5 ∷ 7 ∷ []) $ free1 ! $ move ! (5 ∷ 6 ∷ []) $
+        free1 ! $ free0 ! $
         keep ! (0 ∷ 1 ∷ 2 ∷ 3 ∷ 4 ∷ []) $ by ! (exits g)
 
     into : (t i : ℕ) → i + t ≡ n → ent 𝓤 (⋆ 𝓤 H A (At i)) (Inv t)
-    into t i e = via 𝓤 (guard 𝓤 (i + t ≡ n) (⋆ 𝓤 H A (At i))) (guardI 𝓤 (i + t ≡ n) (⋆ 𝓤 H A (At i)) e) (exI 𝓤 (λ (j : ℕ). guard 𝓤 (j + t ≡ n) (⋆ 𝓤 H A (At j))) i)
+    into t i e =
+        via 𝓤 (guard 𝓤 (i + t ≡ n) (⋆ 𝓤 H A (At i))) (guardI 𝓤 (i + t ≡ n) (⋆ 𝓤 H A (At i)) e) (exI 𝓤 (λ (j : ℕ). guard 𝓤 (j + t ≡ n) (⋆ 𝓤 H A (At j))) i)
 
     -- a turn from the invariant at t leaves the loop, or ends in the invariant below t
     turn-at : (t i : ℕ) → i + t ≡ n → ent 𝓤 (⋆ 𝓤 H A (At i)) (Wp 𝓤 H C Λ En turn-1 (afterTurn 𝓤 H (Below t) Left))
-    turn-at zero i e = subst (λ (k : ℕ). ent 𝓤 (⋆ 𝓤 H A (At k)) (Wp 𝓤 H C Λ En turn-1 (afterTurn 𝓤 H (Below zero) Left))) (sym e ∙ add-zero i) (ends (Below zero))
+    turn-at zero i e =
+        subst (λ (k : ℕ). ent 𝓤 (⋆ 𝓤 H A (At k)) (Wp 𝓤 H C Λ En turn-1 (afterTurn 𝓤 H (Below zero) Left))) (sym e ∙ add-zero i) (ends (Below zero))
     turn-at (suc t) i e =
         more i (Below (suc t)) (subst (λ (k : ℕ). i < k) e (omega arith))
         (via 𝓤 (Inv t) (into t (suc i) (suc-add i t ∙ sym (add-suc i t) ∙ e))
@@ -276,29 +321,44 @@ module _ {M : Type 1} (𝓤 : URA M) (H : Heap 𝓤) (A : Atoms 𝓤) (W : Given
     loops = via 𝓤 (Inv n) (into n 0 (zero-add n)) (loop-rule 𝓤 H (W .laws) 𝓣 _<_ (Nat·lt-wfRel .wf) En turn-1 Left Inv turns n)
 
   -- the MIR, up to the loop: the borrow is opened once, before it
-  walk : (𝓣 : Tables 𝓤 H) → Triple 𝓤 (𝓣 .C #optics·ray-from) (RayFrom 𝓤 H A at-mem run) → Room R n → Room f64 (length ys) → Room f64 (length us) → (n ≤ length ys) × (n ≤ length us) → ent 𝓤 (onEntry 𝓤 H A f.signature κs qs x at)
+  walk : (𝓣 : Tables 𝓤 H) → Triple 𝓤 (𝓣 .C #optics·ray-from) (RayFrom 𝓤 H A at-mem run) → Room R n → Room f64 (length ys) → Room f64 (length us)
+      → (n ≤ length ys) × (n ≤ length us) → ent 𝓤 (onEntry 𝓤 H A f.signature κs qs x at)
       (WpFn 𝓤 H (𝓣 .C) (𝓣 .Λ) code.function (sliceVal (b, o) n ∷ only (slice-vals sy) ∷ only (slice-vals su) ∷ []) Post)
   walk 𝓣 known g gy gu few =
-      qed W ((‵ (flft κ q) ⊛ tok) ∷ ‵ (owns (MutSlice (named 0) κ R ∷ ShrSlice (named 1) κ₁ f64 ∷ ShrSlice (named 2) κ₂ f64 ∷ []) x at) ∷ []) ∵ enter ! (𝓣 .C) (𝓣 .Λ) code.function (sliceVal (b, o) n ∷ only (slice-vals sy) ∷ only (slice-vals su) ∷ []) _ $
-      alloc1 ! (λ l₀. alloc1 ! (λ l₁. alloc1 ! (λ l₂. alloc1 ! (λ l₃. alloc1 ! (λ l₄. alloc1 ! (λ l₅. alloc1 ! (λ l₆. alloc1 ! (λ l₇. alloc1 ! (λ l₈. alloc0 ! $ params1 ! $
-      pass1 ! (init ! 14 refl (tt, (tt, (record { fits = g .0 }, tt)))) $ pass1 ! (init ! 12 refl (tt, (tt, (record { fits = gy .0 }, tt)))) $ pass1 ! (init ! 10 refl (tt, (tt, (record { fits = gu .0 }, tt)))) $ pass0 ! $
+      qed W ((‵ (flft κ q) ⊛ tok) ∷ ‵ (owns (MutSlice (named 0) κ R ∷ ShrSlice (named 1) κ₁ f64 ∷ ShrSlice (named 2) κ₂ f64 ∷ []) x at) ∷ []) ∵
+      enter ! (𝓣 .C) (𝓣 .Λ) code.function (sliceVal (b, o) n ∷ only (slice-vals sy) ∷ only (slice-vals su) ∷ []) _ $
+      alloc1 ! (λ l₀. alloc1 ! (λ l₁. alloc1 ! (λ l₂. alloc1 ! (λ l₃. alloc1 ! (λ l₄. alloc1 ! (λ l₅. alloc1 ! (λ l₆. alloc1 ! (λ l₇. alloc1 ! (λ l₈. alloc0 ! $
+      params1 ! $
+      pass1 ! (init ! 14 refl (tt, (tt, (record { fits = g .0 }, tt)))) $ pass1 ! (init ! 12 refl (tt, (tt, (record { fits = gy .0 }, tt)))) $
+      pass1 ! (init ! 10 refl (tt, (tt, (record { fits = gu .0 }, tt)))) $ pass0 ! $
       assigns ! (of-opd ! (lit ! tt)) (from ! (stop !)) (init ! 8 refl (tt, record { fits = lit< tt })) $
       move ! (19 ∷ []) $ fsplit ! $ fsplit ! $ move ! (1 ∷ []) $ fsplit ! $ move ! (22 ∷ []) $ split ! $ move ! (2 ∷ 3 ∷ 0 ∷ []) $ opens-slice ! tt R xs b o $
       -- [the row; the open borrow; obs; auth; the tokens; the slice's fact; what ys and us own; _8; …; _0; …]
-      keep ! (4 ∷ 6 ∷ 0 ∷ 15 ∷ 13 ∷ 11 ∷ 9 ∷ 7 ∷ 21 ∷ 19 ∷ 17 ∷ 23 ∷ 1 ∷ 2 ∷ 3 ∷ 24 ∷ 22 ∷ 20 ∷ 18 ∷ 16 ∷ 14 ∷ 12 ∷ 10 ∷ 8 ∷ []) $ by ! (loops 𝓣 known g (few .0) (few .1) l₀ l₁ l₂ l₃ l₄ l₅ l₆ l₇ l₈))))))))))
+      keep ! (4 ∷ 6 ∷ 0 ∷ 15 ∷ 13 ∷ 11 ∷ 9 ∷ 7 ∷ 21 ∷ 19 ∷ 17 ∷ 23 ∷ 1 ∷ 2 ∷ 3 ∷ 24 ∷ 22 ∷ 20 ∷ 18 ∷ 16 ∷ 14 ∷ 12 ∷ 10 ∷ 8 ∷ []) $
+      by ! (loops 𝓣 known g (few .0) (few .1) l₀ l₁ l₂ l₃ l₄ l₅ l₆ l₇ l₈))))))))))
 
-module _ {M : Type 1} (𝓤 : URA M) (H : Heap 𝓤) (A : Atoms 𝓤) (W : Given 𝓤 H A) (at-mem : Memory → SProp 𝓤) (run : Routine → Fun 𝓤) (𝓣 : Tables 𝓤 H) (known : Triple 𝓤 (𝓣 .C #optics·ray-from) (RayFrom 𝓤 H A at-mem run)) where
+module _ {M : Type 1} (𝓤 : URA M) (H : Heap 𝓤) (A : Atoms 𝓤) (W : Given 𝓤 H A) (at-mem : Memory → SProp 𝓤) (run : Routine → Fun 𝓤) (𝓣 : Tables 𝓤 H)
+    (known : Triple 𝓤 (𝓣 .C #optics·ray-from) (RayFrom 𝓤 H A at-mem run)) where
   f-walks : Walks 𝓤 H A f.ended stayed (WpFn 𝓤 H (𝓣 .C) (𝓣 .Λ) code.function) (f.clauses 𝓤 H A at-mem run)
   f-walks = walked 𝓤 H A f.ended stayed (f.clauses 𝓤 H A at-mem run) (WpFn 𝓤 H (𝓣 .C) (𝓣 .Λ) code.function) (λ κs. (slice-vals, (slice-vals, (slice-vals, tt))))
       (λ κs. (mut-slice-tells (named 0) (κs .0) R, (shr-slice-tells (named 1) (κs .1 .0) f64, (shr-slice-tells (named 2) (κs .1 .1 .0) f64, tt))))
       (λ κs qs bounds a g are. needs 𝓤 ((length (a .0 .now) ≤ length (a .1 .0 .now)) × (length (a .0 .now) ≤ length (a .1 .1 .0 .now))) _ (λ few.
-      walk 𝓤 H A W at-mem run (κs .0) (κs .1 .0) (κs .1 .1 .0) (qs .0) (qs .1 .0) (qs .1 .1 .0) (a .0 .ptr .0) (a .0 .ptr .1) (a .0 .name) (a .0 .now) (a .1 .0) (a .1 .1 .0) 𝓣 known (are .0 .0 .1) (are .1 .0 .0 .1) (are .1 .1 .0 .0 .1) few))
+      walk 𝓤 H A W at-mem run (κs .0) (κs .1 .0) (κs .1 .1 .0) (qs .0) (qs .1 .0) (qs .1 .1 .0) (a .0 .ptr .0) (a .0 .ptr .1) (a .0 .name) (a .0 .now) (a .1 .0)
+      (a .1 .1 .0) 𝓣 known (are .0 .0 .1) (are .1 .0 .0 .1) (are .1 .1 .0 .0 .1) few))
 
   goes : AllGo 𝓤 H A W 3 (f.signature .params) (f.ended .kept) stayed
-  goes = (goes-slice 𝓤 H A W 3 0 tt (plain (λ _. R)), (goes-none-slice 𝓤 H A W 3 (1 ∷ []) tt (plain (λ _. f64)) yes, (goes-none-slice 𝓤 H A W 3 (2 ∷ []) tt (plain (λ _. f64)) yes, tt)))
+  goes = (
+    goes-slice 𝓤 H A W 3 0 tt (plain (λ _. R)),
+    (
+      goes-none-slice 𝓤 H A W 3 (1 ∷ []) tt (plain (λ _. f64)) yes,
+      (goes-none-slice 𝓤 H A W 3 (2 ∷ []) tt (plain (λ _. f64)) yes, tt),
+    ),
+  )
 
   f-meets : Meets 𝓤 H A f.signature (WpFn 𝓤 H (𝓣 .C) (𝓣 .Λ) code.function) (f.spec 𝓤 H A at-mem run)
-  f-meets = walk-meets 𝓤 H A f.ended stayed W goes (f.clauses 𝓤 H A at-mem run) (WpFn 𝓤 H (𝓣 .C) (𝓣 .Λ) code.function) (WpFn-mono 𝓤 H (W .laws) 𝓣 code.function) f-walks
+  f-meets =
+      walk-meets 𝓤 H A f.ended stayed W goes (f.clauses 𝓤 H A at-mem run) (WpFn 𝓤 H (𝓣 .C) (𝓣 .Λ) code.function) (WpFn-mono 𝓤 H (W .laws) 𝓣 code.function)
+      f-walks
 
 pub fill-rays-spec : {M : Type 1} → stated.statement M
 unfolding code.routine tablesOf
@@ -306,4 +366,5 @@ fill-rays-spec 𝓤 H 𝓜 𝓖 𝓡 =
     entered 𝓤 H (tripleOf 𝓤 H (𝓖 .A) f.signature (f.spec 𝓤 H (𝓖 .A) (𝓜 .mem) (𝓡 .run)))
     (tables 𝓤 H 𝓜 𝓡 code.env .C) (tables 𝓤 H 𝓜 𝓡 code.env .Λ) #optics·fill-rays code.function (code.unfolded 𝓤 H 𝓜 𝓡)
     (f-meets 𝓤 H (𝓖 .A) (givenOf 𝓤 H 𝓜 𝓖) (𝓜 .mem) (𝓡 .run) (tablesOf 𝓤 H 𝓜 (tables 𝓤 H 𝓜 𝓡 code.env))
-    (cited 𝓤 H (RayFrom 𝓤 H (𝓖 .A) (𝓜 .mem) (𝓡 .run)) 𝓜 𝓡 code.env #optics·ray-from ray-from-def.routine code.calls-optics·rays·ray-from (ray-from-thm.met 𝓤 H 𝓜 𝓖 𝓡)))
+    (cited 𝓤 H (RayFrom 𝓤 H (𝓖 .A) (𝓜 .mem) (𝓡 .run)) 𝓜 𝓡 code.env #optics·ray-from ray-from-def.routine code.calls-optics·rays·ray-from
+    (ray-from-thm.met 𝓤 H 𝓜 𝓖 𝓡)))

@@ -35,8 +35,11 @@ loop-less c = search needs
 
 loop-again : tie.Need-loop-again Inv-loop μ-loop
 loop-again c =
-    let a = c .before .before .before .before .before .before .args in
-    (search needs, arriving-next (flatSurface (a .flat .now)) (slotIndex (a .indices .now)) (a .pupil) _ _ _ (c .before .before .loop .inv .1) (c .next-rays .ensures))
+    let a = c .before .before .before .before .before .before .args in (
+      search needs,
+      arriving-next (flatSurface (a .flat .now)) (slotIndex (a .indices .now)) (a .pupil) _ _ _ (c .before .before .loop .inv .1)
+          (c .next-rays .ensures),
+    )
 
 returns : tie.Need-returns Inv-loop μ-loop
 returns c =

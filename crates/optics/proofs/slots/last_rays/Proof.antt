@@ -77,10 +77,13 @@ loop-again c =
     let a = start .args in
     let l = c .before .before .before .before .before .loop in
     let second = c .before .before .before .before .before .before .before in
-    let rays = last-are (flatSurface (a .flat .now)) (slotIndex (a .indices .now)) (a .pupil) (a .count) _ _ _ (start .pre .0) (second .before .arriving-rays .ensures) (second .next-rays .ensures) (c .before .before .before .before .before .before .next-rays2 .ensures) (l .w) (omega arith) in (
+    let rays =
+    last-are (flatSurface (a .flat .now)) (slotIndex (a .indices .now)) (a .pupil) (a .count) _ _ _ (start .pre .0) (second .before .arriving-rays .ensures)
+    (second .next-rays .ensures) (c .before .before .before .before .before .before .next-rays2 .ensures) (l .w) (omega arith) in (
       search needs,
       search needs,
-      tab-step (λ (w : ℕ). lastRays (flatSurface (a .flat .now)) (slotIndex (a .indices .now) w) (a .pupil) (a .count)) _ (l .last) (l .w) _ noLast (l .inv .2) (c .rays-between .ensures ∙ rays) (omega arith),
+      tab-step (λ (w : ℕ). lastRays (flatSurface (a .flat .now)) (slotIndex (a .indices .now) w) (a .pupil) (a .count)) _ (l .last) (l .w) _ noLast (l .inv .2)
+          (c .rays-between .ensures ∙ rays) (omega arith),
     )
 
 returns : tie.Need-returns Inv-loop μ-loop

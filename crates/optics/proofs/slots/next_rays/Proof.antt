@@ -1,4 +1,5 @@
--- `optics::slots::next_rays` meets its contract. The loop's invariant: the rays of the slots passed are those behind the surface, and the others are as they came. Assumes nothing.
+-- `optics::slots::next_rays` meets its contract. The loop's invariant: the rays of the slots passed are those behind the surface, and the others are as they
+-- came. Assumes nothing.
 use mathlib.Core.Path.{_≡_}
 use mathlib.Core.List.{_++_}
 use Prim.Native.Nat.{ℕ, _≤_, _-_}
@@ -85,14 +86,17 @@ loop-again c =
     let l = c .before .before .before .before .loop in (
       search needs,
       search needs,
-      tab-step (λ (w : ℕ). onward (flatSurface (a .flat .now) (a .k)) (slotIndex (a .indices .now) w (a .k)) (getD (a .t1) w noArriving)) (a .t1) (l .next) (l .w) _ noArriving (l .inv .2) (rw (c .before .before .before .before .before .before .curvature-of .ensures) at (c .ray-behind .ensures)) (omega arith),
+      tab-step (λ (w : ℕ). onward (flatSurface (a .flat .now) (a .k)) (slotIndex (a .indices .now) w (a .k)) (getD (a .t1) w noArriving)) (a .t1) (l .next)
+          (l .w) _ noArriving (l .inv .2) (rw (c .before .before .before .before .before .before .curvature-of .ensures) at (c .ray-behind .ensures))
+          (omega arith),
     )
 
 returns : tie.Need-returns Inv-loop μ-loop
 returns c =
     let l = c .before .loop in
     let a = c .before .before .before .before .before .before .before .args in
-    tab-full (λ (w : ℕ). onward (flatSurface (a .flat .now) (a .k)) (slotIndex (a .indices .now) w (a .k)) (getD (a .t1) w noArriving)) (a .t1) (l .next) (l .w) 4 (l .inv .2) (search needs) (l .inv .0) (c .loop-test .left)
+    tab-full (λ (w : ℕ). onward (flatSurface (a .flat .now) (a .k)) (slotIndex (a .indices .now) w (a .k)) (getD (a .t1) w noArriving)) (a .t1) (l .next) (l .w)
+    4 (l .inv .2) (search needs) (l .inv .0) (c .loop-test .left)
 
 pub next-rays-spec : {M : Type 1} → statement M
 next-rays-spec =

@@ -1,4 +1,5 @@
--- `optics::trace::trace_heights` meets its contract. The loop's invariant: the ray is the one that arrives at surface k, and the slices hold the heights and slopes of the surfaces passed. Assumes nothing.
+-- `optics::trace::trace_heights` meets its contract. The loop's invariant: the ray is the one that arrives at surface k, and the slices hold the heights and
+-- slopes of the surfaces passed. Assumes nothing.
 use mathlib.Core.Path.{_≡_}
 use Prim.Native.Nat.{ℕ, _≤_, _-_}
 use mathlib.Core.List.{_++_}

@@ -40,10 +40,19 @@ returns : tie.Need-returns
 returns c =
     let s = c .before .before .before .before .before .before .before .before .before .before .args .s in
     λ i. record {
-      «initial_temperature» = (c .before .before .before .before .before .before .before .before .number-setting .ensures ∙ ap (λ (b : Bool). numberSetting b (s .«initial_temperature»)) (c .before .before .before .before .before .before .before .before .before .is-given .ensures)) i;
-      «cooling_rate» = (c .before .before .before .before .before .before .number-setting2 .ensures ∙ ap (λ (b : Bool). numberSetting b (s .«cooling_rate»)) (c .before .before .before .before .before .before .before .is-given2 .ensures)) i;
-      «steps_per_temperature» = (c .before .before .before .before .count-setting .ensures ∙ ap (λ (b : Bool). countSetting b (s .«steps_per_temperature»)) (c .before .before .before .before .before .is-given3 .ensures)) i;
-      «max_cooling_cycles» = (c .before .before .count-setting2 .ensures ∙ ap (λ (b : Bool). countSetting b (s .«max_cooling_cycles»)) (c .before .before .before .is-given4 .ensures)) i;
+      «initial_temperature» =
+          (c .before .before .before .before .before .before .before .before .number-setting .ensures
+          ∙ ap (λ (b : Bool). numberSetting b (s .«initial_temperature»))
+          (c .before .before .before .before .before .before .before .before .before .is-given .ensures)) i;
+      «cooling_rate» =
+          (c .before .before .before .before .before .before .number-setting2 .ensures
+          ∙ ap (λ (b : Bool). numberSetting b (s .«cooling_rate»)) (c .before .before .before .before .before .before .before .is-given2 .ensures)) i;
+      «steps_per_temperature» =
+          (c .before .before .before .before .count-setting .ensures
+          ∙ ap (λ (b : Bool). countSetting b (s .«steps_per_temperature»)) (c .before .before .before .before .before .is-given3 .ensures)) i;
+      «max_cooling_cycles» =
+          (c .before .before .count-setting2 .ensures ∙ ap (λ (b : Bool). countSetting b (s .«max_cooling_cycles»))
+          (c .before .before .before .is-given4 .ensures)) i;
       seed = (c .count-setting3 .ensures ∙ ap (λ (b : Bool). countSetting b (s .seed)) (c .before .is-given5 .ensures)) i;
     }
 

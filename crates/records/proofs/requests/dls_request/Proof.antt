@@ -40,11 +40,21 @@ returns : tie.Need-returns
 returns c =
     let s = c .before .before .before .before .before .before .before .before .before .before .args .s in
     λ i. record {
-      «max_iterations» = (c .before .before .before .before .before .before .before .before .count-setting .ensures ∙ ap (λ (b : Bool). countSetting b (s .«max_iterations»)) (c .before .before .before .before .before .before .before .before .before .is-given .ensures)) i;
-      «initial_damping» = (c .before .before .before .before .before .before .number-setting .ensures ∙ ap (λ (b : Bool). numberSetting b (s .«initial_damping»)) (c .before .before .before .before .before .before .before .is-given2 .ensures)) i;
-      «relative_merit_tolerance» = (c .before .before .before .before .number-setting2 .ensures ∙ ap (λ (b : Bool). numberSetting b (s .«relative_merit_tolerance»)) (c .before .before .before .before .before .is-given3 .ensures)) i;
-      «gradient_tolerance» = (c .before .before .number-setting3 .ensures ∙ ap (λ (b : Bool). numberSetting b (s .«gradient_tolerance»)) (c .before .before .before .is-given4 .ensures)) i;
-      «finite_difference_relative_step» = (c .number-setting4 .ensures ∙ ap (λ (b : Bool). numberSetting b (s .«finite_difference_relative_step»)) (c .before .is-given5 .ensures)) i;
+      «max_iterations» =
+          (c .before .before .before .before .before .before .before .before .count-setting .ensures
+          ∙ ap (λ (b : Bool). countSetting b (s .«max_iterations»))
+          (c .before .before .before .before .before .before .before .before .before .is-given .ensures)) i;
+      «initial_damping» =
+          (c .before .before .before .before .before .before .number-setting .ensures
+          ∙ ap (λ (b : Bool). numberSetting b (s .«initial_damping»)) (c .before .before .before .before .before .before .before .is-given2 .ensures)) i;
+      «relative_merit_tolerance» =
+          (c .before .before .before .before .number-setting2 .ensures
+          ∙ ap (λ (b : Bool). numberSetting b (s .«relative_merit_tolerance»)) (c .before .before .before .before .before .is-given3 .ensures)) i;
+      «gradient_tolerance» =
+          (c .before .before .number-setting3 .ensures ∙ ap (λ (b : Bool). numberSetting b (s .«gradient_tolerance»))
+          (c .before .before .before .is-given4 .ensures)) i;
+      «finite_difference_relative_step» =
+          (c .number-setting4 .ensures ∙ ap (λ (b : Bool). numberSetting b (s .«finite_difference_relative_step»)) (c .before .is-given5 .ensures)) i;
     }
 
 pub dls-request-spec : {M : Type 1} → statement M

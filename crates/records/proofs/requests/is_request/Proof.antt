@@ -19,18 +19,39 @@ returns-2 c = simp (sym (c .before .before .before .is-kind .ensures) ∙ not-fa
 
 returns-3 : tie.Need-returns-3
 unfolding isRequest
-returns-3 c = simp (sym (c .before .before .before .before .before .before .is-kind .ensures) ∙ not-false _ (c .before .before .before .before .before .if1 .left), le-ltb _ _ (c .before .before .before .if2 .left), lt-ltb _ _ (c .if3 .taken))
+returns-3 c =
+    simp (
+      sym (c .before .before .before .before .before .before .is-kind .ensures)
+          ∙ not-false _ (c .before .before .before .before .before .if1 .left),
+      le-ltb _ _ (c .before .before .before .if2 .left),
+      lt-ltb _ _ (c .if3 .taken),
+    )
 
 returns-4 : tie.Need-returns-4
 unfolding isRequest
-returns-4 c = simp (sym (c .before .before .before .before .before .before .before .before .is-kind .ensures) ∙ not-false _ (c .before .before .before .before .before .before .before .if1 .left), le-ltb _ _ (c .before .before .before .before .before .if2 .left), le-ltb _ _ (c .before .before .if3 .left), lt-ltb _ _ (c .if4 .taken))
+returns-4 c =
+    simp (
+      sym (c .before .before .before .before .before .before .before .before .is-kind .ensures)
+          ∙ not-false _ (c .before .before .before .before .before .before .before .if1 .left),
+      le-ltb _ _ (c .before .before .before .before .before .if2 .left),
+      le-ltb _ _ (c .before .before .if3 .left),
+      lt-ltb _ _ (c .if4 .taken),
+    )
 
 known-kinds-requires : tie.Need-known-kinds-requires
 known-kinds-requires c κs = search needs
 
 returns-5 : tie.Need-returns-5
 unfolding isRequest
-returns-5 c = simp (sym (c .before .before .before .before .before .before .before .before .before .is-kind .ensures) ∙ not-false _ (c .before .before .before .before .before .before .before .before .if1 .left), le-ltb _ _ (c .before .before .before .before .before .before .if2 .left), le-ltb _ _ (c .before .before .before .if3 .left), le-ltb _ _ (c .before .if4 .left), c .known-kinds .ensures)
+returns-5 c =
+    simp (
+      sym (c .before .before .before .before .before .before .before .before .before .is-kind .ensures)
+          ∙ not-false _ (c .before .before .before .before .before .before .before .before .if1 .left),
+      le-ltb _ _ (c .before .before .before .before .before .before .if2 .left),
+      le-ltb _ _ (c .before .before .before .if3 .left),
+      le-ltb _ _ (c .before .if4 .left),
+      c .known-kinds .ensures,
+    )
 
 pub is-request-spec : {M : Type 1} → statement M
 is-request-spec =

@@ -26,7 +26,8 @@ returns c =
     let s = c .before .before .before .before .before .args .s in
     λ i. record {
       «local_dls_config» = c .before .before .before .before .dls-request .ensures i;
-      «num_trials» = (c .before .before .count-setting .ensures ∙ ap (λ (b : Bool). countSetting b (s .«num_trials»)) (c .before .before .before .is-given .ensures)) i;
+      «num_trials» =
+          (c .before .before .count-setting .ensures ∙ ap (λ (b : Bool). countSetting b (s .«num_trials»)) (c .before .before .before .is-given .ensures)) i;
       seed = (c .count-setting2 .ensures ∙ ap (λ (b : Bool). countSetting b (s .seed)) (c .before .is-given2 .ensures)) i;
     }
 

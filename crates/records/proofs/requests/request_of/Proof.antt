@@ -12,7 +12,14 @@ method-request-requires c κs = search needs
 
 returns : tie.Need-returns
 unfolding requestOf
-returns c = λ i. record { prescription = c .before .before .before .before .job-of .ensures i .prescription; variables = c .before .before .before .before .job-of .ensures i .variables; «merit_function» = c .before .before .before .before .job-of .ensures i .«merit_function»; method = c .method-request .ensures i }
+returns c =
+    λ i. record {
+      prescription = c .before .before .before .before .job-of .ensures i .prescription;
+      variables = c .before .before .before .before .job-of .ensures i .variables;
+      «merit_function» = c .before .before .before .before .job-of .ensures
+          i .«merit_function»;
+      method = c .method-request .ensures i;
+    }
 
 pub request-of-spec : {M : Type 1} → statement M
 request-of-spec = tie.close (tie.spec job-of-requires method-request-requires returns)

@@ -62,21 +62,24 @@ returns-3 c =
     let j = filled (x .request) in
     let free = counted (filled (x .request)) (λ q. c .before .before .if1 .left (e ∙ q)) in
     let answer : _ ≡ firstRefusal (later j) = e ∙ ap (λ (b : Bool). cond b 1 (firstRefusal (later j))) free in
-    answer ∙ sym (refused-first (later j) (refusal 10 (x .occupied)) (subst (λ (k : ℕ). 0 < k) answer (c .if3 .taken))) ∙ sym (past free (placed (x .place) (c .before .if2 .left)) _)
+    answer ∙ sym (refused-first (later j) (refusal 10 (x .occupied)) (subst (λ (k : ℕ). 0 < k) answer (c .if3 .taken)))
+    ∙ sym (past free (placed (x .place) (c .before .if2 .left)) _)
 
 returns-4 : tie.Need-returns-4
 returns-4 c =
     let x = c .before .before .before .before .before .args in
     let e = c .before .before .before .before .refusal-of .ensures in
     let j = filled (x .request) in
-    sym (past (counted (filled (x .request)) (λ q. c .before .before .before .if1 .left (e ∙ q))) (placed (x .place) (c .before .before .if2 .left)) _ ∙ refused-last (later j) (refusal 10 (x .occupied)) (not-refused j .0 (sym e ∙ none _ (c .before .if3 .left)) .1) ∙ λ i. cond (c .if4 .taken i) 10 0)
+    sym (past (counted (filled (x .request)) (λ q. c .before .before .before .if1 .left (e ∙ q))) (placed (x .place) (c .before .before .if2 .left)) _
+    ∙ refused-last (later j) (refusal 10 (x .occupied)) (not-refused j .0 (sym e ∙ none _ (c .before .if3 .left)) .1) ∙ λ i. cond (c .if4 .taken i) 10 0)
 
 returns-5 : tie.Need-returns-5
 returns-5 c =
     let x = c .before .before .before .before .before .args in
     let e = c .before .before .before .before .refusal-of .ensures in
     let j = filled (x .request) in
-    sym (past (counted (filled (x .request)) (λ q. c .before .before .before .if1 .left (e ∙ q))) (placed (x .place) (c .before .before .if2 .left)) _ ∙ refused-last (later j) (refusal 10 (x .occupied)) (not-refused j .0 (sym e ∙ none _ (c .before .if3 .left)) .1) ∙ λ i. cond (c .if4 .left i) 10 0)
+    sym (past (counted (filled (x .request)) (λ q. c .before .before .before .if1 .left (e ∙ q))) (placed (x .place) (c .before .before .if2 .left)) _
+    ∙ refused-last (later j) (refusal 10 (x .occupied)) (not-refused j .0 (sym e ∙ none _ (c .before .if3 .left)) .1) ∙ λ i. cond (c .if4 .left i) 10 0)
 
 pub admit-number-spec : {M : Type 1} → statement M
 admit-number-spec =

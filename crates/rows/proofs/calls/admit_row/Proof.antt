@@ -29,7 +29,8 @@ unfolding admitRowOf admitRowNumber
 returns c =
     let x = c .before .before .before .before .before .args in
     let n = admitRowNumber (rowFrom (x .held)) (x .place) (x .request) in
-    let e = c .before .admit-number .ensures ∙ ap (λ (k : ℕ). firstRefusal (admitRefusals (x .place) (x .request) (not (eqb k 0)))) (c .before .before .kind .ensures) in
+    let e = c .before .admit-number .ensures ∙ ap (λ (k : ℕ). firstRefusal (admitRefusals (x .place) (x .request) (not (eqb k 0))))
+    (c .before .before .kind .ensures) in
     λ i. record { row = kept-by _ n e (heldFrom (Rows.admitted (jobFrom (x .request)))) (x .held) (c .if1 .taken) i; number = e i }
 
 job-from-requires : tie.Need-job-from-requires
@@ -49,11 +50,18 @@ unfolding admitRowOf admitRowNumber Rows.admitted
 returns-2 c =
     let x = c .before .before .before .before .before .before .before .before .before .args in
     let n = admitRowNumber (rowFrom (x .held)) (x .place) (x .request) in
-    let e = c .before .before .before .before .before .admit-number .ensures ∙ ap (λ (k : ℕ). firstRefusal (admitRefusals (x .place) (x .request) (not (eqb k 0)))) (c .before .before .before .before .before .before .kind .ensures) in
+    let e = c .before .before .before .before .before .admit-number .ensures
+    ∙ ap (λ (k : ℕ). firstRefusal (admitRefusals (x .place) (x .request) (not (eqb k 0))))
+    (c .before .before .before .before .before .before .kind .ensures) in
     let job = c .before .before .before .job-from .result in
-    let row = c .before .began .ensures ∙ ap (λ (held : JobRecord). rowOf held (kindOf job) 0 (Rows.began (job .method) job)) (c .before .before .record-of .ensures) ∙ ap Rows.admitted (c .before .before .before .job-from .ensures) in
+    let row =
+    c .before .began .ensures ∙ ap (λ (held : JobRecord). rowOf held (kindOf job) 0 (Rows.began (job .method) job)) (c .before .before .record-of .ensures)
+    ∙ ap Rows.admitted (c .before .before .before .job-from .ensures) in
     let held = c .held-of .ensures ∙ ap heldFrom row in
-    λ i. record { row = (held ∙ made-by _ n e (heldFrom (Rows.admitted (jobFrom (x .request)))) (x .held) (c .before .before .before .before .if1 .left)) i; number = zero-by _ n e (c .before .before .before .before .if1 .left) i }
+    λ i. record {
+      row = (held ∙ made-by _ n e (heldFrom (Rows.admitted (jobFrom (x .request)))) (x .held) (c .before .before .before .before .if1 .left)) i;
+      number = zero-by _ n e (c .before .before .before .before .if1 .left) i;
+    }
 
 pub admit-row-spec : {M : Type 1} → statement M
 admit-row-spec =

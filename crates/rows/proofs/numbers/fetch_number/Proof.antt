@@ -34,7 +34,8 @@ unfolding fetchRowNumber
 returns-2 c = λ o.
     let x = c .before .before .before .before .before .before .args in
     let r = rowFrom (heldWith (x .words .now) (x .counts .now) (x .numbers .now) (x .surfaces .now) (x .best-surfaces .now) o) in
-    let h = neither (isVacant r) (damaged r) _ (c .before .before .before .before .before .usable-number .ensures o) (c .before .before .before .before .if1 .left) in
+    let h = neither (isVacant r) (damaged r) _ (c .before .before .before .before .before .usable-number .ensures o)
+    (c .before .before .before .before .if1 .left) in
     let over = finished-is r (c .before .is-over .ensures) (c .before .before .before .kind .ensures) (c .before .before .phase .ensures) (c .if2 .taken) in
     rw (h .0, h .1, over) refl
 
@@ -43,7 +44,8 @@ unfolding fetchRowNumber
 returns-3 c = λ o.
     let x = c .before .before .before .before .before .before .args in
     let r = rowFrom (heldWith (x .words .now) (x .counts .now) (x .numbers .now) (x .surfaces .now) (x .best-surfaces .now) o) in
-    let h = neither (isVacant r) (damaged r) _ (c .before .before .before .before .before .usable-number .ensures o) (c .before .before .before .before .if1 .left) in
+    let h = neither (isVacant r) (damaged r) _ (c .before .before .before .before .before .usable-number .ensures o)
+    (c .before .before .before .before .if1 .left) in
     let over = finished-is r (c .before .is-over .ensures) (c .before .before .before .kind .ensures) (c .before .before .phase .ensures) (c .if2 .left) in
     rw (h .0, h .1, over) refl
 

@@ -21,7 +21,11 @@ usable-number-requires c κs = search needs
 
 returns-2 : tie.Need-returns-2
 unfolding turnRowNumber
-returns-2 c = λ o. let x = c .before .before .before .args in rw (le-ltb (x .room) scratchLength (c .before .before .if1 .left)) (first-two (isVacant (rowFrom (heldWith (x .words .now) (x .counts .now) (x .numbers .now) (x .surfaces .now) (x .best-surfaces .now) o))) (damaged (rowFrom (heldWith (x .words .now) (x .counts .now) (x .numbers .now) (x .surfaces .now) (x .best-surfaces .now) o))) _ _ (c .before .usable-number .ensures o) (c .if2 .taken))
+returns-2 c =
+    λ o. let x = c .before .before .before .args in rw (le-ltb (x .room) scratchLength (c .before .before .if1 .left))
+    (first-two (isVacant (rowFrom (heldWith (x .words .now) (x .counts .now) (x .numbers .now) (x .surfaces .now) (x .best-surfaces .now) o)))
+    (damaged (rowFrom (heldWith (x .words .now) (x .counts .now) (x .numbers .now) (x .surfaces .now) (x .best-surfaces .now) o))) _ _
+    (c .before .usable-number .ensures o) (c .if2 .taken))
 
 kind-requires : tie.Need-kind-requires
 kind-requires c κs = search needs
@@ -37,7 +41,8 @@ unfolding turnRowNumber
 returns-3 c = λ o.
     let x = c .before .before .before .before .before .before .before .args in
     let r = rowFrom (heldWith (x .words .now) (x .counts .now) (x .numbers .now) (x .surfaces .now) (x .best-surfaces .now) o) in
-    let h = neither (isVacant r) (damaged r) _ (c .before .before .before .before .before .usable-number .ensures o) (c .before .before .before .before .if2 .left) in
+    let h = neither (isVacant r) (damaged r) _ (c .before .before .before .before .before .usable-number .ensures o)
+    (c .before .before .before .before .if2 .left) in
     let over = finished-is r (c .before .is-over .ensures) (c .before .before .before .kind .ensures) (c .before .before .phase .ensures) (c .if3 .taken) in
     rw (le-ltb (x .room) scratchLength (c .before .before .before .before .before .before .if1 .left), h .0, h .1, over) refl
 
@@ -46,7 +51,8 @@ unfolding turnRowNumber
 returns-4 c = λ o.
     let x = c .before .before .before .before .before .before .before .args in
     let r = rowFrom (heldWith (x .words .now) (x .counts .now) (x .numbers .now) (x .surfaces .now) (x .best-surfaces .now) o) in
-    let h = neither (isVacant r) (damaged r) _ (c .before .before .before .before .before .usable-number .ensures o) (c .before .before .before .before .if2 .left) in
+    let h = neither (isVacant r) (damaged r) _ (c .before .before .before .before .before .usable-number .ensures o)
+    (c .before .before .before .before .if2 .left) in
     let over = finished-is r (c .before .is-over .ensures) (c .before .before .before .kind .ensures) (c .before .before .phase .ensures) (c .if3 .left) in
     rw (le-ltb (x .room) scratchLength (c .before .before .before .before .before .before .if1 .left), h .0, h .1, over) refl
 

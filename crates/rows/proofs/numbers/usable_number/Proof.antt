@@ -16,10 +16,20 @@ is-damaged-requires : tie.Need-is-damaged-requires
 is-damaged-requires c κs = search needs
 
 returns-2 : tie.Need-returns-2
-returns-2 c = λ o. let x = c .before .before .before .before .before .before .before .args in rw (ne-eqb (kindFrom (x .words .now)) 0 (λ z. c .before .before .before .before .before .if1 .left (c .before .before .before .before .before .before .kind .ensures ∙ z)), sym (c .before .is-damaged .ensures o) ∙ c .if2 .taken) refl
+returns-2 c = λ o. let x = c .before .before .before .before .before .before .before .args in
+    rw (
+      ne-eqb (kindFrom (x .words .now)) 0 (λ z. c .before .before .before .before .before .if1 .left
+          (c .before .before .before .before .before .before .kind .ensures ∙ z)),
+      sym (c .before .is-damaged .ensures o) ∙ c .if2 .taken,
+    ) refl
 
 returns-3 : tie.Need-returns-3
-returns-3 c = λ o. let x = c .before .before .before .before .before .before .before .args in rw (ne-eqb (kindFrom (x .words .now)) 0 (λ z. c .before .before .before .before .before .if1 .left (c .before .before .before .before .before .before .kind .ensures ∙ z)), sym (c .before .is-damaged .ensures o) ∙ c .if2 .left) refl
+returns-3 c = λ o. let x = c .before .before .before .before .before .before .before .args in
+    rw (
+      ne-eqb (kindFrom (x .words .now)) 0 (λ z. c .before .before .before .before .before .if1 .left
+          (c .before .before .before .before .before .before .kind .ensures ∙ z)),
+      sym (c .before .is-damaged .ensures o) ∙ c .if2 .left,
+    ) refl
 
 pub usable-number-spec : {M : Type 1} → statement M
 usable-number-spec =

@@ -30,7 +30,9 @@ returns : tie.Need-returns
 unfolding turnedRow scratchOf
 returns c =
     let x = c .before .before .before .before .before .before .args in
-    let h = heldOf (x .words .now) (x .scalars .now) (x .counts .now) (x .numbers .now) (x .surfaces .now) (x .jacobian .now) (x .values .now) (x .residuals .now) (x .plus-residuals .now) (x .params .now) (x .candidate .now) (x .best-surfaces .now) (x .best-values .now) (x .best-residuals .now) in
+    let h = heldOf (x .words .now) (x .scalars .now) (x .counts .now) (x .numbers .now) (x .surfaces .now) (x .jacobian .now) (x .values .now)
+    (x .residuals .now) (x .plus-residuals .now) (x .params .now) (x .candidate .now) (x .best-surfaces .now) (x .best-values .now)
+    (x .best-residuals .now) in
     let r = rowFrom h in
     let l = x .scratch .now in
     let e = c .before .turn-number .ensures (othersOf h) in
@@ -49,7 +51,9 @@ turns-requires c κs = search needs
 add-turns : tie.Need-add-turns
 add-turns c =
     let x = c .before .before .before .before .before .before .before .before .before .before .before .before .before .args in
-    let h = heldOf (x .words .now) (x .scalars .now) (x .counts .now) (x .numbers .now) (x .surfaces .now) (x .jacobian .now) (x .values .now) (x .residuals .now) (x .plus-residuals .now) (x .params .now) (x .candidate .now) (x .best-surfaces .now) (x .best-values .now) (x .best-residuals .now) in
+    let h = heldOf (x .words .now) (x .scalars .now) (x .counts .now) (x .numbers .now) (x .surfaces .now) (x .jacobian .now) (x .values .now)
+    (x .residuals .now) (x .plus-residuals .now) (x .params .now) (x .candidate .now) (x .best-surfaces .now) (x .best-values .now)
+    (x .best-residuals .now) in
     let r = rowFrom h in
     let l = x .scratch .now in
     let e = c .before .before .before .before .before .before .before .before .turn-number .ensures (othersOf h) in
@@ -58,13 +62,31 @@ add-turns c =
 
 turned-requires : tie.Need-turned-requires
 turned-requires c κs =
-    let x = c .before .before .before .before .before .before .before .before .before .before .before .before .before .before .before .before .before .before .before .before .before .before .before .before .before .args in
-    let h = heldOf (x .words .now) (x .scalars .now) (x .counts .now) (x .numbers .now) (x .surfaces .now) (x .jacobian .now) (x .values .now) (x .residuals .now) (x .plus-residuals .now) (x .params .now) (x .candidate .now) (x .best-surfaces .now) (x .best-values .now) (x .best-residuals .now) in
+    let x = c .before .before .before .before .before .before .before .before .before .before .before .before .before .before .before .before .before .before
+    .before .before .before .before .before .before .before .args in
+    let h = heldOf (x .words .now) (x .scalars .now) (x .counts .now) (x .numbers .now) (x .surfaces .now) (x .jacobian .now) (x .values .now)
+    (x .residuals .now) (x .plus-residuals .now) (x .params .now) (x .candidate .now) (x .best-surfaces .now) (x .best-values .now)
+    (x .best-residuals .now) in
     let r = rowFrom h in
     let l = x .scratch .now in
-    let e = c .before .before .before .before .before .before .before .before .before .before .before .before .before .before .before .before .before .before .before .before .turn-number .ensures (othersOf h) in
-    let t = turnable _ (length l) r e (c .before .before .before .before .before .before .before .before .before .before .before .before .before .before .before .before .before .before .before .if1 .left) in
-    (t .long, (search needs, (ap (λ (k : ℕ). jobTaken (heldJob (x .counts .now) (x .numbers .now) k)) (c .before .before .before .before .before .before .before .before .before .before .before .before .before .before .kind .ensures) ∙ job-taken r (t .sound), rw (c .before .before .before .before .before .before .before .before .before .before .before .before .before .before .before .before .head-of .ensures) (column-below r (t .sound)))))
+    let e = c .before .before .before .before .before .before .before .before .before .before .before .before .before .before .before .before .before .before
+    .before .before .turn-number .ensures (othersOf h) in
+    let t = turnable _ (length l) r e
+    (c .before .before .before .before .before .before .before .before .before .before .before .before .before .before .before .before .before .before
+    .before .if1 .left) in (
+      t .long,
+      (
+        search needs,
+        (
+          ap (λ (k : ℕ). jobTaken (heldJob (x .counts .now) (x .numbers .now) k))
+              (c .before .before .before .before .before .before .before .before .before .before .before .before .before .before .kind .ensures)
+              ∙ job-taken r (t .sound),
+          rw (c .before .before .before .before .before .before .before .before .before .before .before .before .before .before .before .before .head-of
+              .ensures)
+              (column-below r (t .sound)),
+        ),
+      ),
+    )
 
 put-words-requires : tie.Need-put-words-requires
 put-words-requires c κs = search needs
@@ -74,12 +96,18 @@ put-scalars-requires c κs = search needs
 
 zero-first-requires : tie.Need-zero-first-requires
 zero-first-requires c κs =
-    let x = c .before .before .before .before .before .before .before .before .before .before .before .before .before .before .before .before .before .before .before .before .before .before .before .before .before .before .before .before .before .before .before .before .before .args in
-    let h = heldOf (x .words .now) (x .scalars .now) (x .counts .now) (x .numbers .now) (x .surfaces .now) (x .jacobian .now) (x .values .now) (x .residuals .now) (x .plus-residuals .now) (x .params .now) (x .candidate .now) (x .best-surfaces .now) (x .best-values .now) (x .best-residuals .now) in
+    let x = c .before .before .before .before .before .before .before .before .before .before .before .before .before .before .before .before .before .before
+    .before .before .before .before .before .before .before .before .before .before .before .before .before .before .before .args in
+    let h = heldOf (x .words .now) (x .scalars .now) (x .counts .now) (x .numbers .now) (x .surfaces .now) (x .jacobian .now) (x .values .now)
+    (x .residuals .now) (x .plus-residuals .now) (x .params .now) (x .candidate .now) (x .best-surfaces .now) (x .best-values .now)
+    (x .best-residuals .now) in
     let r = rowFrom h in
     let l = x .scratch .now in
-    let e = c .before .before .before .before .before .before .before .before .before .before .before .before .before .before .before .before .before .before .before .before .before .before .before .before .before .before .before .before .turn-number .ensures (othersOf h) in
-    let t = turnable _ (length l) r e (c .before .before .before .before .before .before .before .before .before .before .before .before .before .before .before .before .before .before .before .before .before .before .before .before .before .before .before .if1 .left) in
+    let e = c .before .before .before .before .before .before .before .before .before .before .before .before .before .before .before .before .before .before
+    .before .before .before .before .before .before .before .before .before .before .turn-number .ensures (othersOf h) in
+    let t = turnable _ (length l) r e
+    (c .before .before .before .before .before .before .before .before .before .before .before .before .before .before .before .before .before .before
+    .before .before .before .before .before .before .before .before .before .if1 .left) in
     omega (arith, t .long, c .before .before .before .before .before .before .before .turned .ensures .1 .long)
 
 same-length : tie.Need-same-length
@@ -88,20 +116,48 @@ same-length c = search needs
 returns-2 : tie.Need-returns-2
 unfolding turnedRow scratchOf Turn.turned advance pendingSurfaces
 returns-2 c =
-    let x = c .before .before .before .before .before .before .before .before .before .before .before .before .before .before .before .before .before .before .before .before .before .before .before .before .before .before .before .before .before .before .before .before .before .before .before .before .args in
-    let h = heldOf (x .words .now) (x .scalars .now) (x .counts .now) (x .numbers .now) (x .surfaces .now) (x .jacobian .now) (x .values .now) (x .residuals .now) (x .plus-residuals .now) (x .params .now) (x .candidate .now) (x .best-surfaces .now) (x .best-values .now) (x .best-residuals .now) in
+    let x = c .before .before .before .before .before .before .before .before .before .before .before .before .before .before .before .before .before .before
+    .before .before .before .before .before .before .before .before .before .before .before .before .before .before .before .before .before .before .args in
+    let h = heldOf (x .words .now) (x .scalars .now) (x .counts .now) (x .numbers .now) (x .surfaces .now) (x .jacobian .now) (x .values .now)
+    (x .residuals .now) (x .plus-residuals .now) (x .params .now) (x .candidate .now) (x .best-surfaces .now) (x .best-values .now)
+    (x .best-residuals .now) in
     let r = rowFrom h in
     let l = x .scratch .now in
-    let e = c .before .before .before .before .before .before .before .before .before .before .before .before .before .before .before .before .before .before .before .before .before .before .before .before .before .before .before .before .before .before .before .turn-number .ensures (othersOf h) in
+    let e = c .before .before .before .before .before .before .before .before .before .before .before .before .before .before .before .before .before .before
+    .before .before .before .before .before .before .before .before .before .before .before .before .before .turn-number .ensures (othersOf h) in
     let n = turnRowNumber (length l) r in
-    let k = c .before .before .before .before .before .before .before .before .before .before .before .before .before .before .before .before .before .before .before .before .before .before .before .before .before .kind .result in
+    let k = c .before .before .before .before .before .before .before .before .before .before .before .before .before .before .before .before .before .before
+    .before .before .before .before .before .before .before .kind .result in
     let j = jobRecordFrom (x .counts .now) (x .numbers .now) in
     let t = c .before .before .before .before .before .before .before .before .before .before .turned .ensures in (
-      zero-by _ n e (c .before .before .before .before .before .before .before .before .before .before .before .before .before .before .before .before .before .before .before .before .before .before .before .before .before .before .before .before .before .before .if1 .left),
-      rw (c .before .before .before .before .before .before .put-words .ensures, c .before .before .before .before .put-scalars .ensures) (ap (λ (s : State). rowOf j k (c .before .before .before .before .before .before .before .before .before .before .before .before .before .before .before .before .before .before .before .before .before .before .before .turns .result + 1) s) (t .0)
-          ∙ (λ i. rowOf j (c .before .before .before .before .before .before .before .before .before .before .before .before .before .before .before .before .before .before .before .before .before .before .before .before .before .kind .ensures i) ((ap (λ (m : ℕ). m + 1) (c .before .before .before .before .before .before .before .before .before .before .before .before .before .before .before .before .before .before .before .before .before .before .before .turns .ensures) ∙ add-one (turnsFrom (x .words .now))) i) (turnedBy (heldJob (x .counts .now) (x .numbers .now) (c .before .before .before .before .before .before .before .before .before .before .before .before .before .before .before .before .before .before .before .before .before .before .before .before .before .kind .ensures i)) (stateFrom (c .before .before .before .before .before .before .before .before .before .before .before .before .before .before .before .before .before .before .before .before .before .before .before .before .before .before .before .head-of .ensures i) (x .surfaces .now) (x .jacobian .now) (x .values .now) (x .residuals .now) (x .plus-residuals .now) (x .params .now) (x .candidate .now) (x .best-surfaces .now) (x .best-values .now) (x .best-residuals .now))))
-          ∙ made-by _ n e (Turn.turned r) r (c .before .before .before .before .before .before .before .before .before .before .before .before .before .before .before .before .before .before .before .before .before .before .before .before .before .before .before .before .before .before .if1 .left)),
-      c .before .before .zero-first .ensures ∙ (λ i. replicate scratchLength zero64 ++ t .1 .rest i) ∙ made-by _ n e (cleared l) l (c .before .before .before .before .before .before .before .before .before .before .before .before .before .before .before .before .before .before .before .before .before .before .before .before .before .before .before .before .before .before .if1 .left),
+      zero-by _ n e
+          (c .before .before .before .before .before .before .before .before .before .before .before .before .before .before .before .before .before .before
+          .before .before .before .before .before .before .before .before .before .before .before .before .if1 .left),
+      rw (c .before .before .before .before .before .before .put-words .ensures, c .before .before .before .before .put-scalars .ensures)
+          (ap (λ (s : State). rowOf j k
+          (c .before .before .before .before .before .before .before .before .before .before .before .before .before .before .before .before .before .before
+          .before .before .before .before .before .turns .result + 1) s) (t .0)
+          ∙ (λ i. rowOf j
+          (c .before .before .before .before .before .before .before .before .before .before .before .before .before .before .before .before .before .before
+          .before .before .before .before .before .before .before .kind .ensures i)
+          ((ap (λ (m : ℕ). m + 1)
+          (c .before .before .before .before .before .before .before .before .before .before .before .before .before .before .before .before .before .before
+          .before .before .before .before .before .turns .ensures) ∙ add-one (turnsFrom (x .words .now))) i)
+          (turnedBy (heldJob (x .counts .now) (x .numbers .now)
+          (c .before .before .before .before .before .before .before .before .before .before .before .before .before .before .before .before .before .before
+          .before .before .before .before .before .before .before .kind .ensures i))
+          (stateFrom
+          (c .before .before .before .before .before .before .before .before .before .before .before .before .before .before .before .before .before .before
+          .before .before .before .before .before .before .before .before .before .head-of .ensures i) (x .surfaces .now) (x .jacobian .now)
+          (x .values .now) (x .residuals .now) (x .plus-residuals .now) (x .params .now) (x .candidate .now) (x .best-surfaces .now) (x .best-values .now)
+          (x .best-residuals .now))))
+          ∙ made-by _ n e (Turn.turned r) r
+          (c .before .before .before .before .before .before .before .before .before .before .before .before .before .before .before .before .before .before
+          .before .before .before .before .before .before .before .before .before .before .before .before .if1 .left)),
+      c .before .before .zero-first .ensures ∙ (λ i. replicate scratchLength zero64 ++ t .1 .rest i)
+          ∙ made-by _ n e (cleared l) l
+          (c .before .before .before .before .before .before .before .before .before .before .before .before .before .before .before .before .before .before
+          .before .before .before .before .before .before .before .before .before .before .before .before .if1 .left),
     )
 
 pub turn-parts-spec : {M : Type 1} → statement M

@@ -28,8 +28,11 @@ merit-of-requires c κs = search needs
 returns : tie.Need-returns
 returns c = λ kind.
     let x = c .before .before .before .before .before .before .before .before .before .args in
-    let laid = rw (c .before .before .before .before .before .before .before .surface-count .ensures) at (c .before .before .before .before .before .lay-flat .ensures) in
-    c .merit-of .ensures kind (x .lens) (c .before .before .values-of .ensures kind (x .lens) (drop (4 * surfaceCountFrom (x .counts .now)) (replicate 64 zero64)) laid)
+    let laid =
+    rw (c .before .before .before .before .before .before .before .surface-count .ensures) at
+    (c .before .before .before .before .before .lay-flat .ensures) in
+    c .merit-of .ensures kind (x .lens) (c .before .before .values-of .ensures kind (x .lens) (drop (4 * surfaceCountFrom (x .counts .now))
+    (replicate 64 zero64)) laid)
 
 pub merit-at-spec : {M : Type 1} → statement M
 merit-at-spec =

@@ -8,7 +8,8 @@ pending-parts-requires c κs = search needs
 
 returns : tie.Need-returns
 returns c =
-    let h = c .before .before .before .before .before .before .before .before .before .before .before .before .before .before .before .before .before .args .held in
+    let h = c .before .before .before .before .before .before .before .before .before .before .before .before .before .before .before .before .before .args
+    .held in
     c .pending-parts .ensures (h .jacobian) (h .values) (h .residuals) (h .«plus_residuals») (h .«best_values») (h .«best_residuals»)
 
 pub pending-of-spec : {M : Type 1} → statement M

@@ -34,7 +34,8 @@ returns : tie.Need-returns
 unfolding pendingOf
 returns c = λ jacobian values residuals plus bv br.
     let x = c .before .before .before .args in
-    let h = heldOf (x .words .now) (x .scalars .now) (x .counts .now) (x .numbers .now) (x .surfaces .now) jacobian values residuals plus (x .params .now) (x .candidate .now) (x .best-surfaces .now) bv br in
+    let h = heldOf (x .words .now) (x .scalars .now) (x .counts .now) (x .numbers .now) (x .surfaces .now) jacobian values residuals plus (x .params .now)
+    (x .candidate .now) (x .best-surfaces .now) bv br in
     let r = rowFrom h in
     let n = turnRowNumber scratchLength r in
     let e = c .before .before .turn-number .ensures (othersOf h) in
@@ -56,9 +57,11 @@ slice-aggregate-pending-surfaces c = search needs
 pending-surfaces-requires : tie.Need-pending-surfaces-requires
 pending-surfaces-requires c κs =
     let x = c .before .before .before .before .before .before .args in
-    let h = heldOf (x .words .now) (x .scalars .now) (x .counts .now) (x .numbers .now) (x .surfaces .now) [] [] [] [] (x .params .now) (x .candidate .now) (x .best-surfaces .now) [] [] in
+    let h = heldOf (x .words .now) (x .scalars .now) (x .counts .now) (x .numbers .now) (x .surfaces .now) [] [] [] [] (x .params .now) (x .candidate .now)
+    (x .best-surfaces .now) [] [] in
     let r = rowFrom h in
-    let t = turnable _ scratchLength r (c .before .before .before .before .before .turn-number .ensures (othersOf h)) (c .before .before .before .before .if1 .left) in
+    let t = turnable _ scratchLength r (c .before .before .before .before .before .turn-number .ensures (othersOf h))
+    (c .before .before .before .before .if1 .left) in
     let n = passed (jobOfRow r) (job-taken r (t .sound)) .counted in
     (n .variables, (search needs, (rw (c .before .before .before .head-of .ensures) (column-below r (t .sound)), search needs)))
 
@@ -71,9 +74,11 @@ stand-requires c κs = omega (arith, c .before .before .pending-surfaces .ensure
 merit-at-requires : tie.Need-merit-at-requires
 merit-at-requires c κs =
     let x = c .before .before .before .before .before .before .before .before .before .before .before .args in
-    let h = heldOf (x .words .now) (x .scalars .now) (x .counts .now) (x .numbers .now) (x .surfaces .now) [] [] [] [] (x .params .now) (x .candidate .now) (x .best-surfaces .now) [] [] in
+    let h = heldOf (x .words .now) (x .scalars .now) (x .counts .now) (x .numbers .now) (x .surfaces .now) [] [] [] [] (x .params .now) (x .candidate .now)
+    (x .best-surfaces .now) [] [] in
     let r = rowFrom h in
-    let t = turnable _ scratchLength r (c .before .before .before .before .before .before .before .before .before .before .turn-number .ensures (othersOf h)) (c .before .before .before .before .before .before .before .before .before .if1 .left) in
+    let t = turnable _ scratchLength r (c .before .before .before .before .before .before .before .before .before .before .turn-number .ensures (othersOf h))
+    (c .before .before .before .before .before .before .before .before .before .if1 .left) in
     let n = passed (jobOfRow r) (job-taken r (t .sound)) .counted in
     (n .surfaces, (n .operands, (search needs, operands-known (jobOfRow r) (job-taken r (t .sound)))))
 
@@ -81,16 +86,21 @@ returns-2 : tie.Need-returns-2
 unfolding pendingOf pendingSurfaces
 returns-2 c = λ jacobian values residuals plus bv br.
     let x = c .before .before .before .before .before .before .before .before .before .before .before .before .args in
-    let h = heldOf (x .words .now) (x .scalars .now) (x .counts .now) (x .numbers .now) (x .surfaces .now) jacobian values residuals plus (x .params .now) (x .candidate .now) (x .best-surfaces .now) bv br in
+    let h = heldOf (x .words .now) (x .scalars .now) (x .counts .now) (x .numbers .now) (x .surfaces .now) jacobian values residuals plus (x .params .now)
+    (x .candidate .now) (x .best-surfaces .now) bv br in
     let r = rowFrom h in
     let n = turnRowNumber scratchLength r in
     let e = c .before .before .before .before .before .before .before .before .before .before .before .turn-number .ensures (othersOf h) in
     let going = c .before .before .before .before .before .before .before .before .before .before .if1 .left in
     let job : ℕ → Job = λ kind. heldJob (x .counts .now) (x .numbers .now) kind in
-    let state : RowHead → State = λ head. stateFrom head (x .surfaces .now) jacobian values residuals plus (x .params .now) (x .candidate .now) (x .best-surfaces .now) bv br in
+    let state : RowHead → State =
+    λ head. stateFrom head (x .surfaces .now) jacobian values residuals plus (x .params .now) (x .candidate .now) (x .best-surfaces .now) bv br in
     let pending : c .before .before .stand .result ≡ pendingSurfaces r =
-    c .before .before .stand .ensures ∙ c .before .before .before .before .before .pending-surfaces .ensures .0 jacobian values residuals plus (x .best-surfaces .now) bv br
-    ∙ (λ i. pendingBy (job (c .before .before .before .before .before .before .before .before .kind .ensures i) .method) (job (c .before .before .before .before .before .before .before .before .kind .ensures i)) (state (c .before .before .before .before .before .before .before .before .before .head-of .ensures i))) in
+    c .before .before .stand .ensures ∙ c .before .before .before .before .before .pending-surfaces .ensures .0 jacobian values residuals plus
+    (x .best-surfaces .now) bv br
+    ∙ (λ i. pendingBy (job (c .before .before .before .before .before .before .before .before .kind .ensures i) .method)
+    (job (c .before .before .before .before .before .before .before .before .kind .ensures i))
+    (state (c .before .before .before .before .before .before .before .before .before .head-of .ensures i))) in
     let merit = c .merit-at .ensures (kindFrom (x .words .now)) ∙ ap (λ (s : Surfaces). evaluateOf (jobOfRow r) s .«total_merit») pending in
     λ i. record {
       surfaces = (pending ∙ made-by _ n e (pendingSurfaces r) zeroSurfaces going) i;

@@ -30,7 +30,13 @@ add-result c =
     omega (arith, mul-le-mul cycles steps, pre .2)
 
 returns : tie.Need-returns
-returns c = λ a e. simp (e, c .before .before .before .before .before .damped-result .ensures, c .before .before .before .max-cooling-cycles .ensures, c .before .steps-per-temperature .ensures)
+returns c =
+    λ a e. simp (
+      e,
+      c .before .before .before .before .before .damped-result .ensures,
+      c .before .before .before .max-cooling-cycles .ensures,
+      c .before .steps-per-temperature .ensures,
+    )
 
 pub polished-spec : {M : Type 1} → statement M
 polished-spec = tie.close (tie.spec damped-result-requires max-cooling-cycles-requires steps-per-temperature-requires mul-steps add-result returns)

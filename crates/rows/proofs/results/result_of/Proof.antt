@@ -31,8 +31,11 @@ returns c =
     let x = c .before .before .before .before .before .before .before .before .before .before .args .held in
     let r = rowFrom x in
     c .damped-result .ensures
-    ∙ ap (λ (h : RowHead). Damped.resultOf (dampedFrom (h .damped) (x .surfaces) (x .jacobian) (x .values) (x .residuals) (x .«plus_residuals») (x .params) (x .candidate))) (c .before .before .before .before .before .head-of .ensures)
-    ∙ ap (λ (m : Method). resultBy m (jobOfRow r) (stateOf r)) (sym (is-damped (kindFrom (x .words)) (settingsFrom (x .counts) (x .numbers)) (sym (c .before .before .before .kind .ensures) ∙ c .before .before .if1 .taken)))
+    ∙ ap (λ (h : RowHead). Damped.resultOf (dampedFrom (h .damped) (x .surfaces) (x .jacobian) (x .values) (x .residuals) (x .«plus_residuals») (x .params)
+    (x .candidate))) (c .before .before .before .before .before .head-of .ensures)
+    ∙ ap (λ (m : Method). resultBy m (jobOfRow r) (stateOf r))
+    (sym (is-damped (kindFrom (x .words)) (settingsFrom (x .counts) (x .numbers))
+    (sym (c .before .before .before .kind .ensures) ∙ c .before .before .if1 .taken)))
 
 best-result-requires : tie.Need-best-result-requires
 best-result-requires c κs = search needs
@@ -43,14 +46,18 @@ returns-2 c =
     let x = c .before .before .before .before .before .before .before .before .before .before .before .args .held in
     let r = rowFrom x in
     c .best-result .ensures
-    ∙ ap (λ (h : RowHead). resultFrom (h .best) (x .«best_surfaces») (x .«best_values») (x .«best_residuals»)) (c .before .before .before .before .before .before .head-of .ensures)
-    ∙ ap (λ (m : Method). resultBy m (jobOfRow r) (stateOf r)) (sym (is-multi-start (kindFrom (x .words)) (settingsFrom (x .counts) (x .numbers)) (sym (c .before .before .before .before .kind .ensures) ∙ c .before .before .if2 .taken)))
+    ∙ ap (λ (h : RowHead). resultFrom (h .best) (x .«best_surfaces») (x .«best_values») (x .«best_residuals»))
+    (c .before .before .before .before .before .before .head-of .ensures)
+    ∙ ap (λ (m : Method). resultBy m (jobOfRow r) (stateOf r))
+    (sym (is-multi-start (kindFrom (x .words)) (settingsFrom (x .counts) (x .numbers))
+    (sym (c .before .before .before .before .kind .ensures) ∙ c .before .before .if2 .taken)))
 
 polished-requires : tie.Need-polished-requires
 polished-requires c κs =
     let x = c .before .before .before .before .before .before .before .before .before .args .held in
     let pre = c .before .before .before .before .before .before .before .before .before .pre in
-    let m = is-annealing (kindFrom (x .words)) (settingsFrom (x .counts) (x .numbers)) (λ z. c .before .if1 .left (c .before .before .kind .ensures ∙ z)) (λ z. c .if2 .left (c .before .before .kind .ensures ∙ z)) in
+    let m = is-annealing (kindFrom (x .words)) (settingsFrom (x .counts) (x .numbers)) (λ z. c .before .if1 .left (c .before .before .kind .ensures ∙ z))
+    (λ z. c .if2 .left (c .before .before .kind .ensures ∙ z)) in
     let within = subst CountsWithin m (pre .0) in
     (within .0, within .1, rw (c .before .before .before .before .head-of .ensures) (pre .1))
 
@@ -62,8 +69,12 @@ returns-3 c =
     let s = settingsFrom (x .counts) (x .numbers) in
     let a = annealerOf (jobOfRow r) (annealingConfig s) in
     c .polished .ensures a refl
-    ∙ ap (λ (h : RowHead). withPrior a (h .best .«initial_merit») (Damped.resultOf (dampedFrom (h .damped) (x .surfaces) (x .jacobian) (x .values) (x .residuals) (x .«plus_residuals») (x .params) (x .candidate)))) (c .before .before .before .before .before .head-of .ensures)
-    ∙ ap (λ (m : Method). resultBy m (jobOfRow r) (stateOf r)) (sym (is-annealing (kindFrom (x .words)) s (λ z. c .before .before .if1 .left (c .before .before .before .kind .ensures ∙ z)) (λ z. c .before .if2 .left (c .before .before .before .kind .ensures ∙ z))))
+    ∙ ap (λ (h : RowHead). withPrior a (h .best .«initial_merit»)
+    (Damped.resultOf (dampedFrom (h .damped) (x .surfaces) (x .jacobian) (x .values) (x .residuals) (x .«plus_residuals») (x .params) (x .candidate))))
+    (c .before .before .before .before .before .head-of .ensures)
+    ∙ ap (λ (m : Method). resultBy m (jobOfRow r) (stateOf r))
+    (sym (is-annealing (kindFrom (x .words)) s (λ z. c .before .before .if1 .left (c .before .before .before .kind .ensures ∙ z))
+    (λ z. c .before .if2 .left (c .before .before .before .kind .ensures ∙ z))))
 
 pub result-of-spec : {M : Type 1} → statement M
 result-of-spec =

@@ -41,7 +41,12 @@ loop-less : tie.Need-loop-less Inv-loop μ-loop
 loop-less c = search needs
 
 loop-again : tie.Need-loop-again Inv-loop μ-loop
-loop-again c = (search needs, search needs, tab-step (λ (k : ℕ). zero64) (c .before .before .args .scratch .now) (c .before .loop .scratch) (c .before .loop .i) zero64 nan (c .before .loop .inv .2) refl (omega arith))
+loop-again c = (
+  search needs,
+  search needs,
+  tab-step (λ (k : ℕ). zero64) (c .before .before .args .scratch .now) (c .before .loop .scratch) (c .before .loop .i) zero64 nan
+      (c .before .loop .inv .2) refl (omega arith),
+)
 
 same-length : tie.Need-same-length Inv-loop μ-loop
 same-length c = search needs
@@ -49,7 +54,8 @@ same-length c = search needs
 returns : tie.Need-returns Inv-loop μ-loop
 returns c =
     let e : c .before .loop .i ≡ scratchLength = omega arith in
-    rw e at (c .before .loop .inv .2) ∙ ap (λ (zeros : List Float). zeros ++ drop scratchLength (c .before .before .args .scratch .now)) (same-zeros scratchLength)
+    rw e at (c .before .loop .inv .2) ∙ ap (λ (zeros : List Float). zeros ++ drop scratchLength (c .before .before .args .scratch .now))
+    (same-zeros scratchLength)
 
 pub zero-first-spec : {M : Type 1} → statement M
 zero-first-spec =

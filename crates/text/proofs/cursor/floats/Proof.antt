@@ -14,7 +14,8 @@ use Rattle.text.proofs.cursor.floats.Statement.{statement}
 use Rattle.text.proofs.cursor.floats.Tie as tie
 
 abbrev Inv-loop : tie.InvT-loop
-Inv-loop line row₀ n next₀ i₀ row next i = (i ≤ n) × (length row ≡ length row₀) × (next ≡ pastFloats line next₀ i) × (row ≡ tab (floatAt line next₀) i ++ drop i row₀)
+Inv-loop line row₀ n next₀ i₀ row next i =
+    (i ≤ n) × (length row ≡ length row₀) × (next ≡ pastFloats line next₀ i) × (row ≡ tab (floatAt line next₀) i ++ drop i row₀)
 
 abbrev μ-loop : tie.MeasureT-loop
 μ-loop line row₀ n next₀ i₀ row next i = n - i
@@ -49,7 +50,8 @@ loop-again c =
       search needs,
       search needs,
       ap (λ (r : FloatRead). r .next) read ∙ rw add-one,
-      tab-step (floatAt line from) (c .before .before .before .before .before .before .args .row .now) (c .before .before .before .loop .row) i (c .before .float .result .value) nan (inv .3) (ap (λ (r : FloatRead). r .value) read) (omega arith),
+      tab-step (floatAt line from) (c .before .before .before .before .before .before .args .row .now) (c .before .before .before .loop .row) i
+          (c .before .float .result .value) nan (inv .3) (ap (λ (r : FloatRead). r .value) read) (omega arith),
     )
 
 same-length : tie.Need-same-length Inv-loop μ-loop

@@ -68,13 +68,19 @@ moved-requires : tie.Need-moved-requires
 moved-requires c κs = search needs
 
 returns : tie.Need-returns
-returns c = past (c .before .before .before .before .before .before .before .args .line .now) (c .before .before .before .before .before .before .before .args .c) (c .before .before .before .before .before .before .before .args .name .now) (c .before .before .before .before .next-word .ensures .1 .1) (c .before .before .same .ensures .0 (c .before .if1 .taken)) (c .moved .ensures)
+returns c =
+    past (c .before .before .before .before .before .before .before .args .line .now) (c .before .before .before .before .before .before .before .args .c)
+    (c .before .before .before .before .before .before .before .args .name .now) (c .before .before .before .before .next-word .ensures .1 .1)
+    (c .before .before .same .ensures .0 (c .before .if1 .taken)) (c .moved .ensures)
 
 out-of-form-requires : tie.Need-out-of-form-requires
 out-of-form-requires c κs = search needs
 
 returns-2 : tie.Need-returns-2
-returns-2 c = not-past (c .before .before .before .before .before .before .before .args .line .now) (c .before .before .before .before .before .before .before .args .c) (c .before .before .before .before .before .before .before .args .name .now) (c .before .before .before .before .next-word .ensures .1 .1) (λ e. true≢false (sym (c .before .before .same .ensures .1 e) ∙ c .before .if1 .left)) (c .out-of-form .ensures)
+returns-2 c =
+    not-past (c .before .before .before .before .before .before .before .args .line .now) (c .before .before .before .before .before .before .before .args .c)
+    (c .before .before .before .before .before .before .before .args .name .now) (c .before .before .before .before .next-word .ensures .1 .1)
+    (λ e. true≢false (sym (c .before .before .same .ensures .1 e) ∙ c .before .if1 .left)) (c .out-of-form .ensures)
 
 pub tag-spec : {M : Type 1} → statement M
 tag-spec =

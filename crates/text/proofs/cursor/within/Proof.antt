@@ -23,8 +23,11 @@ module _ (low high : ℕ) (why : Why) (line : List ℕ) (from : Cursor) {r : Num
   in-range : r .next .«is_good» ≡ true → between low high (r .value) ≡ true → r ≡ withinFrom low high why line from
   in-range g b = subst (λ (n : NumberRead). r ≡ choice n) is (simp (g, b))
 
-  out-of-range : {d : Cursor} → r .next .«is_good» ≡ true → between low high (r .value) ≡ false → d ≡ outOfForm why from → record { value = r .value; next = d } ≡ withinFrom low high why line from
-  out-of-range {d} g b e = subst (λ (n : NumberRead). record { value = r .value; next = d } ≡ choice n) is (simp (g, b) (ap (λ (z : Cursor). record { value = r .value; next = z }) e))
+  out-of-range : {d : Cursor} → r .next .«is_good» ≡ true → between low high (r .value) ≡ false → d ≡ outOfForm why from → record { value = r .value; next = d }
+      ≡ withinFrom low high why line from
+  out-of-range {d} g b e =
+      subst (λ (n : NumberRead). record { value = r .value; next = d } ≡ choice n) is
+      (simp (g, b) (ap (λ (z : Cursor). record { value = r .value; next = z }) e))
 
 decimal-requires : tie.Need-decimal-requires
 decimal-requires c κs = search needs
@@ -40,7 +43,8 @@ is-between-requires c κs = search needs
 returns-2 : tie.Need-returns-2
 returns-2 c =
     let a = c .before .before .before .before .before .before .args in
-    in-range (a .low) (a .high) (a .why) (a .line .now) (a .c) (c .before .before .before .before .decimal .ensures) (not-false _ (c .before .before .if1 .left)) (sym (c .before .is-between .ensures) ∙ c .if2 .taken)
+    in-range (a .low) (a .high) (a .why) (a .line .now) (a .c) (c .before .before .before .before .decimal .ensures)
+    (not-false _ (c .before .before .if1 .left)) (sym (c .before .is-between .ensures) ∙ c .if2 .taken)
 
 out-of-form-requires : tie.Need-out-of-form-requires
 out-of-form-requires c κs = search needs
@@ -48,7 +52,8 @@ out-of-form-requires c κs = search needs
 returns-3 : tie.Need-returns-3
 returns-3 c =
     let a = c .before .before .before .before .before .before .before .args in
-    out-of-range (a .low) (a .high) (a .why) (a .line .now) (a .c) (c .before .before .before .before .before .decimal .ensures) (not-false _ (c .before .before .before .if1 .left)) (sym (c .before .before .is-between .ensures) ∙ c .before .if2 .left) (c .out-of-form .ensures)
+    out-of-range (a .low) (a .high) (a .why) (a .line .now) (a .c) (c .before .before .before .before .before .decimal .ensures)
+    (not-false _ (c .before .before .before .if1 .left)) (sym (c .before .before .is-between .ensures) ∙ c .before .if2 .left) (c .out-of-form .ensures)
 
 pub within-spec : {M : Type 1} → statement M
 within-spec =

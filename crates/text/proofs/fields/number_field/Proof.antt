@@ -41,12 +41,14 @@ enum-told c = search needs
 returns : tie.Need-returns
 returns c =
     let a = c .before .before .before .before .before .before .args in
-    field (a .base) (now (a .line)) (a .at) _ _ _ (c .before .before .before .before .next-word .ensures .1 .1) (c .before .before .number-in .ensures) (c .enum-told .given .1)
+    field (a .base) (now (a .line)) (a .at) _ _ _ (c .before .before .before .before .next-word .ensures .1 .1) (c .before .before .number-in .ensures)
+    (c .enum-told .given .1)
 
 returns-2 : tie.Need-returns-2
 returns-2 c =
     let a = c .before .before .before .before .before .before .before .args in
-    field (a .base) (now (a .line)) (a .at) _ _ _ (c .before .before .before .before .before .next-word .ensures .1 .1) (c .before .before .before .number-in .ensures) (c .before .x .given .1)
+    field (a .base) (now (a .line)) (a .at) _ _ _ (c .before .before .before .before .before .next-word .ensures .1 .1)
+    (c .before .before .before .number-in .ensures) (c .before .x .given .1)
 
 pub number-field-spec : {M : Type 1} → statement M
 number-field-spec =

@@ -18,10 +18,21 @@ sub-result : tie.Need-sub-result
 sub-result c = search needs
 
 returns : tie.Need-returns
-returns c = (rw (lt-ltb (c .before .before .before .args .from) (c .before .before .before .args .end) (c .before .before .if1 .taken), c .if2 .taken), omega arith, omega arith)
+returns c = (
+  rw (lt-ltb (c .before .before .before .args .from) (c .before .before .before .args .end) (c .before .before .if1 .taken), c .if2 .taken),
+  omega arith,
+  omega arith,
+)
 
 returns-2 : tie.Need-returns-2
-returns-2 c = (rw (lt-ltb (c .before .before .before .args .from) (c .before .before .before .args .end) (c .before .before .if1 .taken), ne-eqb (getD (now (c .before .before .before .args .buf)) (c .before .before .before .args .end - 1) 0) 13 (c .if2 .left)), omega arith, omega arith)
+returns-2 c = (
+  rw (
+    lt-ltb (c .before .before .before .args .from) (c .before .before .before .args .end) (c .before .before .if1 .taken),
+    ne-eqb (getD (now (c .before .before .before .args .buf)) (c .before .before .before .args .end - 1) 0) 13 (c .if2 .left),
+  ),
+  omega arith,
+  omega arith,
+)
 
 returns-3 : tie.Need-returns-3
 returns-3 c = (rw (le-ltb (c .before .args .from) (c .before .args .end) (c .if1 .left)), omega arith, omega arith)

@@ -27,7 +27,8 @@ module _ (buf : List ℕ) (from i : ℕ) (held : from + i ≤ length buf) where
   unchanged : getD (moved buf from i) (from + i) 0 ≡ getD (drop from buf) i 0
   unchanged =
       rw (getD-drop, add-comm from i)
-      (ap (λ (k : ℕ). getD (moved buf from i) (k + from) 0) (sym front-length) ∙ getD-append-add (take i (drop from buf)) (drop i buf) from 0 ∙ getD-drop i buf from 0)
+      (ap (λ (k : ℕ). getD (moved buf from i) (k + from) 0) (sym front-length) ∙ getD-append-add (take i (drop from buf)) (drop i buf) from 0
+      ∙ getD-drop i buf from 0)
 
   more : from + i < length buf → set (moved buf from i) i (getD (moved buf from i) (from + i) 0) ≡ moved buf from (i + 1)
   more h =
@@ -79,7 +80,8 @@ returns c =
     let l = c .before .loop in
     let e : l .i ≡ a .to - a .from = omega arith in
     ap (λ (b : List ℕ). take (a .to - a .from) b) (l .inv .2 ∙ ap (moved (now (a .buf)) (a .from)) e)
-    ∙ take-at (take (a .to - a .from) (drop (a .from) (now (a .buf)))) _ (a .to - a .from) (front-length (now (a .buf)) (a .from) (a .to - a .from) (omega arith))
+    ∙ take-at (take (a .to - a .from) (drop (a .from) (now (a .buf)))) _ (a .to - a .from)
+    (front-length (now (a .buf)) (a .from) (a .to - a .from) (omega arith))
 
 pub move-front-spec : {M : Type 1} → statement M
 move-front-spec =

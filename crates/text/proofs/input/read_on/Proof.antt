@@ -22,11 +22,27 @@ further t (suc n) = lt-ltb 0 (suc n) (omega arith) ∙ sym (lt-ltb t (t + suc n)
 
 module _ (buf : List ℕ) (input : Input) (left : List ℕ) {kept : Input} (e : kept ≡ roomed (length buf) input) (n : ℕ) (good : Bool) where
   is-read : take (kept .to) left ≡ heldBytes buf input
-      → ReadOn buf input left (record { from = 0; to = kept .to + n; number = kept .number; «is_cut» = kept .«is_cut»; «has_more» = ltb 0 n; «is_open» = good; «is_good» = good })
+      → ReadOn buf input left (record {
+        from = 0;
+        to = kept .to + n;
+        number = kept .number;
+        «is_cut» = kept .«is_cut»;
+        «has_more» = ltb 0 n;
+        «is_open» = good;
+        «is_good» = good;
+      })
   is-read k = record {
     kept = ap (λ (i : Input). take (i .to) left) (sym e) ∙ k;
     came = subst (λ (i : Input). i .to ≤ kept .to + n) e (omega arith);
-    rest = ap (λ (t : Bool). record { from = 0; to = kept .to + n; number = kept .number; «is_cut» = kept .«is_cut»; «has_more» = t; «is_open» = good; «is_good» = good }) (further (kept .to) n)
+    rest = ap (λ (t : Bool). record {
+      from = 0;
+      to = kept .to + n;
+      number = kept .number;
+      «is_cut» = kept .«is_cut»;
+      «has_more» = t;
+      «is_open» = good;
+      «is_good» = good;
+    }) (further (kept .to) n)
         ∙ ap (readTo (kept .to + n) good) e;
   }
 

@@ -19,7 +19,8 @@ module _ (buf : List ℕ) (input : Input) {r : Input} (left : List ℕ) where
       let full : fills (length buf) input ≡ true = eq-eqb _ _ f in
       (simp full e, simp full (ap (λ (i : Input). take (i .to) left) e))
 
-  kept : (input .to - input .from ≡ length buf → ⊥) → r ≡ placedAt (input .to - input .from) (input .«is_cut») input → take (input .to - input .from) left ≡ take (input .to - input .from) (drop (input .from) buf)
+  kept : (input .to - input .from ≡ length buf → ⊥) → r ≡ placedAt (input .to - input .from) (input .«is_cut») input → take (input .to - input .from) left
+      ≡ take (input .to - input .from) (drop (input .from) buf)
       → (r ≡ roomed (length buf) input) × (take (r .to) left ≡ heldBytes buf input)
   kept f e m =
       let free : fills (length buf) input ≡ false = ne-eqb _ _ f in
@@ -52,7 +53,8 @@ same-length c = search needs
 returns-2 : tie.Need-returns-2
 returns-2 c =
     let a = c .before .before .before .before .before .before .before .args in
-    let p = kept (now (a .buf)) (a .input) _ (c .before .before .before .before .before .if1 .left) (c .placed2 .ensures) (c .before .before .before .move-front .ensures) in
+    let p = kept (now (a .buf)) (a .input) _ (c .before .before .before .before .before .if1 .left) (c .placed2 .ensures)
+    (c .before .before .before .move-front .ensures) in
     ((p .0, rw (c .placed2 .ensures) (search needs)), p .1)
 
 pub with-room-spec : {M : Type 1} → statement M

@@ -78,7 +78,8 @@ returns-2 c =
     (over (a .base) (l .total) d (omega arith) (omega arith) (c .if2 .taken))) ∙ l .inv .1
 
 fits : (c : tie.Else2 Inv-loop μ-loop)
-    → c .before .before .before .before .before .loop .total * c .before .before .before .before .before .before .before .args .base + c .before .before .digit .result < 2 ^ 64
+    → c .before .before .before .before .before .loop .total * c .before .before .before .before .before .before .before .args .base
+    + c .before .before .digit .result < 2 ^ 64
 fits c =
     under (c .before .before .before .before .before .before .before .args .base) (c .before .before .before .before .before .loop .total)
     (c .before .before .digit .result) (omega arith) (omega arith) (c .if2 .left)
@@ -99,8 +100,11 @@ loop-again : tie.Need-loop-again Inv-loop μ-loop
 loop-again c =
     let a = c .before .before .before .before .before .before .before .args in
     let l = c .before .before .before .before .before .loop in
-    let d = c .before .before .digit .result in
-    (search needs, sym (goes-on (a .base) (l .total) d (now (a .text)) (l .i) (omega arith) (c .before .before .digit .ensures) (omega arith) (fits c)) ∙ l .inv .1)
+    let d = c .before .before .digit .result in (
+      search needs,
+      sym (goes-on (a .base) (l .total) d (now (a .text)) (l .i) (omega arith) (c .before .before .digit .ensures) (omega arith) (fits c))
+          ∙ l .inv .1,
+    )
 
 returns-3 : tie.Need-returns-3 Inv-loop μ-loop
 returns-3 c =

@@ -16,7 +16,8 @@ digits-value-requires c κs = search needs
 returns : tie.Need-returns
 returns c =
     let a = c .before .before .before .before .args in
-    c .digits-value .ensures ∙ ap (λ (t : Bool). ifGood t (digitsFrom (a .base) 0 (now (a .text)))) (sym (c .before .if1 .taken) ∙ c .before .before .is-long .ensures)
+    c .digits-value .ensures ∙ ap (λ (t : Bool). ifGood t (digitsFrom (a .base) 0 (now (a .text))))
+    (sym (c .before .if1 .taken) ∙ c .before .before .is-long .ensures)
 
 returns-2 : tie.Need-returns-2
 returns-2 c =

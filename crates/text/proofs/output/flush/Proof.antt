@@ -24,7 +24,8 @@ returns : tie.Need-returns
 returns c =
     let a = c .before .before .before .before .args in
     let l = c .before .before .least in
-    subst (λ (n : ℕ). Written n (a .waiting) (c .written .result)) (length-take-le (l .result) (now (a .out)) (omega (arith, l .ensures)) ∙ l .ensures) (c .written .ensures)
+    subst (λ (n : ℕ). Written n (a .waiting) (c .written .result)) (length-take-le (l .result) (now (a .out)) (omega (arith, l .ensures)) ∙ l .ensures)
+    (c .written .ensures)
 
 pub flush-spec : {M : Type 1} → statement M
 flush-spec = tie.close (tie.spec least-requires slice-aggregate-written written-requires returns)

@@ -44,7 +44,8 @@ one-text text = omega arith
 
 -- what was written, and the text that waits now in a buffer that it had to be emptied for
 module _ (w : Waiting) (out text : List ℕ) (r : Waiting) (left : List ℕ) where
-  emptied : (n : ℕ) → r .bytes ≡ n → take n left ≡ after (w .bytes) out (text ∷ []) → length out < length (take (w .bytes) out) + length text → Onward w r → Put w out (text ∷ []) r left
+  emptied : (n : ℕ) → r .bytes ≡ n → take n left ≡ after (w .bytes) out (text ∷ []) → length out < length (take (w .bytes) out) + length text → Onward w r
+      → Put w out (text ∷ []) r left
   emptied n is e h o =
       let long = one-text text in
       record { held = ap (λ (m : ℕ). take m left) is ∙ e; fits = λ k. absurd (omega (arith, h, k, long)); onward = o }
@@ -106,7 +107,8 @@ returns-2 c =
       rw n (search needs),
       emptied (a .waiting) (now (a .out)) (now (a .text)) (c .with-bytes .result) _ (k .result) n
           (put-front (now (a .text)) _ _ (k .result) (k .ensures .1) (k .ensures .0)
-          ∙ sym (alone (a .waiting .bytes) (now (a .out)) (now (a .text)) (omega arith) (omega arith))) (omega arith) (onward-then (f .onward) (same-lines (k .result) is)),
+          ∙ sym (alone (a .waiting .bytes) (now (a .out)) (now (a .text)) (omega arith) (omega arith))) (omega arith)
+          (onward-then (f .onward) (same-lines (k .result) is)),
     )
 
 sub-copy : tie.Need-sub-copy

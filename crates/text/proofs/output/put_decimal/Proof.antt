@@ -64,8 +64,11 @@ returns : tie.Need-returns
 returns c =
     let a = c .before .before .before .before .before .before .before .before .args in
     let d = c .before .before .before .before .before .decimal in
-    let p = c .before .before .put in
-    (p .ensures .0, put-as (ap (λ (text : List ℕ). text ∷ []) (all-digits (a .x) (d .result) _ (d .ensures .1 .0) (search needs) (d .ensures .1 .1))) (p .ensures .1))
+    let p = c .before .before .put in (
+      p .ensures .0,
+      put-as (ap (λ (text : List ℕ). text ∷ []) (all-digits (a .x) (d .result) _ (d .ensures .1 .0) (search needs) (d .ensures .1 .1)))
+          (p .ensures .1),
+    )
 
 pub put-decimal-spec : {M : Type 1} → statement M
 put-decimal-spec =

@@ -49,8 +49,11 @@ same-length-2 c = search needs
 returns-2 : tie.Need-returns-2
 returns-2 c =
     let a = c .before .before .before .before .before .before .args in
-    let p = c .before .before .put-hex in
-    (p .ensures .0, put-as (ap (λ (text : List ℕ). text ∷ []) (number-text (a .x) (is-number (a .x) (c .before .before .before .before .if1 .left)))) (p .ensures .1))
+    let p = c .before .before .put-hex in (
+      p .ensures .0,
+      put-as (ap (λ (text : List ℕ). text ∷ []) (number-text (a .x) (is-number (a .x) (c .before .before .before .before .if1 .left))))
+          (p .ensures .1),
+    )
 
 pub put-float-spec : {M : Type 1} → statement M
 put-float-spec =

@@ -12,7 +12,8 @@ use Rattle.text.proofs.output.put_floats.Statement.{statement}
 use Rattle.text.proofs.output.put_floats.Tie as tie
 
 abbrev Inv-loop : tie.InvT-loop
-Inv-loop out₀ row held₀ i₀ t6 out held i = (i ≤ length row) × (length out ≡ length out₀) × (held .bytes ≤ length out) × Put held₀ out₀ (floatTexts (take i row)) held out
+Inv-loop out₀ row held₀ i₀ t6 out held i =
+    (i ≤ length row) × (length out ≡ length out₀) × (held .bytes ≤ length out) × Put held₀ out₀ (floatTexts (take i row)) held out
 
 abbrev μ-loop : tie.MeasureT-loop
 μ-loop out₀ row held₀ i₀ t6 out held i = length row - i

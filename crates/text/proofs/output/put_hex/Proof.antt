@@ -47,8 +47,11 @@ returns : tie.Need-returns
 returns c =
     let a = c .before .before .before .before .before .before .before .before .args in
     let h = c .before .before .before .before .before .hex in
-    let p = c .before .before .put in
-    (p .ensures .0, put-as (ap (λ (text : List ℕ). text ∷ []) (all-digits (a .x) (h .result) _ (sixteen (a .x) (h .result) (search needs) (h .ensures .1 .0)) (h .ensures .1 .1))) (p .ensures .1))
+    let p = c .before .before .put in (
+      p .ensures .0,
+      put-as (ap (λ (text : List ℕ). text ∷ []) (all-digits (a .x) (h .result) _ (sixteen (a .x) (h .result) (search needs) (h .ensures .1 .0))
+          (h .ensures .1 .1))) (p .ensures .1),
+    )
 
 pub put-hex-spec : {M : Type 1} → statement M
 put-hex-spec =

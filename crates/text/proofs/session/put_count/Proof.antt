@@ -14,7 +14,8 @@ same-length : tie.Need-same-length
 same-length c = search needs
 
 returns : tie.Need-returns
-returns c = (search needs, then (c .before .before .before .before .before .before .put-decimal .ensures .1) (c .before .before .put .ensures .1) (search needs))
+returns c =
+    (search needs, then (c .before .before .before .before .before .before .put-decimal .ensures .1) (c .before .before .put .ensures .1) (search needs))
 
 pub put-count-spec : {M : Type 1} → statement M
 put-count-spec = tie.close (tie.spec put-decimal-requires put-requires same-length returns)

@@ -33,8 +33,11 @@ same-length c = search needs
 
 returns : tie.Need-returns
 returns c =
-    let start = c .before .before .before .before .before .before .before .before .before .before .before .before .before .before .before .before .before .put .ensures .1 in
-    let lines = then start (c .before .before .before .before .before .before .before .before .before .before .before .before .put-count .ensures .1) (search needs) in
+    let start =
+    c .before .before .before .before .before .before .before .before .before .before .before .before .before .before .before .before .before .put .ensures
+    .1 in
+    let lines = then start (c .before .before .before .before .before .before .before .before .before .before .before .before .put-count .ensures .1)
+    (search needs) in
     let refused = then lines (c .before .before .before .before .before .before .before .put-count2 .ensures .1) (search needs) in
     (search needs, then refused (c .before .before .put-count3 .ensures .1) (search needs))
 

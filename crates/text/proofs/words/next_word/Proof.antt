@@ -26,8 +26,14 @@ skip-requires-2 c κs = search needs
 
 returns : tie.Need-returns
 returns c =
-    let a = c .before .before .before .before .args in
-    (search needs, (search needs, found (now (a .line)) (a .at) _ _ _ (c .before .before .least .ensures) (c .before .skip .ensures .1 .1) (c .skip2 .ensures .1 .1)))
+    let a = c .before .before .before .before .args in (
+      search needs,
+      (
+        search needs,
+        found (now (a .line)) (a .at) _ _ _ (c .before .before .least .ensures) (c .before .skip .ensures .1 .1)
+            (c .skip2 .ensures .1 .1),
+      ),
+    )
 
 pub next-word-spec : {M : Type 1} → statement M
 next-word-spec = tie.close (tie.spec least-requires skip-requires skip-requires-2 returns)

@@ -19,7 +19,8 @@ module _ (line : List ℕ) (at : ℕ) where
   part = take at line
 
   -- one byte further
-  step : (between blank : Bool) (i : ℕ) → i < min at (length line) → blank ≡ isBlank (getD line i 0) → begun between (drop i part) ≡ begins between blank + begun blank (drop (i + 1) part)
+  step : (between blank : Bool) (i : ℕ) → i < min at (length line) → blank ≡ isBlank (getD line i 0) → begun between (drop i part)
+      ≡ begins between blank + begun blank (drop (i + 1) part)
   unfolding begun
   step between blank i h is =
       let inside : i < length part = rw (length-take at line) (omega (arith, h)) in

@@ -31,8 +31,15 @@ unfolding Annealing.advance Annealing.phaseOf
 returns c =
     let x = c .before .before .before .before .before .before .before .before .before .before .before .before .before .before .before .before .args in
     let a = (annealerOf (heldJob (x .counts .now) (x .numbers .now) 3) (annealingConfig (settingsFrom (x .counts .now) (x .numbers .now)))) in (
-      λ k lens w. c .advance-walk-first .ensures a (sym (c .before .before .before .before .before .before .before .before .before .before .before .before .before .annealing-config .ensures)) refl (x .h) (evaluateOf (heldJob (x .counts .now) (x .numbers .now) k) lens) (sym (c .before .before .before .before .before .before .before .before .before .before .before .merit-of .ensures k lens w))
-          ∙ ap (λ (n : ℕ). Annealing.advanceAt a (Annealing.phaseOf n) (stateFrom (x .h) (x .surfaces .now) (x .jacobian .now) (x .values .now) (x .residuals .now) (x .plus-residuals .now) (x .params .now) (x .candidate .now) (x .best-surfaces .now) (x .best-values .now) (x .best-residuals .now)) (evaluateOf (heldJob (x .counts .now) (x .numbers .now) k) lens)) (sym (c .before .before .before .before .before .before .before .before .before .before .before .before .if1 .taken)),
+      λ k lens w. c .advance-walk-first .ensures a
+          (sym (c .before .before .before .before .before .before .before .before .before .before .before .before .before .annealing-config .ensures)) refl
+          (x .h) (evaluateOf (heldJob (x .counts .now) (x .numbers .now) k) lens)
+          (sym (c .before .before .before .before .before .before .before .before .before .before .before .merit-of .ensures k lens w))
+          ∙ ap (λ (n : ℕ). Annealing.advanceAt a (Annealing.phaseOf n)
+          (stateFrom (x .h) (x .surfaces .now) (x .jacobian .now) (x .values .now) (x .residuals .now) (x .plus-residuals .now) (x .params .now)
+          (x .candidate .now) (x .best-surfaces .now) (x .best-values .now) (x .best-residuals .now))
+          (evaluateOf (heldJob (x .counts .now) (x .numbers .now) k) lens))
+          (sym (c .before .before .before .before .before .before .before .before .before .before .before .before .if1 .taken)),
       kept-same (x .scratch .now),
     )
 
@@ -47,8 +54,15 @@ unfolding Annealing.advance Annealing.phaseOf
 returns-2 c =
     let x = c .before .before .before .before .before .before .before .before .before .before .before .before .before .before .before .before .before .args in
     let a = (annealerOf (heldJob (x .counts .now) (x .numbers .now) 3) (annealingConfig (settingsFrom (x .counts .now) (x .numbers .now)))) in (
-      λ k lens w. c .advance-walk .ensures a (sym (c .before .before .before .before .before .before .before .before .before .before .before .before .before .before .annealing-config .ensures)) refl (evaluateOf (heldJob (x .counts .now) (x .numbers .now) k) lens) (sym (c .before .before .before .before .before .before .before .before .before .before .before .merit-of2 .ensures k lens w))
-          ∙ ap (λ (n : ℕ). Annealing.advanceAt a (Annealing.phaseOf n) (stateFrom (x .h) (x .surfaces .now) (x .jacobian .now) (x .values .now) (x .residuals .now) (x .plus-residuals .now) (x .params .now) (x .candidate .now) (x .best-surfaces .now) (x .best-values .now) (x .best-residuals .now)) (evaluateOf (heldJob (x .counts .now) (x .numbers .now) k) lens)) (sym (c .before .before .before .before .before .before .before .before .before .before .before .before .if2 .taken)),
+      λ k lens w. c .advance-walk .ensures a
+          (sym (c .before .before .before .before .before .before .before .before .before .before .before .before .before .before .annealing-config .ensures))
+          refl (evaluateOf (heldJob (x .counts .now) (x .numbers .now) k) lens)
+          (sym (c .before .before .before .before .before .before .before .before .before .before .before .merit-of2 .ensures k lens w))
+          ∙ ap (λ (n : ℕ). Annealing.advanceAt a (Annealing.phaseOf n)
+          (stateFrom (x .h) (x .surfaces .now) (x .jacobian .now) (x .values .now) (x .residuals .now) (x .plus-residuals .now) (x .params .now)
+          (x .candidate .now) (x .best-surfaces .now) (x .best-values .now) (x .best-residuals .now))
+          (evaluateOf (heldJob (x .counts .now) (x .numbers .now) k) lens))
+          (sym (c .before .before .before .before .before .before .before .before .before .before .before .before .if2 .taken)),
       kept-same (x .scratch .now),
     )
 
@@ -68,8 +82,19 @@ returns-3 c =
     let a = (annealerOf (heldJob (x .counts .now) (x .numbers .now) 3) (annealingConfig (settingsFrom (x .counts .now) (x .numbers .now)))) in
     let p = c .before .before .advance-part .ensures in (
       λ k lens w. p .0 k lens w (x .best-surfaces .now) (x .best-values .now) (x .best-residuals .now)
-          ∙ ap (λ (l : DlsConfig). withDamped (stateFrom (x .h) (x .surfaces .now) (x .jacobian .now) (x .values .now) (x .residuals .now) (x .plus-residuals .now) (x .params .now) (x .candidate .now) (x .best-surfaces .now) (x .best-values .now) (x .best-residuals .now)) (Damped.advance (optimizer l (variablesFrom (x .counts .now) (x .numbers .now)) (operandCountFrom (x .counts .now))) (dampedFrom (x .h .damped) (x .surfaces .now) (x .jacobian .now) (x .values .now) (x .residuals .now) (x .plus-residuals .now) (x .params .now) (x .candidate .now)) (evaluateOf (heldJob (x .counts .now) (x .numbers .now) k) lens))) (c .before .before .before .before .before .before .before .before .before .before .before .polish-settings .ensures)
-          ∙ ap (λ (f : Annealing.Phase). Annealing.advanceAt a f (stateFrom (x .h) (x .surfaces .now) (x .jacobian .now) (x .values .now) (x .residuals .now) (x .plus-residuals .now) (x .params .now) (x .candidate .now) (x .best-surfaces .now) (x .best-values .now) (x .best-residuals .now)) (evaluateOf (heldJob (x .counts .now) (x .numbers .now) k) lens)) (sym (polish-phase (x .h .damped .phase) (c .before .before .before .before .before .before .before .before .before .before .before .before .before .if1 .left) (c .before .before .before .before .before .before .before .before .before .before .before .before .if2 .left))),
+          ∙ ap (λ (l : DlsConfig). withDamped (stateFrom (x .h) (x .surfaces .now) (x .jacobian .now) (x .values .now) (x .residuals .now)
+          (x .plus-residuals .now) (x .params .now) (x .candidate .now) (x .best-surfaces .now) (x .best-values .now) (x .best-residuals .now))
+          (Damped.advance (optimizer l (variablesFrom (x .counts .now) (x .numbers .now)) (operandCountFrom (x .counts .now)))
+          (dampedFrom (x .h .damped) (x .surfaces .now) (x .jacobian .now) (x .values .now) (x .residuals .now) (x .plus-residuals .now) (x .params .now)
+          (x .candidate .now)) (evaluateOf (heldJob (x .counts .now) (x .numbers .now) k) lens)))
+          (c .before .before .before .before .before .before .before .before .before .before .before .polish-settings .ensures)
+          ∙ ap (λ (f : Annealing.Phase). Annealing.advanceAt a f
+          (stateFrom (x .h) (x .surfaces .now) (x .jacobian .now) (x .values .now) (x .residuals .now) (x .plus-residuals .now) (x .params .now)
+          (x .candidate .now) (x .best-surfaces .now) (x .best-values .now) (x .best-residuals .now))
+          (evaluateOf (heldJob (x .counts .now) (x .numbers .now) k) lens))
+          (sym (polish-phase (x .h .damped .phase)
+          (c .before .before .before .before .before .before .before .before .before .before .before .before .before .if1 .left)
+          (c .before .before .before .before .before .before .before .before .before .before .before .before .if2 .left))),
       p .1,
     )
 

@@ -29,8 +29,18 @@ returns c =
     let x = c .before .before .before .before .before .before .before .before .before .before .before .before .before .before .before .args in
     let a = c .before .before .advance-part .ensures in (
       λ k lens w. a .0 k lens w (x .best-surfaces .now) (x .best-values .now) (x .best-residuals .now)
-          ∙ ap (λ (l : DlsConfig). withDamped (stateFrom (x .h) (x .surfaces .now) (x .jacobian .now) (x .values .now) (x .residuals .now) (x .plus-residuals .now) (x .params .now) (x .candidate .now) (x .best-surfaces .now) (x .best-values .now) (x .best-residuals .now)) (Damped.advance (optimizer l (variablesFrom (x .counts .now) (x .numbers .now)) (operandCountFrom (x .counts .now))) (dampedFrom (x .h .damped) (x .surfaces .now) (x .jacobian .now) (x .values .now) (x .residuals .now) (x .plus-residuals .now) (x .params .now) (x .candidate .now)) (evaluateOf (heldJob (x .counts .now) (x .numbers .now) k) lens))) (c .before .before .before .before .before .before .before .before .before .before .before .dls-config .ensures)
-          ∙ ap (λ (m : Method). advanceBy m (heldJob (x .counts .now) (x .numbers .now) (x .kind)) (stateFrom (x .h) (x .surfaces .now) (x .jacobian .now) (x .values .now) (x .residuals .now) (x .plus-residuals .now) (x .params .now) (x .candidate .now) (x .best-surfaces .now) (x .best-values .now) (x .best-residuals .now)) (evaluateOf (heldJob (x .counts .now) (x .numbers .now) k) lens)) (sym (is-damped (x .kind) (settingsFrom (x .counts .now) (x .numbers .now)) (c .before .before .before .before .before .before .before .before .before .before .before .before .if1 .taken))),
+          ∙ ap (λ (l : DlsConfig). withDamped (stateFrom (x .h) (x .surfaces .now) (x .jacobian .now) (x .values .now) (x .residuals .now)
+          (x .plus-residuals .now) (x .params .now) (x .candidate .now) (x .best-surfaces .now) (x .best-values .now) (x .best-residuals .now))
+          (Damped.advance (optimizer l (variablesFrom (x .counts .now) (x .numbers .now)) (operandCountFrom (x .counts .now)))
+          (dampedFrom (x .h .damped) (x .surfaces .now) (x .jacobian .now) (x .values .now) (x .residuals .now) (x .plus-residuals .now) (x .params .now)
+          (x .candidate .now)) (evaluateOf (heldJob (x .counts .now) (x .numbers .now) k) lens)))
+          (c .before .before .before .before .before .before .before .before .before .before .before .dls-config .ensures)
+          ∙ ap (λ (m : Method). advanceBy m (heldJob (x .counts .now) (x .numbers .now) (x .kind))
+          (stateFrom (x .h) (x .surfaces .now) (x .jacobian .now) (x .values .now) (x .residuals .now) (x .plus-residuals .now) (x .params .now)
+          (x .candidate .now) (x .best-surfaces .now) (x .best-values .now) (x .best-residuals .now))
+          (evaluateOf (heldJob (x .counts .now) (x .numbers .now) k) lens))
+          (sym (is-damped (x .kind) (settingsFrom (x .counts .now) (x .numbers .now))
+          (c .before .before .before .before .before .before .before .before .before .before .before .before .if1 .taken))),
       a .1,
     )
 
@@ -43,10 +53,16 @@ same-length-2 c = search needs
 returns-2 : tie.Need-returns-2
 unfolding advanceBy
 returns-2 c =
-    let x = c .before .before .before .before .before .before .before .before .before .before .before .before .before .before .before .before .before .before .args in
+    let x = c .before .before .before .before .before .before .before .before .before .before .before .before .before .before .before .before .before .before
+    .args in
     let a = c .before .before .advance-trials .ensures in (
       λ k lens w. a .0 k lens w
-          ∙ ap (λ (m : Method). advanceBy m (heldJob (x .counts .now) (x .numbers .now) (x .kind)) (stateFrom (x .h) (x .surfaces .now) (x .jacobian .now) (x .values .now) (x .residuals .now) (x .plus-residuals .now) (x .params .now) (x .candidate .now) (x .best-surfaces .now) (x .best-values .now) (x .best-residuals .now)) (evaluateOf (heldJob (x .counts .now) (x .numbers .now) k) lens)) (sym (is-multi-start (x .kind) (settingsFrom (x .counts .now) (x .numbers .now)) (c .before .before .before .before .before .before .before .before .before .before .before .before .before .before .if2 .taken))),
+          ∙ ap (λ (m : Method). advanceBy m (heldJob (x .counts .now) (x .numbers .now) (x .kind))
+          (stateFrom (x .h) (x .surfaces .now) (x .jacobian .now) (x .values .now) (x .residuals .now) (x .plus-residuals .now) (x .params .now)
+          (x .candidate .now) (x .best-surfaces .now) (x .best-values .now) (x .best-residuals .now))
+          (evaluateOf (heldJob (x .counts .now) (x .numbers .now) k) lens))
+          (sym (is-multi-start (x .kind) (settingsFrom (x .counts .now) (x .numbers .now))
+          (c .before .before .before .before .before .before .before .before .before .before .before .before .before .before .if2 .taken))),
       a .1,
     )
 
@@ -59,10 +75,17 @@ same-length-3 c = search needs
 returns-3 : tie.Need-returns-3
 unfolding advanceBy
 returns-3 c =
-    let x = c .before .before .before .before .before .before .before .before .before .before .before .before .before .before .before .before .before .before .args in
+    let x = c .before .before .before .before .before .before .before .before .before .before .before .before .before .before .before .before .before .before
+    .args in
     let a = c .before .before .advance-annealing .ensures in (
       λ k lens w. a .0 k lens w
-          ∙ ap (λ (m : Method). advanceBy m (heldJob (x .counts .now) (x .numbers .now) (x .kind)) (stateFrom (x .h) (x .surfaces .now) (x .jacobian .now) (x .values .now) (x .residuals .now) (x .plus-residuals .now) (x .params .now) (x .candidate .now) (x .best-surfaces .now) (x .best-values .now) (x .best-residuals .now)) (evaluateOf (heldJob (x .counts .now) (x .numbers .now) k) lens)) (sym (is-annealing (x .kind) (settingsFrom (x .counts .now) (x .numbers .now)) (c .before .before .before .before .before .before .before .before .before .before .before .before .before .before .before .if1 .left) (c .before .before .before .before .before .before .before .before .before .before .before .before .before .before .if2 .left))),
+          ∙ ap (λ (m : Method). advanceBy m (heldJob (x .counts .now) (x .numbers .now) (x .kind))
+          (stateFrom (x .h) (x .surfaces .now) (x .jacobian .now) (x .values .now) (x .residuals .now) (x .plus-residuals .now) (x .params .now)
+          (x .candidate .now) (x .best-surfaces .now) (x .best-values .now) (x .best-residuals .now))
+          (evaluateOf (heldJob (x .counts .now) (x .numbers .now) k) lens))
+          (sym (is-annealing (x .kind) (settingsFrom (x .counts .now) (x .numbers .now))
+          (c .before .before .before .before .before .before .before .before .before .before .before .before .before .before .before .if1 .left)
+          (c .before .before .before .before .before .before .before .before .before .before .before .before .before .before .if2 .left))),
       a .1,
     )
 

@@ -24,8 +24,13 @@ returns : tie.Need-returns
 unfolding Annealing.pending Annealing.pendingAt Annealing.phaseOf
 returns c =
     let x = c .before .before .before .before .before .before .before .before .before .before .args in
-    let p = c .before .before .copy .ensures in
-    (λ a ev j v r e bs bv br. p .0 ∙ ap (λ (k : ℕ). Annealing.pendingAt a (Annealing.phaseOf k) (stateFrom (x .h) (x .surfaces .now) j v r e (x .params .now) (x .candidate .now) bs bv br)) (sym (c .before .before .before .before .before .if1 .taken)), p .1)
+    let p = c .before .before .copy .ensures in (
+      λ a ev j v r e bs bv br. p .0
+          ∙ ap (λ (k : ℕ). Annealing.pendingAt a (Annealing.phaseOf k)
+          (stateFrom (x .h) (x .surfaces .now) j v r e (x .params .now) (x .candidate .now) bs bv br))
+          (sym (c .before .before .before .before .before .if1 .taken)),
+      p .1,
+    )
 
 lay-applied-requires : tie.Need-lay-applied-requires
 lay-applied-requires c κs = search needs
@@ -40,7 +45,9 @@ returns-2 c =
     let p = c .before .before .lay-applied .ensures in (
       λ a ev j v r e bs bv br. p .0
           ∙ ap (λ (q : VariableSet). applied q (x .candidate .now) (standing (x .surfaces .now))) (sym ev)
-          ∙ ap (λ (k : ℕ). Annealing.pendingAt a (Annealing.phaseOf k) (stateFrom (x .h) (x .surfaces .now) j v r e (x .params .now) (x .candidate .now) bs bv br)) (sym (c .before .before .before .before .before .before .if2 .taken)),
+          ∙ ap (λ (k : ℕ). Annealing.pendingAt a (Annealing.phaseOf k)
+          (stateFrom (x .h) (x .surfaces .now) j v r e (x .params .now) (x .candidate .now) bs bv br))
+          (sym (c .before .before .before .before .before .before .if2 .taken)),
       p .1,
     )
 
@@ -59,8 +66,11 @@ returns-3 c =
     let x = c .before .before .before .before .before .before .before .before .before .before .before .before .args in
     let p = c .before .before .pending-damped .ensures in (
       λ a ev j v r e bs bv br. p .0 (a .operandCount) j v r e
-          ∙ (λ i. Damped.pending (optimizer (c .before .before .before .before .polish-settings .ensures i) (sym ev i) (a .operandCount)) (dampedFrom (x .h .damped) (x .surfaces .now) j v r e (x .params .now) (x .candidate .now)))
-          ∙ ap (λ (f : Annealing.Phase). Annealing.pendingAt a f (stateFrom (x .h) (x .surfaces .now) j v r e (x .params .now) (x .candidate .now) bs bv br)) (sym (polish-phase (x .h .damped .phase) (c .before .before .before .before .before .before .before .if1 .left) (c .before .before .before .before .before .if2 .left))),
+          ∙ (λ i. Damped.pending (optimizer (c .before .before .before .before .polish-settings .ensures i) (sym ev i) (a .operandCount))
+          (dampedFrom (x .h .damped) (x .surfaces .now) j v r e (x .params .now) (x .candidate .now)))
+          ∙ ap (λ (f : Annealing.Phase). Annealing.pendingAt a f (stateFrom (x .h) (x .surfaces .now) j v r e (x .params .now) (x .candidate .now) bs bv br))
+          (sym (polish-phase (x .h .damped .phase) (c .before .before .before .before .before .before .before .if1 .left)
+          (c .before .before .before .before .before .if2 .left))),
       p .1,
     )
 

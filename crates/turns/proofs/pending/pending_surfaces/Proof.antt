@@ -28,8 +28,12 @@ unfolding pendingBy
 returns c =
     let x = c .before .before .before .before .before .before .before .before .before .args in (
       λ j v r e bs bv br. c .before .before .pending-damped .ensures .0 (operandCountFrom (x .counts .now)) j v r e
-          ∙ ap (λ (k : DlsConfig). Damped.pending (optimizer k (variablesFrom (x .counts .now) (x .numbers .now)) (operandCountFrom (x .counts .now))) (dampedFrom (x .h .damped) (x .surfaces .now) j v r e (x .params .now) (x .candidate .now))) (c .before .before .before .before .before .dls-config .ensures)
-          ∙ ap (λ (m : Method). pendingBy m (heldJob (x .counts .now) (x .numbers .now) (x .kind)) (stateFrom (x .h) (x .surfaces .now) j v r e (x .params .now) (x .candidate .now) bs bv br)) (sym (is-damped (x .kind) (settingsFrom (x .counts .now) (x .numbers .now)) (c .before .before .before .before .if1 .taken))),
+          ∙ ap (λ (k : DlsConfig). Damped.pending (optimizer k (variablesFrom (x .counts .now) (x .numbers .now)) (operandCountFrom (x .counts .now)))
+          (dampedFrom (x .h .damped) (x .surfaces .now) j v r e (x .params .now) (x .candidate .now)))
+          (c .before .before .before .before .before .dls-config .ensures)
+          ∙ ap (λ (m : Method). pendingBy m (heldJob (x .counts .now) (x .numbers .now) (x .kind))
+          (stateFrom (x .h) (x .surfaces .now) j v r e (x .params .now) (x .candidate .now) bs bv br))
+          (sym (is-damped (x .kind) (settingsFrom (x .counts .now) (x .numbers .now)) (c .before .before .before .before .if1 .taken))),
       c .before .before .pending-damped .ensures .1,
     )
 
@@ -44,8 +48,12 @@ unfolding pendingBy
 returns-2 c =
     let x = c .before .before .before .before .before .before .before .before .before .before .args in (
       λ j v r e bs bv br. c .before .before .pending-damped2 .ensures .0 (operandCountFrom (x .counts .now)) j v r e
-          ∙ ap (λ (k : DlsConfig). Damped.pending (optimizer k (variablesFrom (x .counts .now) (x .numbers .now)) (operandCountFrom (x .counts .now))) (dampedFrom (x .h .damped) (x .surfaces .now) j v r e (x .params .now) (x .candidate .now))) (c .before .before .before .before .before .before .dls-config .ensures)
-          ∙ ap (λ (m : Method). pendingBy m (heldJob (x .counts .now) (x .numbers .now) (x .kind)) (stateFrom (x .h) (x .surfaces .now) j v r e (x .params .now) (x .candidate .now) bs bv br)) (sym (is-multi-start (x .kind) (settingsFrom (x .counts .now) (x .numbers .now)) (c .before .before .before .before .if2 .taken))),
+          ∙ ap (λ (k : DlsConfig). Damped.pending (optimizer k (variablesFrom (x .counts .now) (x .numbers .now)) (operandCountFrom (x .counts .now)))
+          (dampedFrom (x .h .damped) (x .surfaces .now) j v r e (x .params .now) (x .candidate .now)))
+          (c .before .before .before .before .before .before .dls-config .ensures)
+          ∙ ap (λ (m : Method). pendingBy m (heldJob (x .counts .now) (x .numbers .now) (x .kind))
+          (stateFrom (x .h) (x .surfaces .now) j v r e (x .params .now) (x .candidate .now) bs bv br))
+          (sym (is-multi-start (x .kind) (settingsFrom (x .counts .now) (x .numbers .now)) (c .before .before .before .before .if2 .taken))),
       c .before .before .pending-damped2 .ensures .1,
     )
 
@@ -59,8 +67,13 @@ returns-3 : tie.Need-returns-3
 unfolding pendingBy
 returns-3 c =
     let x = c .before .before .before .before .before .before .before .before .before .before .args in (
-      λ j v r e bs bv br. c .before .before .pending-annealing .ensures .0 (annealerOf (heldJob (x .counts .now) (x .numbers .now) (x .kind)) (annealingConfig (settingsFrom (x .counts .now) (x .numbers .now)))) refl j v r e bs bv br
-          ∙ ap (λ (m : Method). pendingBy m (heldJob (x .counts .now) (x .numbers .now) (x .kind)) (stateFrom (x .h) (x .surfaces .now) j v r e (x .params .now) (x .candidate .now) bs bv br)) (sym (is-annealing (x .kind) (settingsFrom (x .counts .now) (x .numbers .now)) (c .before .before .before .before .before .if1 .left) (c .before .before .before .before .if2 .left))),
+      λ j v r e bs bv br. c .before .before .pending-annealing .ensures .0
+          (annealerOf (heldJob (x .counts .now) (x .numbers .now) (x .kind)) (annealingConfig (settingsFrom (x .counts .now) (x .numbers .now)))) refl j v r e
+          bs bv br
+          ∙ ap (λ (m : Method). pendingBy m (heldJob (x .counts .now) (x .numbers .now) (x .kind))
+          (stateFrom (x .h) (x .surfaces .now) j v r e (x .params .now) (x .candidate .now) bs bv br))
+          (sym (is-annealing (x .kind) (settingsFrom (x .counts .now) (x .numbers .now)) (c .before .before .before .before .before .if1 .left)
+          (c .before .before .before .before .if2 .left))),
       c .before .before .pending-annealing .ensures .1,
     )
 

@@ -15,10 +15,20 @@ is-within-requires-2 : tie.Need-is-within-requires-2
 is-within-requires-2 c κs = search needs
 
 returns-2 : tie.Need-returns-2
-returns-2 c = simp (sym (c .before .before .before .is-within .ensures) ∙ not-false _ (c .before .before .if1 .left), sym (c .before .is-within2 .ensures) ∙ not-true _ (c .if2 .taken))
+returns-2 c =
+    simp (
+      sym (c .before .before .before .is-within .ensures) ∙ not-false _ (c .before .before .if1 .left),
+      sym (c .before .is-within2 .ensures)
+          ∙ not-true _ (c .if2 .taken),
+    )
 
 returns-3 : tie.Need-returns-3
-returns-3 c = simp (sym (c .before .before .before .is-within .ensures) ∙ not-false _ (c .before .before .if1 .left), sym (c .before .is-within2 .ensures) ∙ not-false _ (c .if2 .left))
+returns-3 c =
+    simp (
+      sym (c .before .before .before .is-within .ensures) ∙ not-false _ (c .before .before .if1 .left),
+      sym (c .before .is-within2 .ensures)
+          ∙ not-false _ (c .if2 .left),
+    )
 
 pub bounds-taken-spec : {M : Type 1} → statement M
 bounds-taken-spec =

@@ -32,7 +32,11 @@ variable-taken-requires c κs = search needs
 
 returns : tie.Need-returns Inv-loop μ-loop
 unfolding variablesTaken
-returns c = sym (not-all (λ (k : ℕ). variableTaken (c .before .before .before .before .before .args .surface-count) (variableAt (c .before .before .before .before .before .args .t1) k)) (c .before .before .before .before .before .args .t1 .«variable_count») (c .before .before .before .before .loop .i) (c .before .before .before .loop-test .taken) (sym (c .before .variable-taken .ensures) ∙ not-true _ (c .if1 .taken)))
+returns c =
+    sym (not-all (λ (k : ℕ). variableTaken (c .before .before .before .before .before .args .surface-count)
+    (variableAt (c .before .before .before .before .before .args .t1) k)) (c .before .before .before .before .before .args .t1 .«variable_count»)
+    (c .before .before .before .before .loop .i) (c .before .before .before .loop-test .taken)
+    (sym (c .before .variable-taken .ensures) ∙ not-true _ (c .if1 .taken)))
 
 add-i : tie.Need-add-i Inv-loop μ-loop
 add-i c = omega arith
@@ -41,7 +45,12 @@ loop-less : tie.Need-loop-less Inv-loop μ-loop
 loop-less c = omega arith
 
 loop-again : tie.Need-loop-again Inv-loop μ-loop
-loop-again c = (omega arith, all-more (λ (k : ℕ). variableTaken (c .before .before .before .before .before .args .surface-count) (variableAt (c .before .before .before .before .before .args .t1) k)) (c .before .before .before .before .loop .i) (c .before .before .before .before .loop .inv .1) (sym (c .before .variable-taken .ensures) ∙ not-false _ (c .if1 .left)))
+loop-again c = (
+  omega arith,
+  all-more (λ (k : ℕ). variableTaken (c .before .before .before .before .before .args .surface-count)
+      (variableAt (c .before .before .before .before .before .args .t1) k)) (c .before .before .before .before .loop .i)
+      (c .before .before .before .before .loop .inv .1) (sym (c .before .variable-taken .ensures) ∙ not-false _ (c .if1 .left)),
+)
 
 returns-2 : tie.Need-returns-2 Inv-loop μ-loop
 unfolding variablesTaken
