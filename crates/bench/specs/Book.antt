@@ -149,11 +149,11 @@ bookStep b (release place) = unlessRefused (releaseNumber b place) (withEntry b 
 bookStep b listing = b
 
 -- ---- Lists of calls, each on what the last one left
-unfoldable pub leftBy : {S : Type 0} → (step : S → Call → S) → S → List Call → S
+unfoldable pub leftBy : {S C : Type 0} → (step : S → C → S) → S → List C → S
 leftBy step s [] = s
 leftBy step s (c ∷ cs) = leftBy step (step s c) cs
 
-unfoldable pub answersBy : {S : Type 0} → (answer : S → Call → Answer) (step : S → Call → S) → S → List Call → List Answer
+unfoldable pub answersBy : {S C A : Type 0} → (answer : S → C → A) (step : S → C → S) → S → List C → List A
 answersBy answer step s [] = []
 answersBy answer step s (c ∷ cs) = answer s c ∷ answersBy answer step (step s c) cs
 

@@ -47,20 +47,12 @@ exportedStep b (fetch place) = benchStep b (Book.fetch place)
 exportedStep b (release place) = benchStep b (Book.release place)
 exportedStep b listing = benchStep b Book.listing
 
--- lists of them from a bench, each on what the last one left
-unfoldable pub exportedFrom : Bench → List ExportedCall → Bench
-exportedFrom b [] = b
-exportedFrom b (c ∷ cs) = exportedFrom (exportedStep b c) cs
-
-unfoldable pub exportedAnswersFrom : Bench → List ExportedCall → List Answer
-exportedAnswersFrom b [] = []
-exportedAnswersFrom b (c ∷ cs) = exportedAnswer b c ∷ exportedAnswersFrom (exportedStep b c) cs
-
+-- lists of them from the empty bench, each on what the last one left
 abbrev pub exportedAfter : List ExportedCall → Bench
-exportedAfter calls = exportedFrom emptyBench calls
+exportedAfter calls = Book.leftBy exportedStep emptyBench calls
 
 abbrev pub exportedAnswers : List ExportedCall → List Answer
-exportedAnswers calls = exportedAnswersFrom emptyBench calls
+exportedAnswers calls = Book.answersBy exportedAnswer exportedStep emptyBench calls
 
 -- ---- As calls of 01: an admission whose record is no request is none
 unfoldable pub asCalls : ExportedCall → List Call

@@ -17,7 +17,7 @@ use Rattle.bench.specs.Calls.{isVacant, admitNumber, admittedBench, benchAnswer
 use Rattle.records.specs.declared.types.RequestRecord.{RequestRecord}
 use Rattle.records.specs.Requests.{requestOf, isRequest}
 use Rattle.records.specs.Exported.{admitRecordNumber, admittedRecordBench, ExportedCall, admitRecord, turn, fetch, release, listing, recordFor}
-use Rattle.records.specs.Exported.{exportedAnswer, exportedStep, exportedFrom, exportedAnswersFrom, asCalls, allAsCalls, isCall, toCalls}
+use Rattle.records.specs.Exported.{exportedAnswer, exportedStep, asCalls, allAsCalls, isCall, toCalls}
 use Rattle.records.specs.Exported.{ExportedAreCalls}
 use Rattle.records.specs.Asked.{same-job-asked, is-asked, answered-alike}
 
@@ -58,13 +58,13 @@ answer-as (release place) b rest = refl
 answer-as listing b rest = refl
 
 -- ---- lists of them
-benches-from : (calls : List ExportedCall) (b : Bench) → exportedFrom b calls ≡ leftBy benchStep b (allAsCalls calls)
-unfolding exportedFrom allAsCalls leftBy
+benches-from : (calls : List ExportedCall) (b : Bench) → leftBy exportedStep b calls ≡ leftBy benchStep b (allAsCalls calls)
+unfolding allAsCalls leftBy
 benches-from [] b = refl
 benches-from (c ∷ cs) b = benches-from cs (exportedStep b c) ∙ step-as c b (allAsCalls cs)
 
-answers-from : (calls : List ExportedCall) (b : Bench) → toCalls calls (exportedAnswersFrom b calls) ≡ callAnswers b (allAsCalls calls)
-unfolding exportedAnswersFrom allAsCalls toCalls answersBy
+answers-from : (calls : List ExportedCall) (b : Bench) → toCalls calls (answersBy exportedAnswer exportedStep b calls) ≡ callAnswers b (allAsCalls calls)
+unfolding allAsCalls toCalls answersBy
 answers-from [] b = refl
 answers-from (c ∷ cs) b =
     ap (λ (l : List Answer). cond (isCall c) (exportedAnswer b c ∷ l) l) (answers-from cs (exportedStep b c)) ∙ answer-as c b (allAsCalls cs)
