@@ -2,12 +2,11 @@
 // entry at a time is set to a value that refusal 12 speaks of, and the calls are held to what they must answer: nothing is
 // done but releasing. Prints for each entry how many rows were tried and how many were answered right. A line that is no such
 // job is answered as the other programs do.
-// Stands on `benchcalls`, `joblines` and `answers`; a program that only tests.
+// Stands on `benchcalls`, `joblines`, `answers` and `same`; a program that only tests.
 mod examine;
 mod lines;
 mod number;
 mod real;
-mod same;
 mod table;
 mod tally;
 mod verdict;

@@ -1,6 +1,5 @@
 // What the calls must answer on a bench that holds a changed row, and what they must leave alone.
 use crate::examine::Case;
-use crate::same;
 use bench::Bench;
 use jobs::JobRequest;
 use optics::OpticalSurface;
