@@ -5,6 +5,7 @@ use mathlib.Core.Bool.{true, false, not}
 use mathlib.Core.List.{List, _++_}
 use mathlib.Core.Logic.{_↔_}
 use Prim.Native.Nat.{ℕ, suc, _≤_, _<_}
+use native.Mathlib.Omega.{arith}
 use lib.Ieee.{Float}
 use borrow.Author.Tests.{lt-ltb, le-ltb}
 use lib.ListN.{length, drop, replicate}
@@ -26,10 +27,10 @@ use Rattle.bench.specs.Calls.{releaseNumber}
 
 -- "Scratch from 128 upward is taken, and 9 is now given below 128." (request 11)
 pub short-below : (length : ℕ) → length < 128 → scratchShort length ≡ true
-short-below length h = lt-ltb length 128 h
+short-below length h = lt-ltb length _ (omega (arith, h))
 
 pub enough-from : (length : ℕ) → 128 ≤ length → scratchShort length ≡ false
-enough-from length h = le-ltb length 128 h
+enough-from length h = le-ltb length _ (omega (arith, h))
 
 -- "nothing lent changes"
 pub stays : {A : Type 0} (m n : ℕ) (new old : A) → m ≡ suc n → unlessRefused m new old ≡ old
