@@ -117,16 +117,16 @@ fn lens(found: &mut Found, lens: &Lens) {
     found.number(positive(lens.pupil_mm, FAR), Refusal::Lens, Part::Pupil, "pupil", lens.pupil_mm, POSITIVE);
     for (i, s) in lens.surfaces.iter().enumerate() {
         let part = Part::Surface(i);
-        let named = |field: &str| format!("{field} of surface {}", i + 1);
-        found.number(!s.radius_mm.is_nan(), Refusal::Lens, part, &named("radius"), s.radius_mm, "is no number");
-        found.number(within(s.thickness_mm), Refusal::Lens, part, &named("thickness"), s.thickness_mm, WITHIN);
-        found.number(positive(s.semi_diameter_mm, FAR), Refusal::Lens, part, &named("semi-diameter"), s.semi_diameter_mm, POSITIVE);
-        found.number(s.conic_constant.is_finite(), Refusal::Lens, part, &named("conic"), s.conic_constant, "is not finite");
+        let of = |rule: &str| format!("of surface {} {rule}", i + 1);
+        found.number(!s.radius_mm.is_nan(), Refusal::Lens, part, "radius", s.radius_mm, &of("is no number"));
+        found.number(within(s.thickness_mm), Refusal::Lens, part, "thickness", s.thickness_mm, &of(WITHIN));
+        found.number(positive(s.semi_diameter_mm, FAR), Refusal::Lens, part, "semi-diameter", s.semi_diameter_mm, &of(POSITIVE));
+        found.number(s.conic_constant.is_finite(), Refusal::Lens, part, "conic", s.conic_constant, &of("is not finite"));
     }
     for (i, indices) in lens.indices.iter().enumerate() {
         for (slot, n) in indices.iter().enumerate() {
-            let field = format!("index of surface {} in slot {}", i + 1, slot + 1);
-            found.number(positive(*n, 10.0), Refusal::Lens, Part::Surface(i), &field, *n, "is not above 0 and up to 10");
+            let rule = format!("of surface {} in slot {} is not above 0 and up to 10", i + 1, slot + 1);
+            found.number(positive(*n, 10.0), Refusal::Lens, Part::Surface(i), "index", *n, &rule);
         }
     }
 }

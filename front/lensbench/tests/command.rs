@@ -202,7 +202,7 @@ fn odd_files() {
 fn refusals_with_their_lines() {
     let cases = [
         (3, "pupil -1", "-:3: refused with 3: pupil -1 is not above 0 and up to 1e9"),
-        (4, "surface nan 4 12 0 1.52 1.51 11", "-:4: refused with 3: index of surface 1 in slot 3 11 is not above 0 and up to 10"),
+        (4, "surface nan 4 12 0 1.52 1.51 11", "-:4: refused with 3: index 11 of surface 1 in slot 3 is not above 0 and up to 10"),
         (6, "vary curvature 9 from 2 to 1", "-:6: refused with 4: from 2 is above to 1"),
         (7, "want focal-length 4 target 1e10", "-:7: refused with 5: slot 4 is not there: the job has 3"),
         (10, "run multi-start trials 1001", "-:10: refused with 6: trials 1001 is above 1000"),
