@@ -42,7 +42,7 @@ state-number v false d f g n e s h =
     ap (λ (b : Bool). cond b 11 (cond d 12 (cond f n 0))) e ∙ ap (λ (b : Bool). cond b 12 (cond f n 0)) (s refl) ∙ ap (λ (b : Bool). cond b n 0) (h refl)
 
 module _ (b : Bench) (k : Book) (a : Agree b k) where
-  pub alike-at : (place : ℕ) → Alike (rowAt b place) (entryAt k place)
+  alike-at : (place : ℕ) → Alike (rowAt b place) (entryAt k place)
   alike-at place =
       pair-getD {R = λ (h : HeldRow) (e : Entry). Alike (rowFrom h) e} noRow empty (pair-map (λ h e k. alike (rowFrom h) e (k .row)) (a .places)) alike-past
       place

@@ -34,6 +34,6 @@ module _ {A B : Type 0} {R : A → B → Type 0} where
   pair-map f none = none
   pair-map f (both {a = a} {b = b} h hs) = both (f a b h) (pair-map f hs)
 
-  pub pair-length : {s : List A} {t : List B} → Pairs R s t → length s ≡ length t
+  pair-length : {s : List A} {t : List B} → Pairs R s t → length s ≡ length t
   pair-length none = refl
   pair-length (both h hs) = ap suc (pair-length hs)

@@ -105,7 +105,7 @@ add-mono f x x' y y' p p' q q' h k =
     (add-cross (plus x) (less x) (den x) (plus x') (less x') (den x') (plus y) (less y) (den y) (plus y') (less y') (den y') (le→under x x' p p' h)
     (le→under y y' q q' k))
 
-pub neg-finite : (x : Float) → Finite x → Finite (neg x)
+neg-finite : (x : Float) → Finite x → Finite (neg x)
 unfolding neg
 neg-finite nan p = p
 neg-finite (inf s) p = p

@@ -48,16 +48,16 @@ scalars-read : (words : List ℕ) (scalars : List Float) → heldScalars (headFr
 unfolding tab
 scalars-read words scalars = refl
 
-pub counts-back : (counts : List ℕ) (numbers : List Float) → length counts ≡ 57 → heldCounts (jobRecordFrom counts numbers) ≡ counts
+counts-back : (counts : List ℕ) (numbers : List Float) → length counts ≡ 57 → heldCounts (jobRecordFrom counts numbers) ≡ counts
 counts-back counts numbers e = counts-read counts numbers ∙ whole counts 0 57 e
 
-pub numbers-back : (counts : List ℕ) (numbers : List Float) → length numbers ≡ 195 → heldNumbers (jobRecordFrom counts numbers) ≡ numbers
+numbers-back : (counts : List ℕ) (numbers : List Float) → length numbers ≡ 195 → heldNumbers (jobRecordFrom counts numbers) ≡ numbers
 numbers-back counts numbers e = numbers-read counts numbers ∙ whole numbers nan 195 e
 
-pub words-back : (words : List ℕ) (scalars : List Float) → length words ≡ 13 → heldWords (kindFrom words) (turnsFrom words) (headFrom words scalars) ≡ words
+words-back : (words : List ℕ) (scalars : List Float) → length words ≡ 13 → heldWords (kindFrom words) (turnsFrom words) (headFrom words scalars) ≡ words
 words-back words scalars e = words-read words scalars ∙ whole words 0 13 e
 
-pub scalars-back : (words : List ℕ) (scalars : List Float) → length scalars ≡ 7 → heldScalars (headFrom words scalars) ≡ scalars
+scalars-back : (words : List ℕ) (scalars : List Float) → length scalars ≡ 7 → heldScalars (headFrom words scalars) ≡ scalars
 scalars-back words scalars e = scalars-read words scalars ∙ whole scalars nan 7 e
 
 pub held-back : (h : HeldRow) → Long h → heldFrom (rowFrom h) ≡ h

@@ -97,7 +97,7 @@ module _ (radius n′ : Float) (l : ArrivingLimits) (a : ArrivingRay) (N : Posit
       subst (λ (n : Float). Between (bent radius n′ l) (mul binary64 (a .y) (bending n))) (h .index)
       (times-holds (l .y) (exactly (bending (l .n))) (a .y) (bending (l .n)) (h .heights) (exactly-bounds _ P) (h .height) (exactly-holds _ P))
 
-  pub slope-holds : Between (Limits.slopeBehind radius n′ l) (slopeBehind radius n′ a)
+  slope-holds : Between (Limits.slopeBehind radius n′ l) (slopeBehind radius n′ a)
   slope-holds =
       over-holds (turned radius n′ l) n′ _ turns N′
       (minus-holds (carried l) (bent radius n′ l) (mul binary64 (a .n) (a .u)) (mul binary64 (a .y) (bending (a .n))) carries bends carried-holds bent-holds)
@@ -112,7 +112,7 @@ module _ (radius n′ : Float) (l : ArrivingLimits) (a : ArrivingRay) (N : Posit
     unfolding transferFinite
     arrives-at = bounds _ (and-r (endsFinite (transfer t radius n′ l)) (endsFinite (heightBehind t radius n′ l)) w)
 
-    pub transfer-arrives : Arrives (onward t radius n′ l) (Trace.rayBehind (curvature radius) τ n′ a)
+    transfer-arrives : Arrives (onward t radius n′ l) (Trace.rayBehind (curvature radius) τ n′ a)
     transfer-arrives = record {
       height = plus-holds (l .y) (transfer t radius n′ l) (a .y) (mul binary64 τ (slopeBehind radius n′ a)) (h .heights) transfers (h .height)
           (times-holds t (Limits.slopeBehind radius n′ l) τ (slopeBehind radius n′ a) t-ends leaves g slope-holds);

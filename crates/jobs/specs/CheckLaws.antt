@@ -37,7 +37,7 @@ unfolding enabledOf
 enabled-kept v zero m h = refl
 enabled-kept v (suc n) m h = λ i. enabled-kept v n m (omega arith) i ++ ifEnabled (variable-kept v n m h i)
 
-pub active-kept : (v : VariableSet) → v .«variable_count» ≤ 8 → numActive (keptVariables v) ≡ numActive v
+active-kept : (v : VariableSet) → v .«variable_count» ≤ 8 → numActive (keptVariables v) ≡ numActive v
 active-kept v m = ap length (enabled-kept v (v .«variable_count») m (le-refl _))
 
 -- ---- the answer

@@ -84,7 +84,7 @@ pub record Full (j : Job) : Type 0 where
   pub variables : length (j .variables .variables) ≡ 8
   pub operands : length (j .«merit_function» .operands) ≡ 12
 
-pub full-kept : (j : Job) → Full (keptJob j)
+full-kept : (j : Job) → Full (keptJob j)
 full-kept j = record { variables = length-tab _ 8; operands = length-tab _ 12 }
 
 -- ---- the whole job

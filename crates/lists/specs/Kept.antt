@@ -18,7 +18,7 @@ module _ {A : Type 0} where
   abbrev pub kept : (used : ℕ → Bool) (entry : ℕ → A) (z : A) (size : ℕ) → List A
   kept used entry z size = tab (λ (i : ℕ). cond (used i) (entry i) z) size
 
-  pub length-kept : (used : ℕ → Bool) (entry : ℕ → A) (z : A) (n : ℕ) → length (kept used entry z n) ≡ n
+  length-kept : (used : ℕ → Bool) (entry : ℕ → A) (z : A) (n : ℕ) → length (kept used entry z n) ≡ n
   length-kept used entry z n = length-tab _ n
 
   pub kept-used : (used : ℕ → Bool) (entry : ℕ → A) (z : A) (n i : ℕ) (d : A) → i < n → used i ≡ true → getD (kept used entry z n) i d ≡ entry i

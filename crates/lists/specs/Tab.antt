@@ -50,7 +50,7 @@ module _ {A : Type 0} where
       (λ i h. getD-tab (λ (i : ℕ). getD l i d) (length l) i d (rw (length-tab (λ (i : ℕ). getD l i d) (length l)) at h))
 
   -- p stands for the first i of l; a store of v at i makes p longer by one
-  pub grow : (p l : List A) (i : ℕ) (v d : A) → length p ≡ i → i < length l → set (p ++ drop i l) i v ≡ (p ++ (v ∷ [])) ++ drop (i + 1) l
+  grow : (p l : List A) (i : ℕ) (v d : A) → length p ≡ i → i < length l → set (p ++ drop i l) i v ≡ (p ++ (v ∷ [])) ++ drop (i + 1) l
   grow p l i v d e h = rw (add-one, drop-cons l i d, set-at p (getD l i d) (drop (suc i) l) v i e, append-assoc)
 
   -- a turn of a loop that fills a list by a rule

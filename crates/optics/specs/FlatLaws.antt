@@ -22,7 +22,7 @@ length-laid surfaces (suc n) = rw (length-append, length-laid surfaces n) (more 
     more n = omega arith
 
 -- the numbers of a surface, behind a part of four for each surface before it
-pub flat-at : (p rest : List Float) (n : ℕ) (s : OpticalSurface) → length p ≡ 4 * n → flatSurface (p ++ (numbersOf s ++ rest)) n ≡ s
+flat-at : (p rest : List Float) (n : ℕ) (s : OpticalSurface) → length p ≡ 4 * n → flatSurface (p ++ (numbersOf s ++ rest)) n ≡ s
 flat-at p rest n s e =
     λ i. record {
       «radius_mm» = (ap (λ (k : ℕ). getD (p ++ (numbersOf s ++ rest)) k nan) (sym e ∙ sym (add-zero (length p)))

@@ -35,11 +35,11 @@ index-unused count slots i w b (inr h) = rw (surface-at i w b, slot-at i w b, le
     no false = refl
 
 module _ (p : OpticalPrescription) (m : p .«surface_count» ≤ 16) where
-  pub surface-kept : (i : ℕ) → i < p .«surface_count» → surfaceAt (keptPrescription p .surfaces) i ≡ surfaceAt (p .surfaces) i
+  surface-kept : (i : ℕ) → i < p .«surface_count» → surfaceAt (keptPrescription p .surfaces) i ≡ surfaceAt (p .surfaces) i
   surface-kept i h = kept-used (below (p .«surface_count»)) (surfaceAt (p .surfaces)) zeroSurface 16 i noSurface (omega arith) (lt-ltb i _ h)
 
   module _ (n : p .«slot_count» ≤ 4) where
-    pub index-kept : (i w : ℕ) → i < p .«surface_count» → w < p .«slot_count» → slotIndex (keptPrescription p .indices) w i ≡ slotIndex (p .indices) w i
+    index-kept : (i w : ℕ) → i < p .«surface_count» → w < p .«slot_count» → slotIndex (keptPrescription p .indices) w i ≡ slotIndex (p .indices) w i
     index-kept i w h l =
         kept-used (indexUsed (p .«surface_count») (p .«slot_count»)) (λ (k : ℕ). getD (p .indices) k nan) zero64 64 (i * 4 + w) nan (omega arith)
         (index-used (p .«surface_count») (p .«slot_count») i w n h l)

@@ -43,7 +43,7 @@ rays-are surface index pupil count hs us =
 -- ---- two lenses that agree below a count
 module _ (surface surface′ : ℕ → OpticalSurface) (index index′ : ℕ → Float) (pupil : Float) (count : ℕ) (same : (i : ℕ) → i < count → surface i ≡ surface′ i)
     (alike : (i : ℕ) → i < count → index i ≡ index′ i) where
-  pub arriving-same : (k : ℕ) → k ≤ count → arriving surface index pupil k ≡ arriving surface′ index′ pupil k
+  arriving-same : (k : ℕ) → k ≤ count → arriving surface index pupil k ≡ arriving surface′ index′ pupil k
   unfolding arriving
   arriving-same zero h = refl
   arriving-same (suc k) h = λ i. onward (same k h i) (alike k h i) (arriving-same k (omega arith) i)
@@ -54,7 +54,7 @@ module _ (surface surface′ : ℕ → OpticalSurface) (index index′ : ℕ →
   pub trace-same : traceOf surface index pupil count ≡ traceOf surface′ index′ pupil count
   trace-same = tab-same (rayAt surface index pupil) (rayAt surface′ index′ pupil) count ray-same
 
-  pub properties-same : 2 ≤ count → propertiesOf surface index pupil count ≡ propertiesOf surface′ index′ pupil count
+  properties-same : 2 ≤ count → propertiesOf surface index pupil count ≡ propertiesOf surface′ index′ pupil count
   properties-same h =
       let p : count - 2 < count = omega arith in
       let q : count - 1 < count = omega arith in

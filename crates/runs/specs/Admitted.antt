@@ -53,7 +53,7 @@ module _ (job : Job) (taken : jobTaken job ≡ true) where
       apart : (k : ℕ) → k < count → i ≢ k
       apart k b = omega arith
 
-  pub applied-rest : (values : List Float) (x : Surfaces) (i : ℕ) → count ≤ i → surfaceAt (applied v values x) i ≡ surfaceAt x i
+  applied-rest : (values : List Float) (x : Surfaces) (i : ℕ) → count ≤ i → surfaceAt (applied v values x) i ≡ surfaceAt x i
   unfolding applied
   applied-rest values x i l = applied-to-rest values x i (numActive v) (omega arith) l
 
@@ -70,7 +70,7 @@ kept-job j taken = record {
 
 -- ---- a request that is not refused
 module _ (r : JobRequest) (admissible : firstRefusal (admissionRefusals r) ≡ 0) where
-  pub reads-back : ReadBack (jobFrom r)
+  reads-back : ReadBack (jobFrom r)
   reads-back = request-back r
 
   pub request-kept : Kept (jobFrom r)

@@ -24,12 +24,12 @@ module _ {A : Type 0} {Q : Surfaces → MeritEvaluation → Type 0} where
   Ends-more m h (later {n = i} lt k) = later {n = i} {m = m} (omega arith) k
 
   -- less is said of the result
-  pub Ends-map : {P P′ : A → Type 0} {n : ℕ} {r : Run A} → ((a : A) → P a → P′ a) → Ends Q P n r → Ends Q P′ n r
+  Ends-map : {P P′ : A → Type 0} {n : ℕ} {r : Run A} → ((a : A) → P a → P′ a) → Ends Q P n r → Ends Q P′ n r
   Ends-map f (now {a = a} p) = now (f a p)
   Ends-map f (later {n = i} lt k) = later {n = i} lt (λ e q. Ends-map f (k e q))
 
   -- more is asked of the answers
-  pub Ends-for : {Q′ : Surfaces → MeritEvaluation → Type 0} {P : A → Type 0} {n : ℕ} {r : Run A} → ((s : Surfaces) (e : MeritEvaluation) → Q′ s e → Q s e)
+  Ends-for : {Q′ : Surfaces → MeritEvaluation → Type 0} {P : A → Type 0} {n : ℕ} {r : Run A} → ((s : Surfaces) (e : MeritEvaluation) → Q′ s e → Q s e)
       → Ends Q P n r → Ends Q′ P n r
   Ends-for f (now p) = now p
   Ends-for f (later {n = i} {s = s} lt k) = later {n = i} lt (λ e q. Ends-for f (k e (f s e q)))

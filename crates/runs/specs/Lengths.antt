@@ -77,7 +77,7 @@ module _ (o : Optimizer) where
   before candidate d h = (h, tt, tt)
   before finished d h = tt
 
-  pub damped-sixteen : (d : DampedState) (e : MeritEvaluation) → DampedRow.isFinished d ≡ false → Sixteen (d .surfaces)
+  damped-sixteen : (d : DampedState) (e : MeritEvaluation) → DampedRow.isFinished d ≡ false → Sixteen (d .surfaces)
       → Sixteen (DampedRow.advance o d e .surfaces)
   unfolding sixteen
   damped-sixteen d e u h = keeps o sixteen d e u (before (phaseOf (d .phase)) d h) tt

@@ -24,7 +24,7 @@ module _ (o : Optimizer) (base : Surfaces) (Q : Surfaces → MeritEvaluation →
   Some none = ⊥
   Some (some best) = P best
 
-  pub ends-trials : (left rng : ℕ) (best : OptimizationResult) → P best → Ends Q Some (left * B) (trials o base left rng (some best))
+  ends-trials : (left rng : ℕ) (best : OptimizationResult) → P best → Ends Q Some (left * B) (trials o base left rng (some best))
   unfolding trials
   ends-trials zero rng best h = now h
   ends-trials (suc left) rng best h =

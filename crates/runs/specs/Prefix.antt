@@ -59,7 +59,7 @@ module _ (o : Optimizer) (base : Surfaces) where
   abbrev pub before : (seed t : ℕ) → ℕ
   before seed t = stepTimes (t * p) (seeded seed)
 
-  pub before-next : (seed t : ℕ) → afterDraws (o .variables) (before seed t) ≡ before seed (suc t)
+  before-next : (seed t : ℕ) → afterDraws (o .variables) (before seed t) ≡ before seed (suc t)
   unfolding afterDraws
   before-next seed t =
       let e : suc t * p ≡ t * p + p = omega arith in

@@ -74,7 +74,7 @@ unfolding value afterMerit
 value-once f (done a) = refl
 value-once f (ask s k) = refl
 
-pub value-after : {A : Type 0} (f : Surfaces → MeritEvaluation) (k : ℕ) (m : Run A) → value f (afterMerits f k m) ≡ value f m
+value-after : {A : Type 0} (f : Surfaces → MeritEvaluation) (k : ℕ) (m : Run A) → value f (afterMerits f k m) ≡ value f m
 unfolding afterMerits
 value-after f zero m = refl
 value-after f (suc k) m = value-once f (afterMerits f k m) ∙ value-after f k m

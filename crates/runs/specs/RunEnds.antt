@@ -95,7 +95,7 @@ module _ (f : Surfaces → MeritEvaluation) where
       h .1,
     )
 
-    pub damped-evaluated : (initial : Surfaces) → Sound initial
+    damped-evaluated : (initial : Surfaces) → Sound initial
         → Ends By (λ (r : Result). Evaluated f r × Sound (r .surfaces)) (dampedBound (o .config .«max_iterations») (numActive (o .variables)))
         (damped o initial)
     damped-evaluated initial h =

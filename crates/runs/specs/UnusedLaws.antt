@@ -210,7 +210,7 @@ abbrev pub CleanAnswer : Job → MeritEvaluation → Type 0
 CleanAnswer job e = CleanEvaluation (job .prescription .«surface_count») (numActive (job .variables)) (operandCountOf job) e
 
 -- a turn
-pub advance-clean : (job : Job) → Kept job → (r : Row) (e : MeritEvaluation) → jobOfRow r ≡ job → isFinished r ≡ false → CleanAnswer job e
+advance-clean : (job : Job) → Kept job → (r : Row) (e : MeritEvaluation) → jobOfRow r ≡ job → isFinished r ≡ false → CleanAnswer job e
     → Clean job (stateOf r) → Clean job (stateOf (advance r e))
 unfolding isFinished advance
 advance-clean job k r e q u g h =

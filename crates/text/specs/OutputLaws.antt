@@ -11,7 +11,7 @@ use borrow.Author.Tests.{le-leb}
 use Rattle.text.specs.declared.output.Waiting.{Waiting}
 use Rattle.text.specs.Output.{withBytes, clipped, added, addedAll, total, Onward, Put, blank, floatText, floatTexts}
 
-pub added-append : (room : ℕ) (held : List ℕ) (ts us : List (List ℕ)) → addedAll room held (ts ++ us) ≡ addedAll room (addedAll room held ts) us
+added-append : (room : ℕ) (held : List ℕ) (ts us : List (List ℕ)) → addedAll room held (ts ++ us) ≡ addedAll room (addedAll room held ts) us
 unfolding addedAll
 added-append room held [] us = refl
 added-append room held (t ∷ ts) us = added-append room (added room held t) ts us
@@ -84,7 +84,7 @@ put-as {w} {r} {out} {left} e p = subst (λ (texts : List (List ℕ)). Put w out
 pub put-from : {w z r : Waiting} {out left : List ℕ} {ts : List (List ℕ)} → w ≡ z → Put w out ts r left → Put z out ts r left
 put-from {r = r} {out = out} {left = left} {ts = ts} e p = subst (λ (x : Waiting). Put x out ts r left) e p
 
-pub floats-append : (row more : List Float) → floatTexts (row ++ more) ≡ floatTexts row ++ floatTexts more
+floats-append : (row more : List Float) → floatTexts (row ++ more) ≡ floatTexts row ++ floatTexts more
 unfolding floatTexts
 floats-append [] more = refl
 floats-append (x ∷ row) more = ap (λ (texts : List (List ℕ)). blank ∷ floatText x ∷ texts) (floats-append row more)

@@ -18,11 +18,11 @@ module _ (v : VariableSet) where
   abbrev pub enabledCount : ℕ → ℕ
   enabledCount n = length (enabledOf v n)
 
-  pub enabled-more : (i : ℕ) → variableAt v i .enabled ≡ true → enabledOf v (suc i) ≡ enabledOf v i ++ (variableAt v i ∷ [])
+  enabled-more : (i : ℕ) → variableAt v i .enabled ≡ true → enabledOf v (suc i) ≡ enabledOf v i ++ (variableAt v i ∷ [])
   unfolding enabledOf
   enabled-more i e = ap (λ (b : Bool). enabledOf v i ++ cond b (variableAt v i ∷ []) []) e
 
-  pub enabled-past : (i : ℕ) → variableAt v i .enabled ≡ false → enabledOf v (suc i) ≡ enabledOf v i
+  enabled-past : (i : ℕ) → variableAt v i .enabled ≡ false → enabledOf v (suc i) ≡ enabledOf v i
   unfolding enabledOf
   enabled-past i e = ap (λ (b : Bool). enabledOf v i ++ cond b (variableAt v i ∷ []) []) e ∙ append-nil (enabledOf v i)
 

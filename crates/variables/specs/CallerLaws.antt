@@ -16,10 +16,10 @@ pub active-le : (v : VariableSet) → numActive v ≤ v .«variable_count»
 active-le v = count-le v (v .«variable_count»)
 
 -- ---- lengths
-pub length-put : (s : List OpticalSurface) (kind : VariableType) (x : Float) → length (put s kind x) ≡ length s
+length-put : (s : List OpticalSurface) (kind : VariableType) (x : Float) → length (put s kind x) ≡ length s
 length-put s kind x = simp length-set
 
-pub length-applied-to : (v : VariableSet) (values : List Float) (s : List OpticalSurface) (n : ℕ) → length (appliedTo v values s n) ≡ length s
+length-applied-to : (v : VariableSet) (values : List Float) (s : List OpticalSurface) (n : ℕ) → length (appliedTo v values s n) ≡ length s
 unfolding appliedTo
 length-applied-to v values s zero = refl
 length-applied-to v values s (suc n) = length-put (appliedTo v values s n) (activeAt v n .«var_type») (storedAt v values n) ∙ length-applied-to v values s n

@@ -58,7 +58,7 @@ one-finite : Finite one64
 unfolding ofBits
 one-finite = tt
 
-pub radius-number : (x : Float) → T (finiteOf x) → Number (radiusOf x)
+radius-number : (x : Float) → T (finiteOf x) → Number (radiusOf x)
 unfolding radiusOf isNan
 radius-number x t = go (lt (magnitude x) leastCurvature) refl
   where
@@ -67,7 +67,7 @@ radius-number x t = go (lt (magnitude x) leastCurvature) refl
     go false e = quotient-number binary64 one64 x one-finite (finite-test x t) (not-tiny x e)
 
 -- ---- one surface with an allowed value
-pub with-value-taken : (s : OpticalSurface) (kind : VariableType) (x : Float) → T (allowed kind x) → T (surfaceTaken s) → T (surfaceTaken (withValue s kind x))
+with-value-taken : (s : OpticalSurface) (kind : VariableType) (x : Float) → T (allowed kind x) → T (surfaceTaken s) → T (surfaceTaken (withValue s kind x))
 with-value-taken s (Curvature i) x a t =
     let p = surface-parts s t in
     surface-from _ (record { radius = radius-number x a; conic = p .conic; thickness = p .thickness; semiDiameter = p .semiDiameter })
@@ -88,7 +88,7 @@ set-keeps P (x ∷ xs) (suc j) zero a d k h = h
 set-keeps P (x ∷ xs) (suc j) (suc i) a d k h = set-keeps P xs j i a d k h
 
 -- any surface, after a value was stored in one of them
-pub put-taken : (s : List OpticalSurface) (kind : VariableType) (x : Float) (i : ℕ) → T (allowed kind x) → T (surfaceTaken (surfaceAt s i))
+put-taken : (s : List OpticalSurface) (kind : VariableType) (x : Float) (i : ℕ) → T (allowed kind x) → T (surfaceTaken (surfaceAt s i))
     → T (surfaceTaken (surfaceAt (put s kind x) i))
 put-taken s kind x i a t =
     set-keeps (λ (u : OpticalSurface). T (surfaceTaken u)) s (surfaceIndex kind) i (withValue (surfaceAt s (surfaceIndex kind)) kind x) noSurface
@@ -103,10 +103,10 @@ module _ (x lo hi : Float) (order : T (le lo hi)) where
       go true h = l
       go false h = h tt
 
-  pub apply-above : T (le lo (applyClamp x lo hi))
+  apply-above : T (le lo (applyClamp x lo hi))
   apply-above = clamped (λ (y : Float). T (le lo y)) (le-self lo (le-numbers lo hi order .0)) (λ n. clamp-above x lo hi n order)
 
-  pub apply-below : T (le (applyClamp x lo hi) hi)
+  apply-below : T (le (applyClamp x lo hi) hi)
   apply-below = clamped (λ (y : Float). T (le y hi)) order (λ n. clamp-below x lo hi n order)
 
 -- ---- bounds that check 4 takes let only allowed values through
@@ -135,7 +135,7 @@ module _ (n : ℕ) (d : VariableDef) (taken : VariableTaken n d) (x : Float) whe
   inside : T (within y)
   inside = within-from y (le-trans (neg billion) lo y (within-parts lo (taken .low) .above) above) top
 
-  pub apply-allowed : T (allowed (d .«var_type») y)
+  apply-allowed : T (allowed (d .«var_type») y)
   apply-allowed = go (d .«var_type») (taken .lower)
     where
       go : (kind : VariableType) → T (lowerBoundTaken kind lo) → T (allowed kind y)

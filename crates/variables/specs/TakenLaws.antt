@@ -21,7 +21,7 @@ pub record VariableTaken (n : ℕ) (d : VariableDef) : Type 0 where
   pub step : T (stepTaken (d .«step_size»))
   pub lower : T (lowerBoundTaken (d .«var_type») (d .«min_value»))
 
-pub variable-parts : (n : ℕ) (d : VariableDef) → T (variableTaken n d) → VariableTaken n d
+variable-parts : (n : ℕ) (d : VariableDef) → T (variableTaken n d) → VariableTaken n d
 unfolding variableTaken
 variable-parts n d t =
     let p = ltb (surfaceIndex (d .«var_type»)) n in
