@@ -51,7 +51,8 @@ returns-2 : tie.Need-returns-2 Inv-loop μ-loop
 returns-2 c =
     let l = c .before .before .before .before .before in
     let x = l .before .before .before .before .args in
-    sym (unlike (length (x .a .now)) (length (x .b .now)) (alike (x .a .now) (x .b .now)) (l .loop .inv .1) (l .loop .i) (omega arith) (sym (c .before .same-float .ensures) ∙ not-true _ (c .if2 .taken)))
+    sym (unlike (length (x .a .now)) (length (x .b .now)) (alike (x .a .now) (x .b .now)) (l .loop .inv .1) (l .loop .i) (omega arith)
+    (sym (c .before .same-float .ensures) ∙ not-true _ (c .if2 .taken)))
 
 add-i : tie.Need-add-i Inv-loop μ-loop
 add-i c = search needs
@@ -62,8 +63,12 @@ loop-less c = search needs
 loop-again : tie.Need-loop-again Inv-loop μ-loop
 loop-again c =
     let l = c .before .before .before .before .before in
-    let x = l .before .before .before .before .args in
-    (omega arith, l .loop .inv .1, all-more (alike (x .a .now) (x .b .now)) (l .loop .i) (l .loop .inv .2) (sym (c .before .same-float .ensures) ∙ not-false _ (c .if2 .left)))
+    let x = l .before .before .before .before .args in (
+      omega arith,
+      l .loop .inv .1,
+      all-more (alike (x .a .now) (x .b .now)) (l .loop .i) (l .loop .inv .2)
+          (sym (c .before .same-float .ensures) ∙ not-false _ (c .if2 .left)),
+    )
 
 returns-3 : tie.Need-returns-3 Inv-loop μ-loop
 returns-3 c =

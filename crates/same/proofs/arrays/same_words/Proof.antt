@@ -47,7 +47,8 @@ returns-2 : tie.Need-returns-2 Inv-loop μ-loop
 returns-2 c =
     let l = c .before .before .before .before in
     let x = l .before .before .args in
-    sym (unlike (length (x .a .now)) (length (x .b .now)) (alike (x .a .now) (x .b .now)) (l .loop .inv .1) (l .loop .i) (omega arith) (ne-eqb _ _ (c .if2 .taken)))
+    sym (unlike (length (x .a .now)) (length (x .b .now)) (alike (x .a .now) (x .b .now)) (l .loop .inv .1) (l .loop .i) (omega arith)
+    (ne-eqb _ _ (c .if2 .taken)))
 
 add-i : tie.Need-add-i Inv-loop μ-loop
 add-i c = search needs
