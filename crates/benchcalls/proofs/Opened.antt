@@ -178,9 +178,10 @@ within i n l e = omega arith
 module _ {M : Type 1} {𝓤 : URA M} {H : Heap 𝓤} {A : Atoms 𝓤} {K : Type 0} {W : Given 𝓤 H A} {Γ : List (Item 𝓤)} {G : Goal 𝓤 H} where
   pub opens-row : K → Soaks G → {κ : Lft} {q : Share} {γ : GName} (b o : ℕ) (n : Rest) (rs : List HeldRow) (i : ℕ) → i ≤ 3
       → (Is Bn (bn n rs) (valsB n rs) → Is R (getD rs i noRow) (valsR (getD rs i noRow))
-      → Seq K W (‵ (cellAt fullShare (R .mir) (valsR (getD rs i noRow)) b (place (mem R .size) (o + 0) i)) ∷ ‵
-      (R .own (getD rs i noRow) (valsR (getD rs i noRow))) ∷ ‵ (others (shares R) fullShare rs i b (o + 0)) ∷ raw (Back 𝓤 H A W fullShare b o n) ∷ ‵
-      (fobor κ q (Body (mem Bn) b o γ)) ∷ ‵ (fobs γ (Bn .coded .code (bn n rs))) ∷ ‵ (fauth γ (Bn .coded .code (bn n rs))) ∷ Γ) G)
+      → Seq K W (‵ (cellAt fullShare (R .mir) (valsR (getD rs i noRow)) b (place (mem R .size) (o + 0) i)) ∷ ‵ (R .own (getD rs i noRow)
+      (valsR (getD rs i noRow))) ∷ ‵ (others (shares R) fullShare rs i b (o + 0)) ∷ raw
+      (Back 𝓤 H A W fullShare b o n) ∷ ‵ (fobor κ q (Body (mem Bn) b o γ)) ∷ ‵ (fobs γ (Bn .coded .code (bn n rs)))
+      ∷ ‵ (fauth γ (Bn .coded .code (bn n rs))) ∷ Γ) G)
       → Seq K W (‵ (fobs γ (Bn .coded .code (bn n rs))) ∷ ‵ (fbor κ (Body (mem Bn) b o γ)) ∷ ‵ (flft κ q) ∷ Γ) G
   opens-row t z b o n rs i l k =
       opens t z Bn {h = bn n rs} b o (λ vs. spelt t Bn (Is Bn) (shows 𝓤 H A Bn) (LL.vals B.the-type B′.the-laws) (LL.tells B.the-type B′.the-laws) fullShare
@@ -194,8 +195,8 @@ module _ {M : Type 1} {𝓤 : URA M} {H : Heap 𝓤} {A : Atoms 𝓤} {K : Type 
       → (r : HeldRow) (v : Val) → Is R r (v ∷ [])
       → Step K W (‵ (fobs γ (Bn .coded .code (bn n (set rs i r)))) ∷ ‵ (fbor κ (Body (mem Bn) b o γ)) ∷ ‵ (flft κ q) ∷ Γ) G
       (‵ (cellAt fullShare (R .mir) (v ∷ []) b (place (mem R .size) (o + 0) i)) ∷ ‵ (others (shares R) fullShare rs i b (o + 0)) ∷ raw
-      (Back 𝓤 H A W fullShare b o n) ∷ ‵ (fobor κ q (Body (mem Bn) b o γ)) ∷ ‵ (fobs γ (Bn .coded .code (bn n rs))) ∷ ‵
-      (fauth γ (Bn .coded .code (bn n rs))) ∷ Γ) G
+      (Back 𝓤 H A W fullShare b o n) ∷ ‵ (fobor κ q (Body (mem Bn) b o γ)) ∷ ‵ (fobs γ (Bn .coded .code (bn n rs)))
+      ∷ ‵ (fauth γ (Bn .coded .code (bn n rs))) ∷ Γ) G
   closes-row t z b o n rs i l was r v isr = step (λ s.
       owned t R (Is R) ((LL.makes S.the-type S′.the-plain) 𝓤 H A) r (v ∷ []) isr $ move t (1 ∷ 0 ∷ []) $
       elem-put t R fullShare rs i r (v ∷ []) b (o + 0) (within i (length rs) l (four rs (opened n rs was))) $
@@ -206,9 +207,9 @@ module _ {M : Type 1} {𝓤 : URA M} {H : Heap 𝓤} {A : Atoms 𝓤} {K : Type 
 
   pub looks-row : K → Soaks G → {κ : Lft} {q : Share} (b o : ℕ) (n : Rest) (rs : List HeldRow) (i : ℕ) → i ≤ 3
       → ((s : Share) → Is Bn (bn n rs) (valsB n rs) → Is R (getD rs i noRow) (valsR (getD rs i noRow))
-      → Seq K W (‵ (cellAt s (R .mir) (valsR (getD rs i noRow)) b (place (mem R .size) (o + 0) i)) ∷ ‵ (R .own (getD rs i noRow) (valsR (getD rs i noRow))) ∷ ‵
-      (others (shares R) s rs i b (o + 0)) ∷ raw (Back 𝓤 H A W s b o n) ∷ ‵ (fobor κ q (partAt Bn s (bn n rs) b o)) ∷ ‵
-      (fshr-bor κ (λ s. partAt Bn s (bn n rs) b o)) ∷ Γ) G)
+      → Seq K W (‵ (cellAt s (R .mir) (valsR (getD rs i noRow)) b (place (mem R .size) (o + 0) i)) ∷ ‵ (R .own (getD rs i noRow)
+      (valsR (getD rs i noRow))) ∷ ‵ (others (shares R) s rs i b (o + 0)) ∷ raw
+      (Back 𝓤 H A W s b o n) ∷ ‵ (fobor κ q (partAt Bn s (bn n rs) b o)) ∷ ‵ (fshr-bor κ (λ s. partAt Bn s (bn n rs) b o)) ∷ Γ) G)
       → Seq K W (‵ (fshr-bor κ (λ s. partAt Bn s (bn n rs) b o)) ∷ ‵ (flft κ q) ∷ Γ) G
   looks-row t z b o n rs i l k =
       looks t z Bn (Is Bn) (shows 𝓤 H A Bn) (LL.vals B.the-type B′.the-laws) (LL.tells B.the-type B′.the-laws) ((LL.copy B.the-type B′.the-copy) 𝓤 H A W)
@@ -221,9 +222,9 @@ module _ {M : Type 1} {𝓤 : URA M} {H : Heap 𝓤} {A : Atoms 𝓤} {K : Type 
 
   pub shuts-row : K → Soaks G → {κ : Lft} {q : Share} (s : Share) (b o : ℕ) (n : Rest) (rs : List HeldRow) (i : ℕ) → i ≤ 3 → Is Bn (bn n rs) (valsB n rs)
       → Step K W (‵ (flft κ q) ∷ ‵ (fshr-bor κ (λ s. partAt Bn s (bn n rs) b o)) ∷ Γ) G
-      (‵ (cellAt s (R .mir) (valsR (getD rs i noRow)) b (place (mem R .size) (o + 0) i)) ∷ ‵ (R .own (getD rs i noRow) (valsR (getD rs i noRow))) ∷ ‵
-      (others (shares R) s rs i b (o + 0)) ∷ raw (Back 𝓤 H A W s b o n) ∷ ‵ (fobor κ q (partAt Bn s (bn n rs) b o)) ∷ ‵
-      (fshr-bor κ (λ s. partAt Bn s (bn n rs) b o)) ∷ Γ) G
+      (‵ (cellAt s (R .mir) (valsR (getD rs i noRow)) b (place (mem R .size) (o + 0) i)) ∷ ‵ (R .own (getD rs i noRow) (valsR (getD rs i noRow)))
+      ∷ ‵ (others (shares R) s rs i b (o + 0)) ∷ raw (Back 𝓤 H A W s b o n) ∷ ‵ (fobor κ q (partAt Bn s (bn n rs) b o))
+      ∷ ‵ (fshr-bor κ (λ s. partAt Bn s (bn n rs) b o)) ∷ Γ) G
   shuts-row t z s b o n rs i l was = step (λ k.
       elem-back t R s rs i noRow (valsR (getD rs i noRow)) b (o + 0) (within i (length rs) l (four rs (opened n rs was))) $
       use2 W (given (Is A4 (inner rs) (vals4 rs)) (‵ (cellAt s (Bn .mir) (valsB n rs) b o))) (bench-back 𝓤 H A W s b o n rs (four rs (opened n rs was))) $

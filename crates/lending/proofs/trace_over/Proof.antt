@@ -165,9 +165,8 @@ module _ {M : Type 1} (𝓤 : URA M) (H : Heap 𝓤) (A : Atoms 𝓤) (W : Given
         goes-callee : ent 𝓤 (sep 𝓤 (sep 𝓤 (A .lft (α ∷ []) fullShare) (emp 𝓤)) (sem 𝓤 H A (MutSlice (lifetime 0) (α ∷ []) R .own (firsts (α ∷ []) l old n γ)
             (sliceVal (l, 0) (length (take n old)) ∷ [])))) (Asked .pre to-callee)
         goes-callee =
-            qed W ((‵ (flft (α ∷ []) fullShare) ⊛ ‵ ftrue) ∷ ‵
-            (MutSlice (lifetime 0) (α ∷ []) R .own (firsts (α ∷ []) l old n γ) (sliceVal (l, 0) (length (take n old)) ∷ [])) ∷ []) ∵ nothing ! $
-            move ! (2 ∷ 0 ∷ []) $ fjoin ! $
+            qed W ((‵ (flft (α ∷ []) fullShare) ⊛ ‵ ftrue) ∷ ‵ (MutSlice (lifetime 0) (α ∷ []) R .own (firsts (α ∷ []) l old n γ)
+            (sliceVal (l, 0) (length (take n old)) ∷ [])) ∷ []) ∵ nothing ! $ move ! (2 ∷ 0 ∷ []) $ fjoin ! $
             owned ! usize (Is usize) (uint-makes 𝓤 H A W w64) slot _ (refl, gs) $ fjoin ! $
             owned ! P.the-row (Is P.the-row) ((LL.makes P.the-type P′.the-plain) 𝓤 H A) p _ isp $ fjoin ! $ move ! (1 ∷ 0 ∷ []) $ join ! $ frame ! $ done !
 
@@ -205,11 +204,11 @@ module _ {M : Type 1} (𝓤 : URA M) (H : Heap 𝓤) (A : Atoms 𝓤) (W : Given
 
         -- after the test: the first n records are lent, and come back
         lends : (n : ℕ) → n ≡ min len 16
-            → Sq W (‵ (froom ty16 l₁₂ 0) ∷ ‵ (fdies ty16 l₁₂) ∷ ‵ (froom slice l₁₁ 0) ∷ ‵ (fdies slice l₁₁) ∷ ‵ (froom ref l₁₀ 0) ∷ ‵ (fdies ref l₁₀) ∷ ‵
-            (fat fullShare word l₉ 0 (vint w64 n)) ∷ ‵ (fdies word l₉) ∷ ‵ (froom tyBool l₈ 0) ∷ ‵ (fdies tyBool l₈) ∷ ‵ (froom Tr′.mir l₇ 0) ∷ ‵
-            (fdies Tr′.mir l₇) ∷ ‵ (froom word l₆ 0) ∷ ‵ (fdies word l₆) ∷ ‵ (fat fullShare ty16 l₅ 0 (only (vals16 old))) ∷ ‵ (fdies ty16 l₅) ∷ ‵
-            (froom word l₄ 0) ∷ ‵ (fdies word l₄) ∷ ‵ (froom ty16 l₃ 0) ∷ ‵ (fdies ty16 l₃) ∷ ‵ (fat fullShare word l₂ 0 (vint w64 slot)) ∷ ‵
-            (fdies word l₂) ∷ ‵ (fat fullShare P′.mir l₁ 0 (only (valsP p))) ∷ ‵ (fdies P′.mir l₁) ∷ ‵ (froom T′.mir l₀ 0) ∷ ‵ (fdies T′.mir l₀) ∷ [])
+            → Sq W (‵ (froom ty16 l₁₂ 0) ∷ ‵ (fdies ty16 l₁₂) ∷ ‵ (froom slice l₁₁ 0) ∷ ‵ (fdies slice l₁₁) ∷ ‵ (froom ref l₁₀ 0) ∷ ‵ (fdies ref l₁₀)
+            ∷ ‵ (fat fullShare word l₉ 0 (vint w64 n)) ∷ ‵ (fdies word l₉) ∷ ‵ (froom tyBool l₈ 0) ∷ ‵ (fdies tyBool l₈) ∷ ‵ (froom Tr′.mir l₇ 0)
+            ∷ ‵ (fdies Tr′.mir l₇) ∷ ‵ (froom word l₆ 0) ∷ ‵ (fdies word l₆) ∷ ‵ (fat fullShare ty16 l₅ 0 (only (vals16 old))) ∷ ‵ (fdies ty16 l₅)
+            ∷ ‵ (froom word l₄ 0) ∷ ‵ (fdies word l₄) ∷ ‵ (froom ty16 l₃ 0) ∷ ‵ (fdies ty16 l₃) ∷ ‵ (fat fullShare word l₂ 0 (vint w64 slot))
+            ∷ ‵ (fdies word l₂) ∷ ‵ (fat fullShare P′.mir l₁ 0 (only (valsP p))) ∷ ‵ (fdies P′.mir l₁) ∷ ‵ (froom T′.mir l₀ 0) ∷ ‵ (fdies T′.mir l₀) ∷ [])
             (runs C Λ En t-4 (atRet En Post))
         lends n e =
             assigns ! (of-opd ! (load ! (from ! (stop !)) (look ! 6 refl))) (from ! (stop !)) (init ! 12 refl (tt, record { fits = fits n e })) $
@@ -247,12 +246,12 @@ module _ {M : Type 1} (𝓤 : URA M) (H : Heap 𝓤) (A : Atoms 𝓤) (W : Given
             free0 ! $ by ! (exits n e u is isa))))))
 
         -- the test, which is the lesser of the two
-        tests : Sq W (‵ (froom ty16 l₁₂ 0) ∷ ‵ (fdies ty16 l₁₂) ∷ ‵ (froom slice l₁₁ 0) ∷ ‵ (fdies slice l₁₁) ∷ ‵ (froom ref l₁₀ 0) ∷ ‵ (fdies ref l₁₀) ∷ ‵
-            (froom word l₉ 0) ∷ ‵ (fdies word l₉) ∷ ‵ (froom tyBool l₈ 0) ∷ ‵ (fdies tyBool l₈) ∷ ‵ (froom Tr′.mir l₇ 0) ∷ ‵ (fdies Tr′.mir l₇) ∷ ‵
-            (froom word l₆ 0) ∷ ‵ (fdies word l₆) ∷ ‵ (fat fullShare ty16 l₅ 0 (only (vals16 old))) ∷ ‵ (fdies ty16 l₅) ∷ ‵
-            (fat fullShare word l₄ 0 (vint w64 len)) ∷ ‵ (fdies word l₄) ∷ ‵ (froom ty16 l₃ 0) ∷ ‵ (fdies ty16 l₃) ∷ ‵
-            (fat fullShare word l₂ 0 (vint w64 slot)) ∷ ‵ (fdies word l₂) ∷ ‵ (fat fullShare P′.mir l₁ 0 (only (valsP p))) ∷ ‵ (fdies P′.mir l₁) ∷ ‵
-            (froom T′.mir l₀ 0) ∷ ‵ (fdies T′.mir l₀) ∷ [])
+        tests : Sq W (‵ (froom ty16 l₁₂ 0) ∷ ‵ (fdies ty16 l₁₂) ∷ ‵ (froom slice l₁₁ 0) ∷ ‵ (fdies slice l₁₁) ∷ ‵ (froom ref l₁₀ 0) ∷ ‵ (fdies
+            ref l₁₀) ∷ ‵ (froom word l₉ 0) ∷ ‵ (fdies word l₉) ∷ ‵ (froom tyBool l₈ 0) ∷ ‵ (fdies tyBool l₈) ∷ ‵ (froom Tr′.mir l₇ 0) ∷ ‵ (fdies Tr′.mir l₇)
+            ∷ ‵ (froom word l₆ 0) ∷ ‵ (fdies word l₆) ∷ ‵ (fat fullShare ty16 l₅ 0 (only (vals16 old))) ∷ ‵ (fdies ty16 l₅)
+            ∷ ‵ (fat fullShare word l₄ 0 (vint w64 len)) ∷ ‵ (fdies word l₄) ∷ ‵ (froom ty16 l₃ 0) ∷ ‵ (fdies ty16 l₃)
+            ∷ ‵ (fat fullShare word l₂ 0 (vint w64 slot)) ∷ ‵ (fdies word l₂) ∷ ‵ (fat fullShare P′.mir l₁ 0 (only (valsP p))) ∷ ‵ (fdies P′.mir l₁)
+            ∷ ‵ (froom T′.mir l₀ 0) ∷ ‵ (fdies T′.mir l₀) ∷ [])
             (runs C Λ En t-2 (atRet En Post))
         tests =
             assigns ! (bin ! (load ! (from ! (stop !)) (look ! 16 refl)) (lit ! tt) tt) (from ! (stop !)) (init ! 8 refl (tt, tt)) $

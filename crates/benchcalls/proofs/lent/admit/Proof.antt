@@ -177,11 +177,11 @@ module _ {M : Type 1} (𝓤 : URA M) (H : Heap 𝓤) (A : Atoms 𝓤) (W : Given
 
     -- the locals are freed
     ends : (r : ℕ) → r < 2 ^ 32 → (zs : List HeldRow) → Said (bn k rs) i rq r (bn k zs)
-        → Sq W (‵ (fobs γ (Bn .coded .code (bn k zs))) ∷ ‵ (fbor κ (Body (mem Bn) b o γ)) ∷ ‵ (flft κ q) ∷ ‵ (froom tyPtr l₁₂ 0) ∷ ‵ (fdies tyPtr l₁₂) ∷ ‵
-        (froom tyPtr l₁₁ 0) ∷ ‵ (fdies tyPtr l₁₁) ∷ ‵ (froom S′.mir l₁₀ 0) ∷ ‵ (fdies S′.mir l₁₀) ∷ ‵ (froom tyPtr l₉ 0) ∷ ‵ (fdies tyPtr l₉) ∷ ‵
-        (froom tyPtr l₈ 0) ∷ ‵ (fdies tyPtr l₈) ∷ ‵ (froom word l₇ 0) ∷ ‵ (fdies word l₇) ∷ ‵ (froom tyBool l₆ 0) ∷ ‵ (fdies tyBool l₆) ∷ ‵
-        (froom An′.mir l₅ 0) ∷ ‵ (fdies An′.mir l₅) ∷ ‵ (froom S′.mir l₄ 0) ∷ ‵ (fdies S′.mir l₄) ∷ ‵ (froom Qt l₃ 0) ∷ ‵ (fdies Qt l₃) ∷ ‵
-        (froom word l₂ 0) ∷ ‵ (fdies word l₂) ∷ ‵ (froom bench l₁ 0) ∷ ‵ (fdies bench l₁) ∷ ‵ (froom (tyInt w32) l₀ 0) ∷ ‵ (fdies (tyInt w32) l₀) ∷ [])
+        → Sq W (‵ (fobs γ (Bn .coded .code (bn k zs))) ∷ ‵ (fbor κ (Body (mem Bn) b o γ)) ∷ ‵ (flft κ q) ∷ ‵ (froom tyPtr l₁₂ 0) ∷ ‵ (fdies tyPtr l₁₂)
+        ∷ ‵ (froom tyPtr l₁₁ 0) ∷ ‵ (fdies tyPtr l₁₁) ∷ ‵ (froom S′.mir l₁₀ 0) ∷ ‵ (fdies S′.mir l₁₀) ∷ ‵ (froom tyPtr l₉ 0) ∷ ‵ (fdies tyPtr l₉)
+        ∷ ‵ (froom tyPtr l₈ 0) ∷ ‵ (fdies tyPtr l₈) ∷ ‵ (froom word l₇ 0) ∷ ‵ (fdies word l₇) ∷ ‵ (froom tyBool l₆ 0) ∷ ‵ (fdies tyBool l₆)
+        ∷ ‵ (froom An′.mir l₅ 0) ∷ ‵ (fdies An′.mir l₅) ∷ ‵ (froom S′.mir l₄ 0) ∷ ‵ (fdies S′.mir l₄) ∷ ‵ (froom Qt l₃ 0) ∷ ‵ (fdies Qt l₃)
+        ∷ ‵ (froom word l₂ 0) ∷ ‵ (fdies word l₂) ∷ ‵ (froom bench l₁ 0) ∷ ‵ (fdies bench l₁) ∷ ‵ (froom (tyInt w32) l₀ 0) ∷ ‵ (fdies (tyInt w32) l₀) ∷ [])
         (frees En (prop (Post (vint w32 r))))
     ends r gr zs said =
         move ! (27 ∷ 28 ∷ []) $ free1 ! $ move ! (25 ∷ 26 ∷ []) $ free1 ! $ move ! (23 ∷ 24 ∷ []) $ free1 ! $ move ! (21 ∷ 22 ∷ []) $ free1 ! $
@@ -194,13 +194,13 @@ module _ {M : Type 1} (𝓤 : URA M) (H : Heap 𝓤) (A : Atoms 𝓤) (W : Given
     after : (was : Is Bn (bn k rs) (valsB k rs)) (small : T (not (ltb 3 i))) (r : RowAnswer) (w : Val) → Is R (r .row) (w ∷ []) → r .number < 2 ^ 32 → r
         ≡ admitRowOf h i rq
         → Sq W (‵ (cellAt fullShare (R .mir) (valsR h) b (place (mem R .size) (o + 0) i)) ∷ ‵ (others (shares R) fullShare rs i b (o + 0)) ∷ raw
-        (Back 𝓤 H A W fullShare b o k) ∷ ‵ (fobor κ q (Body (mem Bn) b o γ)) ∷ ‵ (fobs γ (Bn .coded .code (bn k rs))) ∷ ‵
-        (fauth γ (Bn .coded .code (bn k rs))) ∷ ‵ (froom tyPtr l₁₂ 0) ∷ ‵ (fdies tyPtr l₁₂) ∷ ‵ (froom tyPtr l₁₁ 0) ∷ ‵ (fdies tyPtr l₁₁) ∷ ‵
-        (froom S′.mir l₁₀ 0) ∷ ‵ (fdies S′.mir l₁₀) ∷ ‵ (froom tyPtr l₉ 0) ∷ ‵ (fdies tyPtr l₉) ∷ ‵ (froom tyPtr l₈ 0) ∷ ‵ (fdies tyPtr l₈) ∷ ‵
-        (froom word l₇ 0) ∷ ‵ (fdies word l₇) ∷ ‵ (froom tyBool l₆ 0) ∷ ‵ (fdies tyBool l₆) ∷ ‵
-        (fat fullShare An′.mir l₅ 0 (vstruct (vcons w (vcons (vint w32 (r .number)) vnil)))) ∷ ‵ (fdies An′.mir l₅) ∷ ‵ (froom S′.mir l₄ 0) ∷ ‵
-        (fdies S′.mir l₄) ∷ ‵ (froom Qt l₃ 0) ∷ ‵ (fdies Qt l₃) ∷ ‵ (fat fullShare word l₂ 0 (vint w64 i)) ∷ ‵ (fdies word l₂) ∷ ‵
-        (fat fullShare bench l₁ 0 (vptr b o)) ∷ ‵ (fdies bench l₁) ∷ ‵ (froom (tyInt w32) l₀ 0) ∷ ‵ (fdies (tyInt w32) l₀) ∷ [])
+        (Back 𝓤 H A W fullShare b o k) ∷ ‵ (fobor κ q (Body (mem Bn) b o γ)) ∷ ‵ (fobs γ (Bn .coded .code (bn k rs)))
+        ∷ ‵ (fauth γ (Bn .coded .code (bn k rs))) ∷ ‵ (froom tyPtr l₁₂ 0) ∷ ‵ (fdies tyPtr l₁₂) ∷ ‵ (froom tyPtr l₁₁ 0) ∷ ‵ (fdies tyPtr l₁₁)
+        ∷ ‵ (froom S′.mir l₁₀ 0) ∷ ‵ (fdies S′.mir l₁₀) ∷ ‵ (froom tyPtr l₉ 0) ∷ ‵ (fdies tyPtr l₉) ∷ ‵ (froom tyPtr l₈ 0) ∷ ‵ (fdies tyPtr l₈)
+        ∷ ‵ (froom word l₇ 0) ∷ ‵ (fdies word l₇) ∷ ‵ (froom tyBool l₆ 0) ∷ ‵ (fdies tyBool l₆)
+        ∷ ‵ (fat fullShare An′.mir l₅ 0 (vstruct (vcons w (vcons (vint w32 (r .number)) vnil)))) ∷ ‵ (fdies An′.mir l₅) ∷ ‵ (froom S′.mir l₄ 0)
+        ∷ ‵ (fdies S′.mir l₄) ∷ ‵ (froom Qt l₃ 0) ∷ ‵ (fdies Qt l₃) ∷ ‵ (fat fullShare word l₂ 0 (vint w64 i)) ∷ ‵ (fdies word l₂)
+        ∷ ‵ (fat fullShare bench l₁ 0 (vptr b o)) ∷ ‵ (fdies bench l₁) ∷ ‵ (froom (tyInt w32) l₀ 0) ∷ ‵ (fdies (tyInt w32) l₀) ∷ [])
         (runs C Λ En t-9 (atRet En Post))
     after was small r w isr gr e =
         assigns ! (bin ! (load ! (from ! (stop !)) (look ! 26 refl)) (big-lit ! (record { fits = lit< tt })) (record { fits = fit small })) (from ! (stop !))
@@ -220,12 +220,12 @@ module _ {M : Type 1} (𝓤 : URA M) (H : Heap 𝓤) (A : Atoms 𝓤) (W : Given
 
     -- one of the four: the borrow is opened, the row is read, and `admit_row` is called
     arm : FmC 𝓤 H (W .laws) C → Triple 𝓤 (C #callee) (AdmitRow 𝓤 H A at-mem run) → (small : T (not (ltb 3 i)))
-        → Sq W (‵ (fobs γ (Bn .coded .code (bn k rs))) ∷ ‵ (fbor κ (Body (mem Bn) b o γ)) ∷ ‵ (flft κ q) ∷ ‵ (froom tyPtr l₁₂ 0) ∷ ‵ (fdies tyPtr l₁₂) ∷ ‵
-        (froom tyPtr l₁₁ 0) ∷ ‵ (fdies tyPtr l₁₁) ∷ ‵ (froom S′.mir l₁₀ 0) ∷ ‵ (fdies S′.mir l₁₀) ∷ ‵ (froom tyPtr l₉ 0) ∷ ‵ (fdies tyPtr l₉) ∷ ‵
-        (froom tyPtr l₈ 0) ∷ ‵ (fdies tyPtr l₈) ∷ ‵ (froom word l₇ 0) ∷ ‵ (fdies word l₇) ∷ ‵ (froom tyBool l₆ 0) ∷ ‵ (fdies tyBool l₆) ∷ ‵
-        (froom An′.mir l₅ 0) ∷ ‵ (fdies An′.mir l₅) ∷ ‵ (froom S′.mir l₄ 0) ∷ ‵ (fdies S′.mir l₄) ∷ ‵ (fat fullShare Qt l₃ 0 (only (valsQ rq))) ∷ ‵
-        (fdies Qt l₃) ∷ ‵ (fat fullShare word l₂ 0 (vint w64 i)) ∷ ‵ (fdies word l₂) ∷ ‵ (fat fullShare bench l₁ 0 (vptr b o)) ∷ ‵ (fdies bench l₁) ∷ ‵
-        (froom (tyInt w32) l₀ 0) ∷ ‵ (fdies (tyInt w32) l₀) ∷ [])
+        → Sq W (‵ (fobs γ (Bn .coded .code (bn k rs))) ∷ ‵ (fbor κ (Body (mem Bn) b o γ)) ∷ ‵ (flft κ q) ∷ ‵ (froom tyPtr l₁₂ 0) ∷ ‵ (fdies tyPtr l₁₂)
+        ∷ ‵ (froom tyPtr l₁₁ 0) ∷ ‵ (fdies tyPtr l₁₁) ∷ ‵ (froom S′.mir l₁₀ 0) ∷ ‵ (fdies S′.mir l₁₀) ∷ ‵ (froom tyPtr l₉ 0) ∷ ‵ (fdies tyPtr l₉)
+        ∷ ‵ (froom tyPtr l₈ 0) ∷ ‵ (fdies tyPtr l₈) ∷ ‵ (froom word l₇ 0) ∷ ‵ (fdies word l₇) ∷ ‵ (froom tyBool l₆ 0) ∷ ‵ (fdies tyBool l₆)
+        ∷ ‵ (froom An′.mir l₅ 0) ∷ ‵ (fdies An′.mir l₅) ∷ ‵ (froom S′.mir l₄ 0) ∷ ‵ (fdies S′.mir l₄) ∷ ‵ (fat fullShare Qt l₃ 0 (only (valsQ rq)))
+        ∷ ‵ (fdies Qt l₃) ∷ ‵ (fat fullShare word l₂ 0 (vint w64 i)) ∷ ‵ (fdies word l₂) ∷ ‵ (fat fullShare bench l₁ 0 (vptr b o)) ∷ ‵ (fdies bench l₁)
+        ∷ ‵ (froom (tyInt w32) l₀ 0) ∷ ‵ (fdies (tyInt w32) l₀) ∷ [])
         (runs C Λ En t-3 (atRet En Post))
     arm fm known small =
         assigns ! (bin ! (load ! (from ! (stop !)) (look ! 23 refl)) (big-lit ! (record { fits = lit< tt })) (record { fits = fit small })) (from ! (stop !))
@@ -258,12 +258,12 @@ module _ {M : Type 1} (𝓤 : URA M) (H : Heap 𝓤) (A : Atoms 𝓤) (W : Given
 
     -- the test, and the arm with no such row
     starts : FmC 𝓤 H (W .laws) C → Triple 𝓤 (C #callee) (AdmitRow 𝓤 H A at-mem run) → Triple 𝓤 (C #other) (AdmitNumber 𝓤 H A at-mem run)
-        → Sq W (‵ (fobs γ (Bn .coded .code (bn k rs))) ∷ ‵ (fbor κ (Body (mem Bn) b o γ)) ∷ ‵ (flft κ q) ∷ ‵ (froom tyPtr l₁₂ 0) ∷ ‵ (fdies tyPtr l₁₂) ∷ ‵
-        (froom tyPtr l₁₁ 0) ∷ ‵ (fdies tyPtr l₁₁) ∷ ‵ (froom S′.mir l₁₀ 0) ∷ ‵ (fdies S′.mir l₁₀) ∷ ‵ (froom tyPtr l₉ 0) ∷ ‵ (fdies tyPtr l₉) ∷ ‵
-        (froom tyPtr l₈ 0) ∷ ‵ (fdies tyPtr l₈) ∷ ‵ (froom word l₇ 0) ∷ ‵ (fdies word l₇) ∷ ‵ (froom tyBool l₆ 0) ∷ ‵ (fdies tyBool l₆) ∷ ‵
-        (froom An′.mir l₅ 0) ∷ ‵ (fdies An′.mir l₅) ∷ ‵ (froom S′.mir l₄ 0) ∷ ‵ (fdies S′.mir l₄) ∷ ‵ (fat fullShare Qt l₃ 0 (only (valsQ rq))) ∷ ‵
-        (fdies Qt l₃) ∷ ‵ (fat fullShare word l₂ 0 (vint w64 i)) ∷ ‵ (fdies word l₂) ∷ ‵ (fat fullShare bench l₁ 0 (vptr b o)) ∷ ‵ (fdies bench l₁) ∷ ‵
-        (froom (tyInt w32) l₀ 0) ∷ ‵ (fdies (tyInt w32) l₀) ∷ [])
+        → Sq W (‵ (fobs γ (Bn .coded .code (bn k rs))) ∷ ‵ (fbor κ (Body (mem Bn) b o γ)) ∷ ‵ (flft κ q) ∷ ‵ (froom tyPtr l₁₂ 0) ∷ ‵ (fdies tyPtr l₁₂)
+        ∷ ‵ (froom tyPtr l₁₁ 0) ∷ ‵ (fdies tyPtr l₁₁) ∷ ‵ (froom S′.mir l₁₀ 0) ∷ ‵ (fdies S′.mir l₁₀) ∷ ‵ (froom tyPtr l₉ 0) ∷ ‵ (fdies tyPtr l₉)
+        ∷ ‵ (froom tyPtr l₈ 0) ∷ ‵ (fdies tyPtr l₈) ∷ ‵ (froom word l₇ 0) ∷ ‵ (fdies word l₇) ∷ ‵ (froom tyBool l₆ 0) ∷ ‵ (fdies tyBool l₆)
+        ∷ ‵ (froom An′.mir l₅ 0) ∷ ‵ (fdies An′.mir l₅) ∷ ‵ (froom S′.mir l₄ 0) ∷ ‵ (fdies S′.mir l₄) ∷ ‵ (fat fullShare Qt l₃ 0 (only (valsQ rq)))
+        ∷ ‵ (fdies Qt l₃) ∷ ‵ (fat fullShare word l₂ 0 (vint w64 i)) ∷ ‵ (fdies word l₂) ∷ ‵ (fat fullShare bench l₁ 0 (vptr b o)) ∷ ‵ (fdies bench l₁)
+        ∷ ‵ (froom (tyInt w32) l₀ 0) ∷ ‵ (fdies (tyInt w32) l₀) ∷ [])
         (runs C Λ En t-1 (atRet En Post))
     starts fm known known′ =
         assigns ! (bin ! (lit ! tt) (load ! (from ! (stop !)) (look ! 23 refl)) tt) (from ! (stop !)) (init ! 15 refl (tt, tt)) $

@@ -123,11 +123,11 @@ module _ {M : Type 1} (𝓤 : URA M) (H : Heap 𝓤) (A : Atoms 𝓤) (W : Given
   Post = walkOf 𝓤 H A f.ended stayed (f.clauses 𝓤 H A at-mem run) .post (((κ, (κ₂, tt)), (q, (q₂, tt)), tt, x, at), tt)
 
   exits : (r : ℕ) → r < 2 ^ 32 → (zs : List HeldRow) → Said (bn k rs) i rq r (bn k zs)
-      → ent 𝓤 (⋆ 𝓤 H A (‵ (fobs γ (Bn .coded .code (bn k zs))) ∷ ‵ (fbor κ (Body (mem Bn) b o γ)) ∷ ‵ (flft κ q) ∷ ‵ (fres γ₂ (Rq .coded .code rq)) ∷ ‵
-      (fshr-bor κ₂ (λ s. partAt Rq s rq b₂ o₂)) ∷ ‵ (flft κ₂ q₂) ∷ [])) (Post (vint w32 r))
+      → ent 𝓤 (⋆ 𝓤 H A (‵ (fobs γ (Bn .coded .code (bn k zs))) ∷ ‵ (fbor κ (Body (mem Bn) b o γ)) ∷ ‵ (flft κ q) ∷ ‵ (fres γ₂
+      (Rq .coded .code rq)) ∷ ‵ (fshr-bor κ₂ (λ s. partAt Rq s rq b₂ o₂)) ∷ ‵ (flft κ₂ q₂) ∷ [])) (Post (vint w32 r))
   exits r gr zs said =
-      qed W (‵ (fobs γ (Bn .coded .code (bn k zs))) ∷ ‵ (fbor κ (Body (mem Bn) b o γ)) ∷ ‵ (flft κ q) ∷ ‵ (fres γ₂ (Rq .coded .code rq)) ∷ ‵
-      (fshr-bor κ₂ (λ s. partAt Rq s rq b₂ o₂)) ∷ ‵ (flft κ₂ q₂) ∷ []) ∵
+      qed W (‵ (fobs γ (Bn .coded .code (bn k zs))) ∷ ‵ (fbor κ (Body (mem Bn) b o γ)) ∷ ‵ (flft κ q) ∷ ‵ (fres γ₂ (Rq .coded .code rq))
+      ∷ ‵ (fshr-bor κ₂ (λ s. partAt Rq s rq b₂ o₂)) ∷ ‵ (flft κ₂ q₂) ∷ []) ∵
       suffices ! _ (ends-at 𝓤 H A f.ended stayed (f.clauses 𝓤 H A at-mem run) W (((κ, (κ₂, tt)), (q, (q₂, tt)), tt, x, at), tt) (vint w32 r) r (
         bn k zs,
         (tt, (tt, tt)),
@@ -172,13 +172,13 @@ module _ {M : Type 1} (𝓤 : URA M) (H : Heap 𝓤) (A : Atoms 𝓤) (W : Given
 
     -- the locals are freed
     ends : (r : ℕ) → r < 2 ^ 32 → (zs : List HeldRow) → Said (bn k rs) i rq r (bn k zs)
-        → Sq W (‵ (fobs γ (Bn .coded .code (bn k zs))) ∷ ‵ (fbor κ (Body (mem Bn) b o γ)) ∷ ‵ (flft κ q) ∷ ‵ (froom tyPtr l₁₃ 0) ∷ ‵ (fdies tyPtr l₁₃) ∷ ‵
-        (froom tyPtr l₁₂ 0) ∷ ‵ (fdies tyPtr l₁₂) ∷ ‵ (froom S′.mir l₁₁ 0) ∷ ‵ (fdies S′.mir l₁₁) ∷ ‵ (froom tyPtr l₁₀ 0) ∷ ‵ (fdies tyPtr l₁₀) ∷ ‵
-        (froom tyPtr l₉ 0) ∷ ‵ (fdies tyPtr l₉) ∷ ‵ (froom word l₈ 0) ∷ ‵ (fdies word l₈) ∷ ‵ (froom tyBool l₇ 0) ∷ ‵ (fdies tyBool l₇) ∷ ‵
-        (froom An′.mir l₆ 0) ∷ ‵ (fdies An′.mir l₆) ∷ ‵ (froom S′.mir l₅ 0) ∷ ‵ (fdies S′.mir l₅) ∷ ‵ (froom Q′.mir l₄ 0) ∷ ‵ (fdies Q′.mir l₄) ∷ ‵
-        (froom asked l₃ 0) ∷ ‵ (fdies asked l₃) ∷ ‵ (froom word l₂ 0) ∷ ‵ (fdies word l₂) ∷ ‵ (froom bench l₁ 0) ∷ ‵ (fdies bench l₁) ∷ ‵
-        (froom (tyInt w32) l₀ 0) ∷ ‵ (fdies (tyInt w32) l₀) ∷ ‵ (fres γ₂ (Rq .coded .code rq)) ∷ ‵ (fshr-bor κ₂ (λ s. partAt Rq s rq b₂ o₂)) ∷ ‵
-        (flft κ₂ q₂) ∷ [])
+        → Sq W (‵ (fobs γ (Bn .coded .code (bn k zs))) ∷ ‵ (fbor κ (Body (mem Bn) b o γ)) ∷ ‵ (flft κ q) ∷ ‵ (froom tyPtr l₁₃ 0) ∷ ‵ (fdies tyPtr l₁₃)
+        ∷ ‵ (froom tyPtr l₁₂ 0) ∷ ‵ (fdies tyPtr l₁₂) ∷ ‵ (froom S′.mir l₁₁ 0) ∷ ‵ (fdies S′.mir l₁₁) ∷ ‵ (froom tyPtr l₁₀ 0) ∷ ‵ (fdies tyPtr l₁₀)
+        ∷ ‵ (froom tyPtr l₉ 0) ∷ ‵ (fdies tyPtr l₉) ∷ ‵ (froom word l₈ 0) ∷ ‵ (fdies word l₈) ∷ ‵ (froom tyBool l₇ 0) ∷ ‵ (fdies tyBool l₇)
+        ∷ ‵ (froom An′.mir l₆ 0) ∷ ‵ (fdies An′.mir l₆) ∷ ‵ (froom S′.mir l₅ 0) ∷ ‵ (fdies S′.mir l₅) ∷ ‵ (froom Q′.mir l₄ 0) ∷ ‵ (fdies Q′.mir l₄)
+        ∷ ‵ (froom asked l₃ 0) ∷ ‵ (fdies asked l₃) ∷ ‵ (froom word l₂ 0) ∷ ‵ (fdies word l₂) ∷ ‵ (froom bench l₁ 0) ∷ ‵ (fdies bench l₁)
+        ∷ ‵ (froom (tyInt w32) l₀ 0) ∷ ‵ (fdies (tyInt w32) l₀) ∷ ‵ (fres γ₂ (Rq .coded .code rq)) ∷ ‵ (fshr-bor κ₂ (λ s. partAt Rq s rq b₂ o₂))
+        ∷ ‵ (flft κ₂ q₂) ∷ [])
         (frees En (prop (Post (vint w32 r))))
     ends r gr zs said =
         move ! (29 ∷ 30 ∷ []) $ free1 ! $ move ! (27 ∷ 28 ∷ []) $ free1 ! $ move ! (25 ∷ 26 ∷ []) $ free1 ! $ move ! (23 ∷ 24 ∷ []) $ free1 ! $
@@ -191,15 +191,15 @@ module _ {M : Type 1} (𝓤 : URA M) (H : Heap 𝓤) (A : Atoms 𝓤) (W : Given
     after : (was : Is Bn (bn k rs) (valsB k rs)) (small : T (not (ltb 3 i))) (r : RowAnswer) (w : Val) → Is R (r .row) (w ∷ []) → r .number < 2 ^ 32 → r
         ≡ recordRowOf h i rq
         → Sq W (‵ (cellAt fullShare (R .mir) (valsR h) b (place (mem R .size) (o + 0) i)) ∷ ‵ (others (shares R) fullShare rs i b (o + 0)) ∷ raw
-        (Back 𝓤 H A W fullShare b o k) ∷ ‵ (fobor κ q (Body (mem Bn) b o γ)) ∷ ‵ (fobs γ (Bn .coded .code (bn k rs))) ∷ ‵
-        (fauth γ (Bn .coded .code (bn k rs))) ∷ ‵ (froom tyPtr l₁₃ 0) ∷ ‵ (fdies tyPtr l₁₃) ∷ ‵ (froom tyPtr l₁₂ 0) ∷ ‵ (fdies tyPtr l₁₂) ∷ ‵
-        (froom S′.mir l₁₁ 0) ∷ ‵ (fdies S′.mir l₁₁) ∷ ‵ (froom tyPtr l₁₀ 0) ∷ ‵ (fdies tyPtr l₁₀) ∷ ‵ (froom tyPtr l₉ 0) ∷ ‵ (fdies tyPtr l₉) ∷ ‵
-        (froom word l₈ 0) ∷ ‵ (fdies word l₈) ∷ ‵ (froom tyBool l₇ 0) ∷ ‵ (fdies tyBool l₇) ∷ ‵
-        (fat fullShare An′.mir l₆ 0 (vstruct (vcons w (vcons (vint w32 (r .number)) vnil)))) ∷ ‵ (fdies An′.mir l₆) ∷ ‵ (froom S′.mir l₅ 0) ∷ ‵
-        (fdies S′.mir l₅) ∷ ‵ (froom Q′.mir l₄ 0) ∷ ‵ (fdies Q′.mir l₄) ∷ ‵ (froom asked l₃ 0) ∷ ‵ (fdies asked l₃) ∷ ‵
-        (fat fullShare word l₂ 0 (vint w64 i)) ∷ ‵ (fdies word l₂) ∷ ‵ (fat fullShare bench l₁ 0 (vptr b o)) ∷ ‵ (fdies bench l₁) ∷ ‵
-        (froom (tyInt w32) l₀ 0) ∷ ‵ (fdies (tyInt w32) l₀) ∷ ‵ (fres γ₂ (Rq .coded .code rq)) ∷ ‵ (fshr-bor κ₂ (λ s. partAt Rq s rq b₂ o₂)) ∷ ‵
-        (flft κ₂ q₂) ∷ [])
+        (Back 𝓤 H A W fullShare b o k) ∷ ‵ (fobor κ q (Body (mem Bn) b o γ)) ∷ ‵ (fobs γ (Bn .coded .code (bn k rs)))
+        ∷ ‵ (fauth γ (Bn .coded .code (bn k rs))) ∷ ‵ (froom tyPtr l₁₃ 0) ∷ ‵ (fdies tyPtr l₁₃) ∷ ‵ (froom tyPtr l₁₂ 0) ∷ ‵ (fdies tyPtr l₁₂)
+        ∷ ‵ (froom S′.mir l₁₁ 0) ∷ ‵ (fdies S′.mir l₁₁) ∷ ‵ (froom tyPtr l₁₀ 0) ∷ ‵ (fdies tyPtr l₁₀) ∷ ‵ (froom tyPtr l₉ 0) ∷ ‵ (fdies tyPtr l₉)
+        ∷ ‵ (froom word l₈ 0) ∷ ‵ (fdies word l₈) ∷ ‵ (froom tyBool l₇ 0) ∷ ‵ (fdies tyBool l₇)
+        ∷ ‵ (fat fullShare An′.mir l₆ 0 (vstruct (vcons w (vcons (vint w32 (r .number)) vnil)))) ∷ ‵ (fdies An′.mir l₆) ∷ ‵ (froom S′.mir l₅ 0)
+        ∷ ‵ (fdies S′.mir l₅) ∷ ‵ (froom Q′.mir l₄ 0) ∷ ‵ (fdies Q′.mir l₄) ∷ ‵ (froom asked l₃ 0) ∷ ‵ (fdies asked l₃)
+        ∷ ‵ (fat fullShare word l₂ 0 (vint w64 i)) ∷ ‵ (fdies word l₂) ∷ ‵ (fat fullShare bench l₁ 0 (vptr b o)) ∷ ‵ (fdies bench l₁)
+        ∷ ‵ (froom (tyInt w32) l₀ 0) ∷ ‵ (fdies (tyInt w32) l₀) ∷ ‵ (fres γ₂ (Rq .coded .code rq)) ∷ ‵ (fshr-bor κ₂ (λ s. partAt Rq s rq b₂ o₂))
+        ∷ ‵ (flft κ₂ q₂) ∷ [])
         (runs C Λ En t-10 (atRet En Post))
     after was small r w isr gr e =
         assigns ! (bin ! (load ! (from ! (stop !)) (look ! 28 refl)) (big-lit ! (record { fits = lit< tt })) (record { fits = fit small })) (from ! (stop !))
@@ -219,13 +219,13 @@ module _ {M : Type 1} (𝓤 : URA M) (H : Heap 𝓤) (A : Atoms 𝓤) (W : Given
 
     -- one of the four: the borrow is opened, the row is read, and `admit_record_row` is called
     arm : FmC 𝓤 H (W .laws) C → Triple 𝓤 (C #callee) (RecordRow 𝓤 H A at-mem run) → Is Rq rq (valsQ rq) → (small : T (not (ltb 3 i)))
-        → Sq W (‵ (fobs γ (Bn .coded .code (bn k rs))) ∷ ‵ (fbor κ (Body (mem Bn) b o γ)) ∷ ‵ (flft κ q) ∷ ‵ (froom tyPtr l₁₃ 0) ∷ ‵ (fdies tyPtr l₁₃) ∷ ‵
-        (froom tyPtr l₁₂ 0) ∷ ‵ (fdies tyPtr l₁₂) ∷ ‵ (froom S′.mir l₁₁ 0) ∷ ‵ (fdies S′.mir l₁₁) ∷ ‵ (froom tyPtr l₁₀ 0) ∷ ‵ (fdies tyPtr l₁₀) ∷ ‵
-        (froom tyPtr l₉ 0) ∷ ‵ (fdies tyPtr l₉) ∷ ‵ (froom word l₈ 0) ∷ ‵ (fdies word l₈) ∷ ‵ (froom tyBool l₇ 0) ∷ ‵ (fdies tyBool l₇) ∷ ‵
-        (froom An′.mir l₆ 0) ∷ ‵ (fdies An′.mir l₆) ∷ ‵ (froom S′.mir l₅ 0) ∷ ‵ (fdies S′.mir l₅) ∷ ‵ (fat fullShare Q′.mir l₄ 0 (only (valsQ rq))) ∷ ‵
-        (fdies Q′.mir l₄) ∷ ‵ (fat fullShare asked l₃ 0 (vptr b₂ o₂)) ∷ ‵ (fdies asked l₃) ∷ ‵ (fat fullShare word l₂ 0 (vint w64 i)) ∷ ‵
-        (fdies word l₂) ∷ ‵ (fat fullShare bench l₁ 0 (vptr b o)) ∷ ‵ (fdies bench l₁) ∷ ‵ (froom (tyInt w32) l₀ 0) ∷ ‵ (fdies (tyInt w32) l₀) ∷ ‵
-        (fres γ₂ (Rq .coded .code rq)) ∷ ‵ (fshr-bor κ₂ (λ s. partAt Rq s rq b₂ o₂)) ∷ ‵ (flft κ₂ q₂) ∷ [])
+        → Sq W (‵ (fobs γ (Bn .coded .code (bn k rs))) ∷ ‵ (fbor κ (Body (mem Bn) b o γ)) ∷ ‵ (flft κ q) ∷ ‵ (froom tyPtr l₁₃ 0) ∷ ‵ (fdies tyPtr l₁₃)
+        ∷ ‵ (froom tyPtr l₁₂ 0) ∷ ‵ (fdies tyPtr l₁₂) ∷ ‵ (froom S′.mir l₁₁ 0) ∷ ‵ (fdies S′.mir l₁₁) ∷ ‵ (froom tyPtr l₁₀ 0) ∷ ‵ (fdies tyPtr l₁₀)
+        ∷ ‵ (froom tyPtr l₉ 0) ∷ ‵ (fdies tyPtr l₉) ∷ ‵ (froom word l₈ 0) ∷ ‵ (fdies word l₈) ∷ ‵ (froom tyBool l₇ 0) ∷ ‵ (fdies tyBool l₇)
+        ∷ ‵ (froom An′.mir l₆ 0) ∷ ‵ (fdies An′.mir l₆) ∷ ‵ (froom S′.mir l₅ 0) ∷ ‵ (fdies S′.mir l₅) ∷ ‵ (fat fullShare Q′.mir l₄ 0 (only (valsQ rq)))
+        ∷ ‵ (fdies Q′.mir l₄) ∷ ‵ (fat fullShare asked l₃ 0 (vptr b₂ o₂)) ∷ ‵ (fdies asked l₃) ∷ ‵ (fat fullShare word l₂ 0 (vint w64 i))
+        ∷ ‵ (fdies word l₂) ∷ ‵ (fat fullShare bench l₁ 0 (vptr b o)) ∷ ‵ (fdies bench l₁) ∷ ‵ (froom (tyInt w32) l₀ 0) ∷ ‵ (fdies (tyInt w32) l₀)
+        ∷ ‵ (fres γ₂ (Rq .coded .code rq)) ∷ ‵ (fshr-bor κ₂ (λ s. partAt Rq s rq b₂ o₂)) ∷ ‵ (flft κ₂ q₂) ∷ [])
         (runs C Λ En t-4 (atRet En Post))
     arm fm known isq small =
         assigns ! (bin ! (load ! (from ! (stop !)) (look ! 25 refl)) (big-lit ! (record { fits = lit< tt })) (record { fits = fit small })) (from ! (stop !))
@@ -259,13 +259,13 @@ module _ {M : Type 1} (𝓤 : URA M) (H : Heap 𝓤) (A : Atoms 𝓤) (W : Given
 
     -- the test, and the arm with no such row
     tests : FmC 𝓤 H (W .laws) C → Triple 𝓤 (C #callee) (RecordRow 𝓤 H A at-mem run) → Triple 𝓤 (C #other) (RecordNumber 𝓤 H A at-mem run) → Is Rq rq (valsQ rq)
-        → Sq W (‵ (fobs γ (Bn .coded .code (bn k rs))) ∷ ‵ (fbor κ (Body (mem Bn) b o γ)) ∷ ‵ (flft κ q) ∷ ‵ (froom tyPtr l₁₃ 0) ∷ ‵ (fdies tyPtr l₁₃) ∷ ‵
-        (froom tyPtr l₁₂ 0) ∷ ‵ (fdies tyPtr l₁₂) ∷ ‵ (froom S′.mir l₁₁ 0) ∷ ‵ (fdies S′.mir l₁₁) ∷ ‵ (froom tyPtr l₁₀ 0) ∷ ‵ (fdies tyPtr l₁₀) ∷ ‵
-        (froom tyPtr l₉ 0) ∷ ‵ (fdies tyPtr l₉) ∷ ‵ (froom word l₈ 0) ∷ ‵ (fdies word l₈) ∷ ‵ (froom tyBool l₇ 0) ∷ ‵ (fdies tyBool l₇) ∷ ‵
-        (froom An′.mir l₆ 0) ∷ ‵ (fdies An′.mir l₆) ∷ ‵ (froom S′.mir l₅ 0) ∷ ‵ (fdies S′.mir l₅) ∷ ‵ (fat fullShare Q′.mir l₄ 0 (only (valsQ rq))) ∷ ‵
-        (fdies Q′.mir l₄) ∷ ‵ (fat fullShare asked l₃ 0 (vptr b₂ o₂)) ∷ ‵ (fdies asked l₃) ∷ ‵ (fat fullShare word l₂ 0 (vint w64 i)) ∷ ‵
-        (fdies word l₂) ∷ ‵ (fat fullShare bench l₁ 0 (vptr b o)) ∷ ‵ (fdies bench l₁) ∷ ‵ (froom (tyInt w32) l₀ 0) ∷ ‵ (fdies (tyInt w32) l₀) ∷ ‵
-        (fres γ₂ (Rq .coded .code rq)) ∷ ‵ (fshr-bor κ₂ (λ s. partAt Rq s rq b₂ o₂)) ∷ ‵ (flft κ₂ q₂) ∷ [])
+        → Sq W (‵ (fobs γ (Bn .coded .code (bn k rs))) ∷ ‵ (fbor κ (Body (mem Bn) b o γ)) ∷ ‵ (flft κ q) ∷ ‵ (froom tyPtr l₁₃ 0) ∷ ‵ (fdies tyPtr l₁₃)
+        ∷ ‵ (froom tyPtr l₁₂ 0) ∷ ‵ (fdies tyPtr l₁₂) ∷ ‵ (froom S′.mir l₁₁ 0) ∷ ‵ (fdies S′.mir l₁₁) ∷ ‵ (froom tyPtr l₁₀ 0) ∷ ‵ (fdies tyPtr l₁₀)
+        ∷ ‵ (froom tyPtr l₉ 0) ∷ ‵ (fdies tyPtr l₉) ∷ ‵ (froom word l₈ 0) ∷ ‵ (fdies word l₈) ∷ ‵ (froom tyBool l₇ 0) ∷ ‵ (fdies tyBool l₇)
+        ∷ ‵ (froom An′.mir l₆ 0) ∷ ‵ (fdies An′.mir l₆) ∷ ‵ (froom S′.mir l₅ 0) ∷ ‵ (fdies S′.mir l₅) ∷ ‵ (fat fullShare Q′.mir l₄ 0 (only (valsQ rq)))
+        ∷ ‵ (fdies Q′.mir l₄) ∷ ‵ (fat fullShare asked l₃ 0 (vptr b₂ o₂)) ∷ ‵ (fdies asked l₃) ∷ ‵ (fat fullShare word l₂ 0 (vint w64 i))
+        ∷ ‵ (fdies word l₂) ∷ ‵ (fat fullShare bench l₁ 0 (vptr b o)) ∷ ‵ (fdies bench l₁) ∷ ‵ (froom (tyInt w32) l₀ 0) ∷ ‵ (fdies (tyInt w32) l₀)
+        ∷ ‵ (fres γ₂ (Rq .coded .code rq)) ∷ ‵ (fshr-bor κ₂ (λ s. partAt Rq s rq b₂ o₂)) ∷ ‵ (flft κ₂ q₂) ∷ [])
         (runs C Λ En t-2 (atRet En Post))
     tests fm known known′ isq =
         assigns ! (bin ! (lit ! tt) (load ! (from ! (stop !)) (look ! 25 refl)) tt) (from ! (stop !)) (init ! 15 refl (tt, tt)) $
@@ -287,13 +287,13 @@ module _ {M : Type 1} (𝓤 : URA M) (H : Heap 𝓤) (A : Atoms 𝓤) (W : Given
 
     -- the request is looked into and copied
     starts : FmC 𝓤 H (W .laws) C → Triple 𝓤 (C #callee) (RecordRow 𝓤 H A at-mem run) → Triple 𝓤 (C #other) (RecordNumber 𝓤 H A at-mem run)
-        → Sq W (‵ (fobs γ (Bn .coded .code (bn k rs))) ∷ ‵ (fbor κ (Body (mem Bn) b o γ)) ∷ ‵ (flft κ q) ∷ ‵ (froom tyPtr l₁₃ 0) ∷ ‵ (fdies tyPtr l₁₃) ∷ ‵
-        (froom tyPtr l₁₂ 0) ∷ ‵ (fdies tyPtr l₁₂) ∷ ‵ (froom S′.mir l₁₁ 0) ∷ ‵ (fdies S′.mir l₁₁) ∷ ‵ (froom tyPtr l₁₀ 0) ∷ ‵ (fdies tyPtr l₁₀) ∷ ‵
-        (froom tyPtr l₉ 0) ∷ ‵ (fdies tyPtr l₉) ∷ ‵ (froom word l₈ 0) ∷ ‵ (fdies word l₈) ∷ ‵ (froom tyBool l₇ 0) ∷ ‵ (fdies tyBool l₇) ∷ ‵
-        (froom An′.mir l₆ 0) ∷ ‵ (fdies An′.mir l₆) ∷ ‵ (froom S′.mir l₅ 0) ∷ ‵ (fdies S′.mir l₅) ∷ ‵ (froom Q′.mir l₄ 0) ∷ ‵ (fdies Q′.mir l₄) ∷ ‵
-        (fat fullShare asked l₃ 0 (vptr b₂ o₂)) ∷ ‵ (fdies asked l₃) ∷ ‵ (fat fullShare word l₂ 0 (vint w64 i)) ∷ ‵ (fdies word l₂) ∷ ‵
-        (fat fullShare bench l₁ 0 (vptr b o)) ∷ ‵ (fdies bench l₁) ∷ ‵ (froom (tyInt w32) l₀ 0) ∷ ‵ (fdies (tyInt w32) l₀) ∷ ‵
-        (fres γ₂ (Rq .coded .code rq)) ∷ ‵ (fshr-bor κ₂ (λ s. partAt Rq s rq b₂ o₂)) ∷ ‵ (flft κ₂ q₂) ∷ [])
+        → Sq W (‵ (fobs γ (Bn .coded .code (bn k rs))) ∷ ‵ (fbor κ (Body (mem Bn) b o γ)) ∷ ‵ (flft κ q) ∷ ‵ (froom tyPtr l₁₃ 0) ∷ ‵ (fdies tyPtr l₁₃)
+        ∷ ‵ (froom tyPtr l₁₂ 0) ∷ ‵ (fdies tyPtr l₁₂) ∷ ‵ (froom S′.mir l₁₁ 0) ∷ ‵ (fdies S′.mir l₁₁) ∷ ‵ (froom tyPtr l₁₀ 0) ∷ ‵ (fdies tyPtr l₁₀)
+        ∷ ‵ (froom tyPtr l₉ 0) ∷ ‵ (fdies tyPtr l₉) ∷ ‵ (froom word l₈ 0) ∷ ‵ (fdies word l₈) ∷ ‵ (froom tyBool l₇ 0) ∷ ‵ (fdies tyBool l₇)
+        ∷ ‵ (froom An′.mir l₆ 0) ∷ ‵ (fdies An′.mir l₆) ∷ ‵ (froom S′.mir l₅ 0) ∷ ‵ (fdies S′.mir l₅) ∷ ‵ (froom Q′.mir l₄ 0) ∷ ‵ (fdies Q′.mir l₄)
+        ∷ ‵ (fat fullShare asked l₃ 0 (vptr b₂ o₂)) ∷ ‵ (fdies asked l₃) ∷ ‵ (fat fullShare word l₂ 0 (vint w64 i)) ∷ ‵ (fdies word l₂)
+        ∷ ‵ (fat fullShare bench l₁ 0 (vptr b o)) ∷ ‵ (fdies bench l₁) ∷ ‵ (froom (tyInt w32) l₀ 0) ∷ ‵ (fdies (tyInt w32) l₀)
+        ∷ ‵ (fres γ₂ (Rq .coded .code rq)) ∷ ‵ (fshr-bor κ₂ (λ s. partAt Rq s rq b₂ o₂)) ∷ ‵ (flft κ₂ q₂) ∷ [])
         (runs C Λ En t-1 (atRet En Post))
     starts fm known known′ =
         move ! (32 ∷ 33 ∷ []) $

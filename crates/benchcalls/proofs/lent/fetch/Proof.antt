@@ -124,11 +124,11 @@ module _ {M : Type 1} (𝓤 : URA M) (H : Heap 𝓤) (A : Atoms 𝓤) (W : Given
   Post = walkOf 𝓤 H A f.ended stayed (f.clauses 𝓤 H A at-mem run) .post (((κ, (κ₂, tt)), (q, (q₂, tt)), tt, x, at), tt)
 
   exits : (r : ℕ) → r < 2 ^ 32 → (z : OptimizationResult) → Said (bn k rs) i oc r z
-      → ent 𝓤 (⋆ 𝓤 H A (‵ (flft κ q) ∷ ‵ (fres γ (Bn .coded .code (bn k rs))) ∷ ‵ (fshr-bor κ (λ s. partAt Bn s (bn k rs) b o)) ∷ ‵
-      (fobs γ₂ (Oc .coded .code z)) ∷ ‵ (fbor κ₂ (Body (mem Oc) b₂ o₂ γ₂)) ∷ ‵ (flft κ₂ q₂) ∷ [])) (Post (vint w32 r))
+      → ent 𝓤 (⋆ 𝓤 H A (‵ (flft κ q) ∷ ‵ (fres γ (Bn .coded .code (bn k rs))) ∷ ‵ (fshr-bor κ (λ s. partAt Bn s (bn k rs) b o)) ∷ ‵ (fobs γ₂
+      (Oc .coded .code z)) ∷ ‵ (fbor κ₂ (Body (mem Oc) b₂ o₂ γ₂)) ∷ ‵ (flft κ₂ q₂) ∷ [])) (Post (vint w32 r))
   exits r gr z said =
-      qed W (‵ (flft κ q) ∷ ‵ (fres γ (Bn .coded .code (bn k rs))) ∷ ‵ (fshr-bor κ (λ s. partAt Bn s (bn k rs) b o)) ∷ ‵ (fobs γ₂ (Oc .coded .code z)) ∷ ‵
-      (fbor κ₂ (Body (mem Oc) b₂ o₂ γ₂)) ∷ ‵ (flft κ₂ q₂) ∷ []) ∵
+      qed W (‵ (flft κ q) ∷ ‵ (fres γ (Bn .coded .code (bn k rs))) ∷ ‵ (fshr-bor κ (λ s. partAt Bn s (bn k rs) b o)) ∷ ‵ (fobs γ₂ (Oc .coded .code z))
+      ∷ ‵ (fbor κ₂ (Body (mem Oc) b₂ o₂ γ₂)) ∷ ‵ (flft κ₂ q₂) ∷ []) ∵
       suffices ! _ (ends-at 𝓤 H A f.ended stayed (f.clauses 𝓤 H A at-mem run) W (((κ, (κ₂, tt)), (q, (q₂, tt)), tt, x, at), tt) (vint w32 r) r (
         tt,
         (tt, (z, tt)),
@@ -165,12 +165,12 @@ module _ {M : Type 1} (𝓤 : URA M) (H : Heap 𝓤) (A : Atoms 𝓤) (W : Given
 
     -- the locals are freed
     ends : (r : ℕ) → r < 2 ^ 32 → (z : OptimizationResult) → Said (bn k rs) i oc r z
-        → Sq W (‵ (flft κ q) ∷ ‵ (fres γ (Bn .coded .code (bn k rs))) ∷ ‵ (fshr-bor κ (λ s. partAt Bn s (bn k rs) b o)) ∷ ‵ (fobs γ₂ (Oc .coded .code z)) ∷ ‵
-        (fbor κ₂ (Body (mem Oc) b₂ o₂ γ₂)) ∷ ‵ (flft κ₂ q₂) ∷ ‵ (froom S′.mir l₁₁ 0) ∷ ‵ (fdies S′.mir l₁₁) ∷ ‵ (froom tyPtr l₁₀ 0) ∷ ‵
-        (fdies tyPtr l₁₀) ∷ ‵ (froom tyPtr l₉ 0) ∷ ‵ (fdies tyPtr l₉) ∷ ‵ (froom word l₈ 0) ∷ ‵ (fdies word l₈) ∷ ‵ (froom tyBool l₇ 0) ∷ ‵
-        (fdies tyBool l₇) ∷ ‵ (froom Fe′.mir l₆ 0) ∷ ‵ (fdies Fe′.mir l₆) ∷ ‵ (froom O′.mir l₅ 0) ∷ ‵ (fdies O′.mir l₅) ∷ ‵ (froom S′.mir l₄ 0) ∷ ‵
-        (fdies S′.mir l₄) ∷ ‵ (froom result l₃ 0) ∷ ‵ (fdies result l₃) ∷ ‵ (froom word l₂ 0) ∷ ‵ (fdies word l₂) ∷ ‵ (froom bench l₁ 0) ∷ ‵
-        (fdies bench l₁) ∷ ‵ (froom (tyInt w32) l₀ 0) ∷ ‵ (fdies (tyInt w32) l₀) ∷ [])
+        → Sq W (‵ (flft κ q) ∷ ‵ (fres γ (Bn .coded .code (bn k rs))) ∷ ‵ (fshr-bor κ (λ s. partAt Bn s (bn k rs) b o)) ∷ ‵ (fobs γ₂ (Oc .coded .code z))
+        ∷ ‵ (fbor κ₂ (Body (mem Oc) b₂ o₂ γ₂)) ∷ ‵ (flft κ₂ q₂) ∷ ‵ (froom S′.mir l₁₁ 0) ∷ ‵ (fdies S′.mir l₁₁) ∷ ‵ (froom tyPtr l₁₀ 0)
+        ∷ ‵ (fdies tyPtr l₁₀) ∷ ‵ (froom tyPtr l₉ 0) ∷ ‵ (fdies tyPtr l₉) ∷ ‵ (froom word l₈ 0) ∷ ‵ (fdies word l₈) ∷ ‵ (froom tyBool l₇ 0)
+        ∷ ‵ (fdies tyBool l₇) ∷ ‵ (froom Fe′.mir l₆ 0) ∷ ‵ (fdies Fe′.mir l₆) ∷ ‵ (froom O′.mir l₅ 0) ∷ ‵ (fdies O′.mir l₅) ∷ ‵ (froom S′.mir l₄ 0)
+        ∷ ‵ (fdies S′.mir l₄) ∷ ‵ (froom result l₃ 0) ∷ ‵ (fdies result l₃) ∷ ‵ (froom word l₂ 0) ∷ ‵ (fdies word l₂) ∷ ‵ (froom bench l₁ 0)
+        ∷ ‵ (fdies bench l₁) ∷ ‵ (froom (tyInt w32) l₀ 0) ∷ ‵ (fdies (tyInt w32) l₀) ∷ [])
         (frees En (prop (Post (vint w32 r))))
     ends r gr z said =
         move ! (28 ∷ 29 ∷ []) $ free1 ! $ move ! (26 ∷ 27 ∷ []) $ free1 ! $ move ! (24 ∷ 25 ∷ []) $ free1 ! $ move ! (22 ∷ 23 ∷ []) $ free1 ! $
@@ -180,13 +180,13 @@ module _ {M : Type 1} (𝓤 : URA M) (H : Heap 𝓤) (A : Atoms 𝓤) (W : Given
 
     -- after the call: the result that was returned, of the machine value w, is stored
     after : (small : T (not (ltb 3 i))) (r : Fetched) (w : Val) → Is Oc (r .result) (w ∷ []) → r .number < 2 ^ 32 → r ≡ fetchRowOf h oc
-        → Sq W (‵ (cellAt fullShare (Oc .mir) (valsO oc) b₂ o₂) ∷ ‵ (fobor κ₂ q₂ (Body (mem Oc) b₂ o₂ γ₂)) ∷ ‵ (fobs γ₂ (Oc .coded .code oc)) ∷ ‵
-        (fauth γ₂ (Oc .coded .code oc)) ∷ ‵ (flft κ q) ∷ ‵ (fshr-bor κ (λ s. partAt Bn s (bn k rs) b o)) ∷ ‵ (froom S′.mir l₁₁ 0) ∷ ‵ (fdies S′.mir l₁₁) ∷ ‵
-        (froom tyPtr l₁₀ 0) ∷ ‵ (fdies tyPtr l₁₀) ∷ ‵ (froom tyPtr l₉ 0) ∷ ‵ (fdies tyPtr l₉) ∷ ‵ (froom word l₈ 0) ∷ ‵ (fdies word l₈) ∷ ‵
-        (froom tyBool l₇ 0) ∷ ‵ (fdies tyBool l₇) ∷ ‵ (fat fullShare Fe′.mir l₆ 0 (vstruct (vcons w (vcons (vint w32 (r .number)) vnil)))) ∷ ‵
-        (fdies Fe′.mir l₆) ∷ ‵ (froom O′.mir l₅ 0) ∷ ‵ (fdies O′.mir l₅) ∷ ‵ (froom S′.mir l₄ 0) ∷ ‵ (fdies S′.mir l₄) ∷ ‵
-        (fat fullShare result l₃ 0 (vptr b₂ o₂)) ∷ ‵ (fdies result l₃) ∷ ‵ (froom word l₂ 0) ∷ ‵ (fdies word l₂) ∷ ‵ (froom bench l₁ 0) ∷ ‵
-        (fdies bench l₁) ∷ ‵ (froom (tyInt w32) l₀ 0) ∷ ‵ (fdies (tyInt w32) l₀) ∷ ‵ (fres γ (Bn .coded .code (bn k rs))) ∷ [])
+        → Sq W (‵ (cellAt fullShare (Oc .mir) (valsO oc) b₂ o₂) ∷ ‵ (fobor κ₂ q₂ (Body (mem Oc) b₂ o₂ γ₂)) ∷ ‵ (fobs γ₂ (Oc .coded .code oc))
+        ∷ ‵ (fauth γ₂ (Oc .coded .code oc)) ∷ ‵ (flft κ q) ∷ ‵ (fshr-bor κ (λ s. partAt Bn s (bn k rs) b o)) ∷ ‵ (froom S′.mir l₁₁ 0) ∷ ‵ (fdies S′.mir l₁₁)
+        ∷ ‵ (froom tyPtr l₁₀ 0) ∷ ‵ (fdies tyPtr l₁₀) ∷ ‵ (froom tyPtr l₉ 0) ∷ ‵ (fdies tyPtr l₉) ∷ ‵ (froom word l₈ 0) ∷ ‵ (fdies word l₈)
+        ∷ ‵ (froom tyBool l₇ 0) ∷ ‵ (fdies tyBool l₇) ∷ ‵ (fat fullShare Fe′.mir l₆ 0 (vstruct (vcons w (vcons (vint w32 (r .number)) vnil))))
+        ∷ ‵ (fdies Fe′.mir l₆) ∷ ‵ (froom O′.mir l₅ 0) ∷ ‵ (fdies O′.mir l₅) ∷ ‵ (froom S′.mir l₄ 0) ∷ ‵ (fdies S′.mir l₄)
+        ∷ ‵ (fat fullShare result l₃ 0 (vptr b₂ o₂)) ∷ ‵ (fdies result l₃) ∷ ‵ (froom word l₂ 0) ∷ ‵ (fdies word l₂) ∷ ‵ (froom bench l₁ 0)
+        ∷ ‵ (fdies bench l₁) ∷ ‵ (froom (tyInt w32) l₀ 0) ∷ ‵ (fdies (tyInt w32) l₀) ∷ ‵ (fres γ (Bn .coded .code (bn k rs))) ∷ [])
         (runs C Λ En t-10 (atRet En Post))
     after small r w iso gr e =
         assigns ! (of-opd ! (load ! (from ! (fld ! refl (stop !))) (look-in ! 16 (sub ! 0 refl (whole !))))) (from ! (hop ! (look ! 22 refl) (stop !)))
@@ -201,13 +201,13 @@ module _ {M : Type 1} (𝓤 : URA M) (H : Heap 𝓤) (A : Atoms 𝓤) (W : Given
 
     -- the result is opened, read, and passed on beside the row
     asks : FmC 𝓤 H (W .laws) C → Triple 𝓤 (C #callee) (FetchRow 𝓤 H A at-mem run) → (small : T (not (ltb 3 i))) → Is R h (valsR h)
-        → Sq W (‵ (flft κ q) ∷ ‵ (fshr-bor κ (λ s. partAt Bn s (bn k rs) b o)) ∷ ‵ (froom S′.mir l₁₁ 0) ∷ ‵ (fdies S′.mir l₁₁) ∷ ‵ (froom tyPtr l₁₀ 0) ∷ ‵
-        (fdies tyPtr l₁₀) ∷ ‵ (froom tyPtr l₉ 0) ∷ ‵ (fdies tyPtr l₉) ∷ ‵ (froom word l₈ 0) ∷ ‵ (fdies word l₈) ∷ ‵ (froom tyBool l₇ 0) ∷ ‵
-        (fdies tyBool l₇) ∷ ‵ (froom Fe′.mir l₆ 0) ∷ ‵ (fdies Fe′.mir l₆) ∷ ‵ (froom O′.mir l₅ 0) ∷ ‵ (fdies O′.mir l₅) ∷ ‵
-        (fat fullShare S′.mir l₄ 0 (only (valsR h))) ∷ ‵ (fdies S′.mir l₄) ∷ ‵ (fat fullShare result l₃ 0 (vptr b₂ o₂)) ∷ ‵ (fdies result l₃) ∷ ‵
-        (fat fullShare word l₂ 0 (vint w64 i)) ∷ ‵ (fdies word l₂) ∷ ‵ (fat fullShare bench l₁ 0 (vptr b o)) ∷ ‵ (fdies bench l₁) ∷ ‵
-        (froom (tyInt w32) l₀ 0) ∷ ‵ (fdies (tyInt w32) l₀) ∷ ‵ (fres γ (Bn .coded .code (bn k rs))) ∷ ‵ (fobs γ₂ (Oc .coded .code oc)) ∷ ‵
-        (fbor κ₂ (Body (mem Oc) b₂ o₂ γ₂)) ∷ ‵ (flft κ₂ q₂) ∷ [])
+        → Sq W (‵ (flft κ q) ∷ ‵ (fshr-bor κ (λ s. partAt Bn s (bn k rs) b o)) ∷ ‵ (froom S′.mir l₁₁ 0) ∷ ‵ (fdies S′.mir l₁₁) ∷ ‵ (froom tyPtr l₁₀ 0)
+        ∷ ‵ (fdies tyPtr l₁₀) ∷ ‵ (froom tyPtr l₉ 0) ∷ ‵ (fdies tyPtr l₉) ∷ ‵ (froom word l₈ 0) ∷ ‵ (fdies word l₈) ∷ ‵ (froom tyBool l₇ 0)
+        ∷ ‵ (fdies tyBool l₇) ∷ ‵ (froom Fe′.mir l₆ 0) ∷ ‵ (fdies Fe′.mir l₆) ∷ ‵ (froom O′.mir l₅ 0) ∷ ‵ (fdies O′.mir l₅)
+        ∷ ‵ (fat fullShare S′.mir l₄ 0 (only (valsR h))) ∷ ‵ (fdies S′.mir l₄) ∷ ‵ (fat fullShare result l₃ 0 (vptr b₂ o₂)) ∷ ‵ (fdies result l₃)
+        ∷ ‵ (fat fullShare word l₂ 0 (vint w64 i)) ∷ ‵ (fdies word l₂) ∷ ‵ (fat fullShare bench l₁ 0 (vptr b o)) ∷ ‵ (fdies bench l₁)
+        ∷ ‵ (froom (tyInt w32) l₀ 0) ∷ ‵ (fdies (tyInt w32) l₀) ∷ ‵ (fres γ (Bn .coded .code (bn k rs))) ∷ ‵ (fobs γ₂ (Oc .coded .code oc))
+        ∷ ‵ (fbor κ₂ (Body (mem Oc) b₂ o₂ γ₂)) ∷ ‵ (flft κ₂ q₂) ∷ [])
         (runs C Λ En t-8 (atRet En Post))
     asks fm known small wr =
         move ! (27 ∷ 28 ∷ 29 ∷ []) $
@@ -231,12 +231,12 @@ module _ {M : Type 1} (𝓤 : URA M) (H : Heap 𝓤) (A : Atoms 𝓤) (W : Given
 
     -- one of the four: the bench is looked into, and the row is read
     arm : FmC 𝓤 H (W .laws) C → Triple 𝓤 (C #callee) (FetchRow 𝓤 H A at-mem run) → (small : T (not (ltb 3 i)))
-        → Sq W (‵ (fshr-bor κ (λ s. partAt Bn s (bn k rs) b o)) ∷ ‵ (flft κ q) ∷ ‵ (froom S′.mir l₁₁ 0) ∷ ‵ (fdies S′.mir l₁₁) ∷ ‵ (froom tyPtr l₁₀ 0) ∷ ‵
-        (fdies tyPtr l₁₀) ∷ ‵ (froom tyPtr l₉ 0) ∷ ‵ (fdies tyPtr l₉) ∷ ‵ (froom word l₈ 0) ∷ ‵ (fdies word l₈) ∷ ‵ (froom tyBool l₇ 0) ∷ ‵
-        (fdies tyBool l₇) ∷ ‵ (froom Fe′.mir l₆ 0) ∷ ‵ (fdies Fe′.mir l₆) ∷ ‵ (froom O′.mir l₅ 0) ∷ ‵ (fdies O′.mir l₅) ∷ ‵ (froom S′.mir l₄ 0) ∷ ‵
-        (fdies S′.mir l₄) ∷ ‵ (fat fullShare result l₃ 0 (vptr b₂ o₂)) ∷ ‵ (fdies result l₃) ∷ ‵ (fat fullShare word l₂ 0 (vint w64 i)) ∷ ‵
-        (fdies word l₂) ∷ ‵ (fat fullShare bench l₁ 0 (vptr b o)) ∷ ‵ (fdies bench l₁) ∷ ‵ (froom (tyInt w32) l₀ 0) ∷ ‵ (fdies (tyInt w32) l₀) ∷ ‵
-        (fres γ (Bn .coded .code (bn k rs))) ∷ ‵ (fobs γ₂ (Oc .coded .code oc)) ∷ ‵ (fbor κ₂ (Body (mem Oc) b₂ o₂ γ₂)) ∷ ‵ (flft κ₂ q₂) ∷ [])
+        → Sq W (‵ (fshr-bor κ (λ s. partAt Bn s (bn k rs) b o)) ∷ ‵ (flft κ q) ∷ ‵ (froom S′.mir l₁₁ 0) ∷ ‵ (fdies S′.mir l₁₁) ∷ ‵ (froom tyPtr l₁₀ 0)
+        ∷ ‵ (fdies tyPtr l₁₀) ∷ ‵ (froom tyPtr l₉ 0) ∷ ‵ (fdies tyPtr l₉) ∷ ‵ (froom word l₈ 0) ∷ ‵ (fdies word l₈) ∷ ‵ (froom tyBool l₇ 0)
+        ∷ ‵ (fdies tyBool l₇) ∷ ‵ (froom Fe′.mir l₆ 0) ∷ ‵ (fdies Fe′.mir l₆) ∷ ‵ (froom O′.mir l₅ 0) ∷ ‵ (fdies O′.mir l₅) ∷ ‵ (froom S′.mir l₄ 0)
+        ∷ ‵ (fdies S′.mir l₄) ∷ ‵ (fat fullShare result l₃ 0 (vptr b₂ o₂)) ∷ ‵ (fdies result l₃) ∷ ‵ (fat fullShare word l₂ 0 (vint w64 i))
+        ∷ ‵ (fdies word l₂) ∷ ‵ (fat fullShare bench l₁ 0 (vptr b o)) ∷ ‵ (fdies bench l₁) ∷ ‵ (froom (tyInt w32) l₀ 0) ∷ ‵ (fdies (tyInt w32) l₀)
+        ∷ ‵ (fres γ (Bn .coded .code (bn k rs))) ∷ ‵ (fobs γ₂ (Oc .coded .code oc)) ∷ ‵ (fbor κ₂ (Body (mem Oc) b₂ o₂ γ₂)) ∷ ‵ (flft κ₂ q₂) ∷ [])
         (runs C Λ En t-3 (atRet En Post))
     arm fm known small =
         assigns ! (bin ! (load ! (from ! (stop !)) (look ! 20 refl)) (big-lit ! (record { fits = lit< tt })) (record { fits = fit small })) (from ! (stop !))
@@ -255,12 +255,12 @@ module _ {M : Type 1} (𝓤 : URA M) (H : Heap 𝓤) (A : Atoms 𝓤) (W : Given
 
     -- the test, and the arm with no such row
     starts : FmC 𝓤 H (W .laws) C → Triple 𝓤 (C #callee) (FetchRow 𝓤 H A at-mem run)
-        → Sq W (‵ (fshr-bor κ (λ s. partAt Bn s (bn k rs) b o)) ∷ ‵ (flft κ q) ∷ ‵ (froom S′.mir l₁₁ 0) ∷ ‵ (fdies S′.mir l₁₁) ∷ ‵ (froom tyPtr l₁₀ 0) ∷ ‵
-        (fdies tyPtr l₁₀) ∷ ‵ (froom tyPtr l₉ 0) ∷ ‵ (fdies tyPtr l₉) ∷ ‵ (froom word l₈ 0) ∷ ‵ (fdies word l₈) ∷ ‵ (froom tyBool l₇ 0) ∷ ‵
-        (fdies tyBool l₇) ∷ ‵ (froom Fe′.mir l₆ 0) ∷ ‵ (fdies Fe′.mir l₆) ∷ ‵ (froom O′.mir l₅ 0) ∷ ‵ (fdies O′.mir l₅) ∷ ‵ (froom S′.mir l₄ 0) ∷ ‵
-        (fdies S′.mir l₄) ∷ ‵ (fat fullShare result l₃ 0 (vptr b₂ o₂)) ∷ ‵ (fdies result l₃) ∷ ‵ (fat fullShare word l₂ 0 (vint w64 i)) ∷ ‵
-        (fdies word l₂) ∷ ‵ (fat fullShare bench l₁ 0 (vptr b o)) ∷ ‵ (fdies bench l₁) ∷ ‵ (froom (tyInt w32) l₀ 0) ∷ ‵ (fdies (tyInt w32) l₀) ∷ ‵
-        (fres γ (Bn .coded .code (bn k rs))) ∷ ‵ (fobs γ₂ (Oc .coded .code oc)) ∷ ‵ (fbor κ₂ (Body (mem Oc) b₂ o₂ γ₂)) ∷ ‵ (flft κ₂ q₂) ∷ [])
+        → Sq W (‵ (fshr-bor κ (λ s. partAt Bn s (bn k rs) b o)) ∷ ‵ (flft κ q) ∷ ‵ (froom S′.mir l₁₁ 0) ∷ ‵ (fdies S′.mir l₁₁) ∷ ‵ (froom tyPtr l₁₀ 0)
+        ∷ ‵ (fdies tyPtr l₁₀) ∷ ‵ (froom tyPtr l₉ 0) ∷ ‵ (fdies tyPtr l₉) ∷ ‵ (froom word l₈ 0) ∷ ‵ (fdies word l₈) ∷ ‵ (froom tyBool l₇ 0)
+        ∷ ‵ (fdies tyBool l₇) ∷ ‵ (froom Fe′.mir l₆ 0) ∷ ‵ (fdies Fe′.mir l₆) ∷ ‵ (froom O′.mir l₅ 0) ∷ ‵ (fdies O′.mir l₅) ∷ ‵ (froom S′.mir l₄ 0)
+        ∷ ‵ (fdies S′.mir l₄) ∷ ‵ (fat fullShare result l₃ 0 (vptr b₂ o₂)) ∷ ‵ (fdies result l₃) ∷ ‵ (fat fullShare word l₂ 0 (vint w64 i))
+        ∷ ‵ (fdies word l₂) ∷ ‵ (fat fullShare bench l₁ 0 (vptr b o)) ∷ ‵ (fdies bench l₁) ∷ ‵ (froom (tyInt w32) l₀ 0) ∷ ‵ (fdies (tyInt w32) l₀)
+        ∷ ‵ (fres γ (Bn .coded .code (bn k rs))) ∷ ‵ (fobs γ₂ (Oc .coded .code oc)) ∷ ‵ (fbor κ₂ (Body (mem Oc) b₂ o₂ γ₂)) ∷ ‵ (flft κ₂ q₂) ∷ [])
         (runs C Λ En t-1 (atRet En Post))
     starts fm known =
         assigns ! (bin ! (lit ! tt) (load ! (from ! (stop !)) (look ! 20 refl)) tt) (from ! (stop !)) (init ! 10 refl (tt, tt)) $

@@ -110,8 +110,8 @@ module _ {M : Type 1} (𝓤 : URA M) (H : Heap 𝓤) (A : Atoms 𝓤) (W : Given
 
     -- the locals are freed
     ends : (v : Val) (r : Finished) → r ≡ listingOf bc
-        → Sq W (‵ (Tn .own r (v ∷ [])) ∷ ‵ (flft κ q) ∷ ‵ (fres γ (Bn .coded .code bc)) ∷ ‵ (fshr-bor κ (λ s. partAt Bn s bc b o)) ∷ ‵ (froom B′.mir l₂ 0) ∷ ‵
-        (fdies B′.mir l₂) ∷ ‵ (froom bench l₁ 0) ∷ ‵ (fdies bench l₁) ∷ ‵ (froom Fi′.mir l₀ 0) ∷ ‵ (fdies Fi′.mir l₀) ∷ [])
+        → Sq W (‵ (Tn .own r (v ∷ [])) ∷ ‵ (flft κ q) ∷ ‵ (fres γ (Bn .coded .code bc)) ∷ ‵ (fshr-bor κ (λ s. partAt Bn s bc b o)) ∷ ‵ (froom B′.mir l₂ 0)
+        ∷ ‵ (fdies B′.mir l₂) ∷ ‵ (froom bench l₁ 0) ∷ ‵ (fdies bench l₁) ∷ ‵ (froom Fi′.mir l₀ 0) ∷ ‵ (fdies Fi′.mir l₀) ∷ [])
         (frees En (prop (Post v)))
     ends v r e =
         move ! (8 ∷ 9 ∷ []) $ free1 ! $ move ! (6 ∷ 7 ∷ []) $ free1 ! $ move ! (4 ∷ 5 ∷ []) $ free1 ! $ free0 ! $
@@ -119,8 +119,8 @@ module _ {M : Type 1} (𝓤 : URA M) (H : Heap 𝓤) (A : Atoms 𝓤) (W : Given
 
     -- the bench is looked into and copied, and `listed` is called
     starts : FmC 𝓤 H (W .laws) C → Triple 𝓤 (C #callee) (Listed 𝓤 H A at-mem run)
-        → Sq W (‵ (fshr-bor κ (λ s. partAt Bn s bc b o)) ∷ ‵ (flft κ q) ∷ ‵ (froom B′.mir l₂ 0) ∷ ‵ (fdies B′.mir l₂) ∷ ‵
-        (fat fullShare bench l₁ 0 (vptr b o)) ∷ ‵ (fdies bench l₁) ∷ ‵ (froom Fi′.mir l₀ 0) ∷ ‵ (fdies Fi′.mir l₀) ∷ ‵ (fres γ (Bn .coded .code bc)) ∷ [])
+        → Sq W (‵ (fshr-bor κ (λ s. partAt Bn s bc b o)) ∷ ‵ (flft κ q) ∷ ‵ (froom B′.mir l₂ 0) ∷ ‵ (fdies B′.mir l₂) ∷ ‵ (fat fullShare bench l₁ 0 (vptr b o))
+        ∷ ‵ (fdies bench l₁) ∷ ‵ (froom Fi′.mir l₀ 0) ∷ ‵ (fdies Fi′.mir l₀) ∷ ‵ (fres γ (Bn .coded .code bc)) ∷ [])
         (runs C Λ En t-1 (atRet En Post))
     starts fm known =
         looks ! tt Bn (Is Bn) (shows 𝓤 H A Bn) valsB (LL.tells B.the-type B′.the-laws) ((LL.copy B.the-type B′.the-copy) 𝓤 H A W) bc b o (λ q′ vs.

@@ -140,11 +140,11 @@ module _ {M : Type 1} (𝓤 : URA M) (H : Heap 𝓤) (A : Atoms 𝓤) (W : Given
 
     -- the locals are freed
     ends : (r : ℕ) → r < 2 ^ 32 → (zs : List HeldRow) → Said (bn k rs) i r (bn k zs)
-        → Sq W (‵ (fobs γ (Bn .coded .code (bn k zs))) ∷ ‵ (fbor κ (Body (mem Bn) b o γ)) ∷ ‵ (flft κ q) ∷ ‵ (froom tyPtr l₁₁ 0) ∷ ‵ (fdies tyPtr l₁₁) ∷ ‵
-        (froom tyPtr l₁₀ 0) ∷ ‵ (fdies tyPtr l₁₀) ∷ ‵ (froom S′.mir l₉ 0) ∷ ‵ (fdies S′.mir l₉) ∷ ‵ (froom tyPtr l₈ 0) ∷ ‵ (fdies tyPtr l₈) ∷ ‵
-        (froom tyPtr l₇ 0) ∷ ‵ (fdies tyPtr l₇) ∷ ‵ (froom word l₆ 0) ∷ ‵ (fdies word l₆) ∷ ‵ (froom tyBool l₅ 0) ∷ ‵ (fdies tyBool l₅) ∷ ‵
-        (froom An′.mir l₄ 0) ∷ ‵ (fdies An′.mir l₄) ∷ ‵ (froom S′.mir l₃ 0) ∷ ‵ (fdies S′.mir l₃) ∷ ‵ (froom word l₂ 0) ∷ ‵ (fdies word l₂) ∷ ‵
-        (froom bench l₁ 0) ∷ ‵ (fdies bench l₁) ∷ ‵ (froom (tyInt w32) l₀ 0) ∷ ‵ (fdies (tyInt w32) l₀) ∷ [])
+        → Sq W (‵ (fobs γ (Bn .coded .code (bn k zs))) ∷ ‵ (fbor κ (Body (mem Bn) b o γ)) ∷ ‵ (flft κ q) ∷ ‵ (froom tyPtr l₁₁ 0) ∷ ‵ (fdies tyPtr l₁₁)
+        ∷ ‵ (froom tyPtr l₁₀ 0) ∷ ‵ (fdies tyPtr l₁₀) ∷ ‵ (froom S′.mir l₉ 0) ∷ ‵ (fdies S′.mir l₉) ∷ ‵ (froom tyPtr l₈ 0) ∷ ‵ (fdies tyPtr l₈)
+        ∷ ‵ (froom tyPtr l₇ 0) ∷ ‵ (fdies tyPtr l₇) ∷ ‵ (froom word l₆ 0) ∷ ‵ (fdies word l₆) ∷ ‵ (froom tyBool l₅ 0) ∷ ‵ (fdies tyBool l₅)
+        ∷ ‵ (froom An′.mir l₄ 0) ∷ ‵ (fdies An′.mir l₄) ∷ ‵ (froom S′.mir l₃ 0) ∷ ‵ (fdies S′.mir l₃) ∷ ‵ (froom word l₂ 0) ∷ ‵ (fdies word l₂)
+        ∷ ‵ (froom bench l₁ 0) ∷ ‵ (fdies bench l₁) ∷ ‵ (froom (tyInt w32) l₀ 0) ∷ ‵ (fdies (tyInt w32) l₀) ∷ [])
         (frees En (prop (Post (vint w32 r))))
     ends r gr zs said =
         move ! (25 ∷ 26 ∷ []) $ free1 ! $ move ! (23 ∷ 24 ∷ []) $ free1 ! $ move ! (21 ∷ 22 ∷ []) $ free1 ! $ move ! (19 ∷ 20 ∷ []) $ free1 ! $
@@ -156,13 +156,13 @@ module _ {M : Type 1} (𝓤 : URA M) (H : Heap 𝓤) (A : Atoms 𝓤) (W : Given
     after : (was : Is Bn (bn k rs) (valsB k rs)) (small : T (not (ltb 3 i))) (r : RowAnswer) (w : Val) → Is R (r .row) (w ∷ []) → r .number < 2 ^ 32 → r
         ≡ releaseRowOf h
         → Sq W (‵ (cellAt fullShare (R .mir) (valsR h) b (place (mem R .size) (o + 0) i)) ∷ ‵ (others (shares R) fullShare rs i b (o + 0)) ∷ raw
-        (Back 𝓤 H A W fullShare b o k) ∷ ‵ (fobor κ q (Body (mem Bn) b o γ)) ∷ ‵ (fobs γ (Bn .coded .code (bn k rs))) ∷ ‵
-        (fauth γ (Bn .coded .code (bn k rs))) ∷ ‵ (froom tyPtr l₁₁ 0) ∷ ‵ (fdies tyPtr l₁₁) ∷ ‵ (froom tyPtr l₁₀ 0) ∷ ‵ (fdies tyPtr l₁₀) ∷ ‵
-        (froom S′.mir l₉ 0) ∷ ‵ (fdies S′.mir l₉) ∷ ‵ (froom tyPtr l₈ 0) ∷ ‵ (fdies tyPtr l₈) ∷ ‵ (froom tyPtr l₇ 0) ∷ ‵ (fdies tyPtr l₇) ∷ ‵
-        (froom word l₆ 0) ∷ ‵ (fdies word l₆) ∷ ‵ (froom tyBool l₅ 0) ∷ ‵ (fdies tyBool l₅) ∷ ‵
-        (fat fullShare An′.mir l₄ 0 (vstruct (vcons w (vcons (vint w32 (r .number)) vnil)))) ∷ ‵ (fdies An′.mir l₄) ∷ ‵ (froom S′.mir l₃ 0) ∷ ‵
-        (fdies S′.mir l₃) ∷ ‵ (fat fullShare word l₂ 0 (vint w64 i)) ∷ ‵ (fdies word l₂) ∷ ‵ (fat fullShare bench l₁ 0 (vptr b o)) ∷ ‵ (fdies bench l₁) ∷ ‵
-        (froom (tyInt w32) l₀ 0) ∷ ‵ (fdies (tyInt w32) l₀) ∷ [])
+        (Back 𝓤 H A W fullShare b o k) ∷ ‵ (fobor κ q (Body (mem Bn) b o γ)) ∷ ‵ (fobs γ (Bn .coded .code (bn k rs)))
+        ∷ ‵ (fauth γ (Bn .coded .code (bn k rs))) ∷ ‵ (froom tyPtr l₁₁ 0) ∷ ‵ (fdies tyPtr l₁₁) ∷ ‵ (froom tyPtr l₁₀ 0) ∷ ‵ (fdies tyPtr l₁₀)
+        ∷ ‵ (froom S′.mir l₉ 0) ∷ ‵ (fdies S′.mir l₉) ∷ ‵ (froom tyPtr l₈ 0) ∷ ‵ (fdies tyPtr l₈) ∷ ‵ (froom tyPtr l₇ 0) ∷ ‵ (fdies tyPtr l₇)
+        ∷ ‵ (froom word l₆ 0) ∷ ‵ (fdies word l₆) ∷ ‵ (froom tyBool l₅ 0) ∷ ‵ (fdies tyBool l₅)
+        ∷ ‵ (fat fullShare An′.mir l₄ 0 (vstruct (vcons w (vcons (vint w32 (r .number)) vnil)))) ∷ ‵ (fdies An′.mir l₄) ∷ ‵ (froom S′.mir l₃ 0)
+        ∷ ‵ (fdies S′.mir l₃) ∷ ‵ (fat fullShare word l₂ 0 (vint w64 i)) ∷ ‵ (fdies word l₂) ∷ ‵ (fat fullShare bench l₁ 0 (vptr b o)) ∷ ‵ (fdies bench l₁)
+        ∷ ‵ (froom (tyInt w32) l₀ 0) ∷ ‵ (fdies (tyInt w32) l₀) ∷ [])
         (runs C Λ En t-9 (atRet En Post))
     after was small r w isr gr e =
         assigns ! (bin ! (load ! (from ! (stop !)) (look ! 24 refl)) (big-lit ! (record { fits = lit< tt })) (record { fits = fit small })) (from ! (stop !))
@@ -182,11 +182,11 @@ module _ {M : Type 1} (𝓤 : URA M) (H : Heap 𝓤) (A : Atoms 𝓤) (W : Given
 
     -- one of the four: the borrow is opened, the row is read, and `release_row` is called
     arm : FmC 𝓤 H (W .laws) C → Triple 𝓤 (C #callee) (ReleaseRow 𝓤 H A at-mem run) → (small : T (not (ltb 3 i)))
-        → Sq W (‵ (fobs γ (Bn .coded .code (bn k rs))) ∷ ‵ (fbor κ (Body (mem Bn) b o γ)) ∷ ‵ (flft κ q) ∷ ‵ (froom tyPtr l₁₁ 0) ∷ ‵ (fdies tyPtr l₁₁) ∷ ‵
-        (froom tyPtr l₁₀ 0) ∷ ‵ (fdies tyPtr l₁₀) ∷ ‵ (froom S′.mir l₉ 0) ∷ ‵ (fdies S′.mir l₉) ∷ ‵ (froom tyPtr l₈ 0) ∷ ‵ (fdies tyPtr l₈) ∷ ‵
-        (froom tyPtr l₇ 0) ∷ ‵ (fdies tyPtr l₇) ∷ ‵ (froom word l₆ 0) ∷ ‵ (fdies word l₆) ∷ ‵ (froom tyBool l₅ 0) ∷ ‵ (fdies tyBool l₅) ∷ ‵
-        (froom An′.mir l₄ 0) ∷ ‵ (fdies An′.mir l₄) ∷ ‵ (froom S′.mir l₃ 0) ∷ ‵ (fdies S′.mir l₃) ∷ ‵ (fat fullShare word l₂ 0 (vint w64 i)) ∷ ‵
-        (fdies word l₂) ∷ ‵ (fat fullShare bench l₁ 0 (vptr b o)) ∷ ‵ (fdies bench l₁) ∷ ‵ (froom (tyInt w32) l₀ 0) ∷ ‵ (fdies (tyInt w32) l₀) ∷ [])
+        → Sq W (‵ (fobs γ (Bn .coded .code (bn k rs))) ∷ ‵ (fbor κ (Body (mem Bn) b o γ)) ∷ ‵ (flft κ q) ∷ ‵ (froom tyPtr l₁₁ 0) ∷ ‵ (fdies tyPtr l₁₁)
+        ∷ ‵ (froom tyPtr l₁₀ 0) ∷ ‵ (fdies tyPtr l₁₀) ∷ ‵ (froom S′.mir l₉ 0) ∷ ‵ (fdies S′.mir l₉) ∷ ‵ (froom tyPtr l₈ 0) ∷ ‵ (fdies tyPtr l₈)
+        ∷ ‵ (froom tyPtr l₇ 0) ∷ ‵ (fdies tyPtr l₇) ∷ ‵ (froom word l₆ 0) ∷ ‵ (fdies word l₆) ∷ ‵ (froom tyBool l₅ 0) ∷ ‵ (fdies tyBool l₅)
+        ∷ ‵ (froom An′.mir l₄ 0) ∷ ‵ (fdies An′.mir l₄) ∷ ‵ (froom S′.mir l₃ 0) ∷ ‵ (fdies S′.mir l₃) ∷ ‵ (fat fullShare word l₂ 0 (vint w64 i))
+        ∷ ‵ (fdies word l₂) ∷ ‵ (fat fullShare bench l₁ 0 (vptr b o)) ∷ ‵ (fdies bench l₁) ∷ ‵ (froom (tyInt w32) l₀ 0) ∷ ‵ (fdies (tyInt w32) l₀) ∷ [])
         (runs C Λ En t-3 (atRet En Post))
     arm fm known small =
         assigns ! (bin ! (load ! (from ! (stop !)) (look ! 21 refl)) (big-lit ! (record { fits = lit< tt })) (record { fits = fit small })) (from ! (stop !))
@@ -217,11 +217,11 @@ module _ {M : Type 1} (𝓤 : URA M) (H : Heap 𝓤) (A : Atoms 𝓤) (W : Given
 
     -- the test, and the arm with no such row
     starts : FmC 𝓤 H (W .laws) C → Triple 𝓤 (C #callee) (ReleaseRow 𝓤 H A at-mem run)
-        → Sq W (‵ (fobs γ (Bn .coded .code (bn k rs))) ∷ ‵ (fbor κ (Body (mem Bn) b o γ)) ∷ ‵ (flft κ q) ∷ ‵ (froom tyPtr l₁₁ 0) ∷ ‵ (fdies tyPtr l₁₁) ∷ ‵
-        (froom tyPtr l₁₀ 0) ∷ ‵ (fdies tyPtr l₁₀) ∷ ‵ (froom S′.mir l₉ 0) ∷ ‵ (fdies S′.mir l₉) ∷ ‵ (froom tyPtr l₈ 0) ∷ ‵ (fdies tyPtr l₈) ∷ ‵
-        (froom tyPtr l₇ 0) ∷ ‵ (fdies tyPtr l₇) ∷ ‵ (froom word l₆ 0) ∷ ‵ (fdies word l₆) ∷ ‵ (froom tyBool l₅ 0) ∷ ‵ (fdies tyBool l₅) ∷ ‵
-        (froom An′.mir l₄ 0) ∷ ‵ (fdies An′.mir l₄) ∷ ‵ (froom S′.mir l₃ 0) ∷ ‵ (fdies S′.mir l₃) ∷ ‵ (fat fullShare word l₂ 0 (vint w64 i)) ∷ ‵
-        (fdies word l₂) ∷ ‵ (fat fullShare bench l₁ 0 (vptr b o)) ∷ ‵ (fdies bench l₁) ∷ ‵ (froom (tyInt w32) l₀ 0) ∷ ‵ (fdies (tyInt w32) l₀) ∷ [])
+        → Sq W (‵ (fobs γ (Bn .coded .code (bn k rs))) ∷ ‵ (fbor κ (Body (mem Bn) b o γ)) ∷ ‵ (flft κ q) ∷ ‵ (froom tyPtr l₁₁ 0) ∷ ‵ (fdies tyPtr l₁₁)
+        ∷ ‵ (froom tyPtr l₁₀ 0) ∷ ‵ (fdies tyPtr l₁₀) ∷ ‵ (froom S′.mir l₉ 0) ∷ ‵ (fdies S′.mir l₉) ∷ ‵ (froom tyPtr l₈ 0) ∷ ‵ (fdies tyPtr l₈)
+        ∷ ‵ (froom tyPtr l₇ 0) ∷ ‵ (fdies tyPtr l₇) ∷ ‵ (froom word l₆ 0) ∷ ‵ (fdies word l₆) ∷ ‵ (froom tyBool l₅ 0) ∷ ‵ (fdies tyBool l₅)
+        ∷ ‵ (froom An′.mir l₄ 0) ∷ ‵ (fdies An′.mir l₄) ∷ ‵ (froom S′.mir l₃ 0) ∷ ‵ (fdies S′.mir l₃) ∷ ‵ (fat fullShare word l₂ 0 (vint w64 i))
+        ∷ ‵ (fdies word l₂) ∷ ‵ (fat fullShare bench l₁ 0 (vptr b o)) ∷ ‵ (fdies bench l₁) ∷ ‵ (froom (tyInt w32) l₀ 0) ∷ ‵ (fdies (tyInt w32) l₀) ∷ [])
         (runs C Λ En t-1 (atRet En Post))
     starts fm known =
         assigns ! (bin ! (lit ! tt) (load ! (from ! (stop !)) (look ! 21 refl)) tt) (from ! (stop !)) (init ! 15 refl (tt, tt)) $

@@ -80,6 +80,10 @@ stayed = (stay-ref (0 ∷ []) tt (plain (λ _. Bn)), (stay-none (λ _. usize) ye
 abbrev Callee : {M : Type 1} (𝓤 : URA M) (H : Heap 𝓤) (A : Atoms 𝓤) (at-mem : Memory → SProp 𝓤) (run : Routine → Fun 𝓤) → Contract 𝓤
 Callee 𝓤 H A at-mem run = tripleOf 𝓤 H A callee.signature (callee.spec 𝓤 H A at-mem run)
 
+-- the last eight of fifteen
+abbrev Eight : Type 0 → Type 0
+Eight X = X × (X × (X × (X × (X × (X × (X × (X × Unit {0})))))))
+
 abbrev Lasts : Type 0
 Lasts = ((List ℕ) × ((List Float) × (Unit {0} × (Unit {0} × ((List Float) × ((List Float) × ((List Float) × ((List Float) × ((List Float) × ((List Float)
     × ((List Float) × ((List Float) × ((List Float) × ((List Float) × (List Float × Unit {0})))))))))))))))
@@ -123,8 +127,8 @@ module _ {M : Type 1} (𝓤 : URA M) (H : Heap 𝓤) (A : Atoms 𝓤) (W : Given
   Post = walkOf 𝓤 H A f.ended stayed (f.clauses 𝓤 H A at-mem run) .post (((κ, (κ₂, tt)), (q, (q₂, tt)), tt, x, at), tt)
 
   exits : (r : ℕ) → r < 2 ^ 32 → (zs : List HeldRow) (us : List Float) → length us ≡ length ss → Turned (bn k rs) i ss r (bn k zs) us
-      → ent 𝓤 (⋆ 𝓤 H A (‵ (fobs γ (Bn .coded .code (bn k zs))) ∷ ‵ (fbor κ (Body (mem Bn) b o γ)) ∷ ‵ (flft κ q) ∷ ‵ (finally f64 (sl .name) us) ∷ ‵
-      (flft κ₂ q₂) ∷ [])) (Post (vint w32 r))
+      → ent 𝓤 (⋆ 𝓤 H A (‵ (fobs γ (Bn .coded .code (bn k zs))) ∷ ‵ (fbor κ (Body (mem Bn) b o γ)) ∷ ‵ (flft κ q) ∷ ‵ (finally f64 (sl .name) us) ∷ ‵ (flft
+      κ₂ q₂) ∷ [])) (Post (vint w32 r))
   exits r gr zs us long said =
       qed W (‵ (fobs γ (Bn .coded .code (bn k zs))) ∷ ‵ (fbor κ (Body (mem Bn) b o γ)) ∷ ‵ (flft κ q) ∷ ‵ (finally f64 (sl .name) us) ∷ ‵ (flft κ₂ q₂) ∷ []) ∵
       suffices ! _ (ends-at 𝓤 H A f.ended stayed (f.clauses 𝓤 H A at-mem run) W (((κ, (κ₂, tt)), (q, (q₂, tt)), tt, x, at), tt) (vint w32 r) r (
@@ -234,171 +238,31 @@ module _ {M : Type 1} (𝓤 : URA M) (H : Heap 𝓤) (A : Atoms 𝓤) (W : Given
       → (RefT (List ℕ) × (RefT (List Float) × (RefT (List ℕ) × (RefT (List Float) × (RefT (List Float) × (RefT (List Float) × (RefT (List Float)
       × (RefT (List Float) × (RefT (List Float) × (RefT (List Float) × (RefT (List Float) × (RefT (List Float) × (RefT (List Float) × (RefT (List Float)
       × (RefT (List Float) × Unit {0})))))))))))))))
-  args δ0 δ1 δ2 δ3 δ4 δ5 δ6 δ7 δ8 δ9 δ10 δ11 δ12 δ13 = (
-    at0 δ0,
-    (
-      at1 δ1,
-      (
-        at2 δ2,
-        (
-          at3 δ3,
-          (
-            at4 δ4,
-            (
-              at5 δ5,
-              (
-                at6 δ6,
-                (
-                  at7 δ7,
-                  (
-                    at8 δ8,
-                    (
-                      at9 δ9,
-                      (
-                        at10 δ10,
-                        (
-                          at11 δ11,
-                          (
-                            at12 δ12,
-                            (
-                              at13 δ13,
-                              (sl, tt),
-                            ),
-                          ),
-                        ),
-                      ),
-                    ),
-                  ),
-                ),
-              ),
-            ),
-          ),
-        ),
-      ),
-    ),
-  )
+  args δ0 δ1 δ2 δ3 δ4 δ5 δ6 δ7 δ8 δ9 δ10 δ11 δ12 δ13 =
+      let later : Eight (RefT (List Float)) = (at7 δ7, (at8 δ8, (at9 δ9, (at10 δ10, (at11 δ11, (at12 δ12, (at13 δ13, (sl, tt)))))))) in
+      (at0 δ0, (at1 δ1, (at2 δ2, (at3 δ3, (at4 δ4, (at5 δ5, (at6 δ6, later)))))))
+
+  -- where an array of the row stands
+  abbrev stands : ℕ → List Val
+  stands at = vptr b (p + at) ∷ []
 
   -- what `turn_parts`'s triple binds outside, and what it asks
   abbrev to-parts : ℕ → ℕ → ℕ → ℕ → ℕ → ℕ → ℕ → ℕ → ℕ → ℕ → ℕ → ℕ → ℕ → ℕ → GName → GName → GName → GName → GName → GName → GName → GName → GName → GName
       → GName → GName → GName → GName → Callee 𝓤 H A at-mem run .Ghost
-  to-parts α0 α1 α2 α3 α4 α5 α6 α7 α8 α9 α10 α11 α12 α13 δ0 δ1 δ2 δ3 δ4 δ5 δ6 δ7 δ8 δ9 δ10 δ11 δ12 δ13 = (
-    (
-      (
-        α0 ∷ [],
+  to-parts α0 α1 α2 α3 α4 α5 α6 α7 α8 α9 α10 α11 α12 α13 δ0 δ1 δ2 δ3 δ4 δ5 δ6 δ7 δ8 δ9 δ10 δ11 δ12 δ13 =
+      let lives : Eight Lft = (α7 ∷ [], (α8 ∷ [], (α9 ∷ [], (α10 ∷ [], (α11 ∷ [], (α12 ∷ [], (α13 ∷ [], (κ₂, tt)))))))) in
+      let shares : Eight Share = (fullShare, (fullShare, (fullShare, (fullShare, (fullShare, (fullShare, (fullShare, (q₂, tt)))))))) in
+      let places : Eight (List Val) =
+      (stands 3552, (stands 3648, (stands 3744, (stands 3808, (stands 3872, (stands 4384, (stands 4480, (slice-vals sl, tt)))))))) in (
         (
-          α1 ∷ [],
-          (
-            α2 ∷ [],
-            (
-              α3 ∷ [],
-              (
-                α4 ∷ [],
-                (
-                  α5 ∷ [],
-                  (
-                    α6 ∷ [],
-                    (
-                      α7 ∷ [],
-                      (
-                        α8 ∷ [],
-                        (
-                          α9 ∷ [],
-                          (
-                            α10 ∷ [],
-                            (
-                              α11 ∷ [],
-                              (
-                                α12 ∷ [],
-                                (
-                                  α13 ∷ [],
-                                  (κ₂, tt),
-                                ),
-                              ),
-                            ),
-                          ),
-                        ),
-                      ),
-                    ),
-                  ),
-                ),
-              ),
-            ),
-          ),
+          (α0 ∷ [], (α1 ∷ [], (α2 ∷ [], (α3 ∷ [], (α4 ∷ [], (α5 ∷ [], (α6 ∷ [], lives))))))),
+          (fullShare, (fullShare, (fullShare, (fullShare, (fullShare, (fullShare, (fullShare, shares))))))),
+          tt,
+          args δ0 δ1 δ2 δ3 δ4 δ5 δ6 δ7 δ8 δ9 δ10 δ11 δ12 δ13,
+          (stands 0, (stands 104, (stands 160, (stands 616, (stands 2176, (stands 2688, (stands 3456, places))))))),
         ),
-      ),
-      (
-        fullShare,
-        (
-          fullShare,
-          (
-            fullShare,
-            (
-              fullShare,
-              (
-                fullShare,
-                (
-                  fullShare,
-                  (
-                    fullShare,
-                    (
-                      fullShare,
-                      (
-                        fullShare,
-                        (
-                          fullShare,
-                          (fullShare, (fullShare, (fullShare, (fullShare, (q₂, tt))))),
-                        ),
-                      ),
-                    ),
-                  ),
-                ),
-              ),
-            ),
-          ),
-        ),
-      ),
-      tt,
-      args δ0 δ1 δ2 δ3 δ4 δ5 δ6 δ7 δ8 δ9 δ10 δ11 δ12 δ13,
-      (
-        vptr b (p + 0) ∷ [],
-        (
-          vptr b (p + 104) ∷ [],
-          (
-            vptr b (p + 160) ∷ [],
-            (
-              vptr b (p + 616) ∷ [],
-              (
-                vptr b (p + 2176) ∷ [],
-                (
-                  vptr b (p + 2688) ∷ [],
-                  (
-                    vptr b (p + 3456) ∷ [],
-                    (
-                      vptr b (p + 3552) ∷ [],
-                      (
-                        vptr b (p + 3648) ∷ [],
-                        (
-                          vptr b (p + 3744) ∷ [],
-                          (
-                            vptr b (p + 3808) ∷ [],
-                            (
-                              vptr b (p + 3872) ∷ [],
-                              (vptr b (p + 4384) ∷ [], (vptr b (p + 4480) ∷ [], (slice-vals sl, tt))),
-                            ),
-                          ),
-                        ),
-                      ),
-                    ),
-                  ),
-                ),
-              ),
-            ),
-          ),
-        ),
-      ),
-    ),
-    tt,
-  )
+        tt,
+      )
 
   parts-asks : (α0 α1 α2 α3 α4 α5 α6 α7 α8 α9 α10 α11 α12 α13 : ℕ) (δ0 δ1 δ2 δ3 δ4 δ5 δ6 δ7 δ8 δ9 δ10 δ11 δ12 δ13 : GName)
       → ent 𝓤 (⋆ 𝓤 H A ((‵ (flft (α0 ∷ []) fullShare) ⊛ (‵ (flft (α1 ∷ []) fullShare) ⊛ (‵ (flft (α2 ∷ []) fullShare) ⊛ (‵ (flft (α3 ∷ []) fullShare)
@@ -444,29 +308,29 @@ module _ {M : Type 1} (𝓤 : URA M) (H : Heap 𝓤) (A : Atoms 𝓤) (W : Given
 
   module _ (C : Calls 𝓤 H) (Λ : Loops 𝓤 H) (fm : FmC 𝓤 H (W .laws) C) (known : Triple 𝓤 (C #callee) (Callee 𝓤 H A at-mem run)) where
     starts : (l0 l1 l2 l3 l4 l5 l6 l7 l8 l9 l10 l11 l12 l13 l14 l15 l16 l17 l18 l19 l20 l21 l22 l23 l24 : ℕ) → Room f64 (length ss)
-        → Sq W (‵ (fobs γ (Bn .coded .code (bn k rs))) ∷ ‵ (fbor κ (Body (mem Bn) b o γ)) ∷ ‵ (flft κ q) ∷ ‵
-        (froom (sliceTy (tyRef erased mut (tyFloat binary64))) l24 0) ∷ ‵ (fdies (sliceTy (tyRef erased mut (tyFloat binary64))) l24) ∷ ‵
-        (froom (tyRef erased mut (tyFloat binary64)) l23 0) ∷ ‵ (fdies (tyRef erased mut (tyFloat binary64)) l23) ∷ ‵
-        (froom (tyRef erased mut (tyArray (tyFloat binary64) 12)) l22 0) ∷ ‵ (fdies (tyRef erased mut (tyArray (tyFloat binary64) 12)) l22) ∷ ‵
-        (froom (tyRef erased mut (tyArray (tyFloat binary64) 12)) l21 0) ∷ ‵ (fdies (tyRef erased mut (tyArray (tyFloat binary64) 12)) l21) ∷ ‵
-        (froom (tyRef erased mut (tyArray (tyFloat binary64) 64)) l20 0) ∷ ‵ (fdies (tyRef erased mut (tyArray (tyFloat binary64) 64)) l20) ∷ ‵
-        (froom (tyRef erased mut (tyArray (tyFloat binary64) 8)) l19 0) ∷ ‵ (fdies (tyRef erased mut (tyArray (tyFloat binary64) 8)) l19) ∷ ‵
-        (froom (tyRef erased mut (tyArray (tyFloat binary64) 8)) l18 0) ∷ ‵ (fdies (tyRef erased mut (tyArray (tyFloat binary64) 8)) l18) ∷ ‵
-        (froom (tyRef erased mut (tyArray (tyFloat binary64) 12)) l17 0) ∷ ‵ (fdies (tyRef erased mut (tyArray (tyFloat binary64) 12)) l17) ∷ ‵
-        (froom (tyRef erased mut (tyArray (tyFloat binary64) 12)) l16 0) ∷ ‵ (fdies (tyRef erased mut (tyArray (tyFloat binary64) 12)) l16) ∷ ‵
-        (froom (tyRef erased mut (tyArray (tyFloat binary64) 12)) l15 0) ∷ ‵ (fdies (tyRef erased mut (tyArray (tyFloat binary64) 12)) l15) ∷ ‵
-        (froom (tyRef erased mut (tyArray (tyFloat binary64) 96)) l14 0) ∷ ‵ (fdies (tyRef erased mut (tyArray (tyFloat binary64) 96)) l14) ∷ ‵
-        (froom (tyRef erased mut (tyArray (tyFloat binary64) 64)) l13 0) ∷ ‵ (fdies (tyRef erased mut (tyArray (tyFloat binary64) 64)) l13) ∷ ‵
-        (froom (tyRef erased imm (tyArray (tyFloat binary64) 195)) l12 0) ∷ ‵ (fdies (tyRef erased imm (tyArray (tyFloat binary64) 195)) l12) ∷ ‵
-        (froom (tyRef erased imm (tyArray (tyInt w64) 57)) l11 0) ∷ ‵ (fdies (tyRef erased imm (tyArray (tyInt w64) 57)) l11) ∷ ‵
-        (froom (tyRef erased mut (tyArray (tyFloat binary64) 7)) l10 0) ∷ ‵ (fdies (tyRef erased mut (tyArray (tyFloat binary64) 7)) l10) ∷ ‵
-        (froom (tyRef erased mut (tyArray (tyInt w64) 13)) l9 0) ∷ ‵ (fdies (tyRef erased mut (tyArray (tyInt w64) 13)) l9) ∷ ‵ (froom (tyPtr) l8 0) ∷ ‵
-        (fdies (tyPtr) l8) ∷ ‵ (froom (tyPtr) l7 0) ∷ ‵ (fdies (tyPtr) l7) ∷ ‵ (froom (tyInt w64) l6 0) ∷ ‵ (fdies (tyInt w64) l6) ∷ ‵ (froom (tyBool) l5 0) ∷ ‵
-        (fdies (tyBool) l5) ∷ ‵ (froom (tyRef erased mut (pointee (R .written))) l4 0) ∷ ‵ (fdies (tyRef erased mut (pointee (R .written))) l4) ∷ ‵
-        (fat fullShare (sliceTy (tyRef (named 1) mut (tyFloat binary64))) l3 0 (only (slice-vals sl))) ∷ ‵
-        (fdies (sliceTy (tyRef (named 1) mut (tyFloat binary64))) l3) ∷ ‵ (fat fullShare (tyInt w64) l2 0 (vint w64 i)) ∷ ‵ (fdies (tyInt w64) l2) ∷ ‵
-        (fat fullShare (tyRef (named 0) mut (pointee (Bn .written))) l1 0 (vptr b o)) ∷ ‵ (fdies (tyRef (named 0) mut (pointee (Bn .written))) l1) ∷ ‵
-        (froom (tyInt w32) l0 0) ∷ ‵ (fdies (tyInt w32) l0) ∷ ‵ OwnS ∷ ‵ (flft κ₂ q₂) ∷ [])
+        → Sq W (‵ (fobs γ (Bn .coded .code (bn k rs))) ∷ ‵ (fbor κ (Body (mem Bn) b o γ)) ∷ ‵ (flft κ q)
+        ∷ ‵ (froom (sliceTy (tyRef erased mut (tyFloat binary64))) l24 0) ∷ ‵ (fdies (sliceTy (tyRef erased mut (tyFloat binary64))) l24)
+        ∷ ‵ (froom (tyRef erased mut (tyFloat binary64)) l23 0) ∷ ‵ (fdies (tyRef erased mut (tyFloat binary64)) l23)
+        ∷ ‵ (froom (tyRef erased mut (tyArray (tyFloat binary64) 12)) l22 0) ∷ ‵ (fdies (tyRef erased mut (tyArray (tyFloat binary64) 12)) l22)
+        ∷ ‵ (froom (tyRef erased mut (tyArray (tyFloat binary64) 12)) l21 0) ∷ ‵ (fdies (tyRef erased mut (tyArray (tyFloat binary64) 12)) l21)
+        ∷ ‵ (froom (tyRef erased mut (tyArray (tyFloat binary64) 64)) l20 0) ∷ ‵ (fdies (tyRef erased mut (tyArray (tyFloat binary64) 64)) l20)
+        ∷ ‵ (froom (tyRef erased mut (tyArray (tyFloat binary64) 8)) l19 0) ∷ ‵ (fdies (tyRef erased mut (tyArray (tyFloat binary64) 8)) l19)
+        ∷ ‵ (froom (tyRef erased mut (tyArray (tyFloat binary64) 8)) l18 0) ∷ ‵ (fdies (tyRef erased mut (tyArray (tyFloat binary64) 8)) l18)
+        ∷ ‵ (froom (tyRef erased mut (tyArray (tyFloat binary64) 12)) l17 0) ∷ ‵ (fdies (tyRef erased mut (tyArray (tyFloat binary64) 12)) l17)
+        ∷ ‵ (froom (tyRef erased mut (tyArray (tyFloat binary64) 12)) l16 0) ∷ ‵ (fdies (tyRef erased mut (tyArray (tyFloat binary64) 12)) l16)
+        ∷ ‵ (froom (tyRef erased mut (tyArray (tyFloat binary64) 12)) l15 0) ∷ ‵ (fdies (tyRef erased mut (tyArray (tyFloat binary64) 12)) l15)
+        ∷ ‵ (froom (tyRef erased mut (tyArray (tyFloat binary64) 96)) l14 0) ∷ ‵ (fdies (tyRef erased mut (tyArray (tyFloat binary64) 96)) l14)
+        ∷ ‵ (froom (tyRef erased mut (tyArray (tyFloat binary64) 64)) l13 0) ∷ ‵ (fdies (tyRef erased mut (tyArray (tyFloat binary64) 64)) l13)
+        ∷ ‵ (froom (tyRef erased imm (tyArray (tyFloat binary64) 195)) l12 0) ∷ ‵ (fdies (tyRef erased imm (tyArray (tyFloat binary64) 195)) l12)
+        ∷ ‵ (froom (tyRef erased imm (tyArray (tyInt w64) 57)) l11 0) ∷ ‵ (fdies (tyRef erased imm (tyArray (tyInt w64) 57)) l11)
+        ∷ ‵ (froom (tyRef erased mut (tyArray (tyFloat binary64) 7)) l10 0) ∷ ‵ (fdies (tyRef erased mut (tyArray (tyFloat binary64) 7)) l10)
+        ∷ ‵ (froom (tyRef erased mut (tyArray (tyInt w64) 13)) l9 0) ∷ ‵ (fdies (tyRef erased mut (tyArray (tyInt w64) 13)) l9) ∷ ‵ (froom (tyPtr) l8 0)
+        ∷ ‵ (fdies (tyPtr) l8) ∷ ‵ (froom (tyPtr) l7 0) ∷ ‵ (fdies (tyPtr) l7) ∷ ‵ (froom (tyInt w64) l6 0) ∷ ‵ (fdies (tyInt w64) l6) ∷ ‵ (froom (tyBool) l5 0)
+        ∷ ‵ (fdies (tyBool) l5) ∷ ‵ (froom (tyRef erased mut (pointee (R .written))) l4 0) ∷ ‵ (fdies (tyRef erased mut (pointee (R .written))) l4)
+        ∷ ‵ (fat fullShare (sliceTy (tyRef (named 1) mut (tyFloat binary64))) l3 0 (only (slice-vals sl)))
+        ∷ ‵ (fdies (sliceTy (tyRef (named 1) mut (tyFloat binary64))) l3) ∷ ‵ (fat fullShare (tyInt w64) l2 0 (vint w64 i)) ∷ ‵ (fdies (tyInt w64) l2)
+        ∷ ‵ (fat fullShare (tyRef (named 0) mut (pointee (Bn .written))) l1 0 (vptr b o)) ∷ ‵ (fdies (tyRef (named 0) mut (pointee (Bn .written))) l1)
+        ∷ ‵ (froom (tyInt w32) l0 0) ∷ ‵ (fdies (tyInt w32) l0) ∷ ‵ OwnS ∷ ‵ (flft κ₂ q₂) ∷ [])
         (runs C Λ (En l0 l1 l2 l3 l4 l5 l6 l7 l8 l9 l10 l11 l12 l13 l14 l15 l16 l17 l18 l19 l20 l21 l22 l23 l24) t-1
         (atRet (En l0 l1 l2 l3 l4 l5 l6 l7 l8 l9 l10 l11 l12 l13 l14 l15 l16 l17 l18 l19 l20 l21 l22 l23 l24) Post))
     starts l0 l1 l2 l3 l4 l5 l6 l7 l8 l9 l10 l11 l12 l13 l14 l15 l16 l17 l18 l19 l20 l21 l22 l23 l24 g =

@@ -98,11 +98,11 @@ module _ {M : Type 1} (𝓤 : URA M) (H : Heap 𝓤) (A : Atoms 𝓤) (W : Given
     Said r z = (r ≡ evaluateRecordNumber j) × (z ≡ evaluatedRecord old j)
 
     exits : (r : ℕ) → r < 2 ^ 32 → (z : MeritEvaluation) → Said r z
-        → ent 𝓤 (⋆ 𝓤 H A (‵ (fobs γ₂ (E.the-row .coded .code z)) ∷ ‵ (fbor κ₂ (Body (mem E.the-row) b₂ o₂ γ₂)) ∷ ‵ (flft κ₂ q₂) ∷ ‵
-        (fres γ (J.the-row .coded .code j)) ∷ ‵ (fshr-bor κ (λ s. partAt J.the-row s j b o)) ∷ ‵ (flft κ q) ∷ [])) (Post (vint w32 r))
+        → ent 𝓤 (⋆ 𝓤 H A (‵ (fobs γ₂ (E.the-row .coded .code z)) ∷ ‵ (fbor κ₂ (Body (mem E.the-row) b₂ o₂ γ₂)) ∷ ‵ (flft κ₂ q₂) ∷ ‵ (fres γ
+        (J.the-row .coded .code j)) ∷ ‵ (fshr-bor κ (λ s. partAt J.the-row s j b o)) ∷ ‵ (flft κ q) ∷ [])) (Post (vint w32 r))
     exits r small z said =
-        qed W (‵ (fobs γ₂ (E.the-row .coded .code z)) ∷ ‵ (fbor κ₂ (Body (mem E.the-row) b₂ o₂ γ₂)) ∷ ‵ (flft κ₂ q₂) ∷ ‵ (fres γ (J.the-row .coded .code j)) ∷ ‵
-        (fshr-bor κ (λ s. partAt J.the-row s j b o)) ∷ ‵ (flft κ q) ∷ []) ∵
+        qed W (‵ (fobs γ₂ (E.the-row .coded .code z)) ∷ ‵ (fbor κ₂ (Body (mem E.the-row) b₂ o₂ γ₂)) ∷ ‵ (flft κ₂ q₂) ∷ ‵ (fres γ (J.the-row .coded .code j))
+        ∷ ‵ (fshr-bor κ (λ s. partAt J.the-row s j b o)) ∷ ‵ (flft κ q) ∷ []) ∵
         suffices ! _ (ends-at 𝓤 H A f.ended stayed (f.clauses 𝓤 H A at-mem run) W (((κ, (κ₂, tt)), (q, (q₂, tt)), tt, a, at), tt) (vint w32 r) r (
           tt,
           (z, tt),
@@ -137,10 +137,10 @@ module _ {M : Type 1} (𝓤 : URA M) (H : Heap 𝓤) (A : Atoms 𝓤) (W : Given
 
         -- the locals are freed
         ends : (r : ℕ) → r < 2 ^ 32 → (z : MeritEvaluation) → Said r z
-            → Sq W (‵ (fobs γ₂ (E.the-row .coded .code z)) ∷ ‵ (fbor κ₂ (Body (mem E.the-row) b₂ o₂ γ₂)) ∷ ‵ (flft κ₂ q₂) ∷ ‵ (froom tyBool l₅ 0) ∷ ‵
-            (fdies tyBool l₅) ∷ ‵ (froom Ev′.mir l₄ 0) ∷ ‵ (fdies Ev′.mir l₄) ∷ ‵ (froom J′.mir l₃ 0) ∷ ‵ (fdies J′.mir l₃) ∷ ‵ (froom lent l₂ 0) ∷ ‵
-            (fdies lent l₂) ∷ ‵ (froom asked l₁ 0) ∷ ‵ (fdies asked l₁) ∷ ‵ (froom (tyInt w32) l₀ 0) ∷ ‵ (fdies (tyInt w32) l₀) ∷ ‵
-            (fres γ (J.the-row .coded .code j)) ∷ ‵ (fshr-bor κ (λ s. partAt J.the-row s j b o)) ∷ ‵ (flft κ q) ∷ [])
+            → Sq W (‵ (fobs γ₂ (E.the-row .coded .code z)) ∷ ‵ (fbor κ₂ (Body (mem E.the-row) b₂ o₂ γ₂)) ∷ ‵ (flft κ₂ q₂) ∷ ‵ (froom tyBool l₅ 0)
+            ∷ ‵ (fdies tyBool l₅) ∷ ‵ (froom Ev′.mir l₄ 0) ∷ ‵ (fdies Ev′.mir l₄) ∷ ‵ (froom J′.mir l₃ 0) ∷ ‵ (fdies J′.mir l₃) ∷ ‵ (froom lent l₂ 0)
+            ∷ ‵ (fdies lent l₂) ∷ ‵ (froom asked l₁ 0) ∷ ‵ (fdies asked l₁) ∷ ‵ (froom (tyInt w32) l₀ 0) ∷ ‵ (fdies (tyInt w32) l₀)
+            ∷ ‵ (fres γ (J.the-row .coded .code j)) ∷ ‵ (fshr-bor κ (λ s. partAt J.the-row s j b o)) ∷ ‵ (flft κ q) ∷ [])
             (frees En (prop (Post (vint w32 r))))
         ends r small z said =
             move ! (13 ∷ 14 ∷ []) $ free1 ! $ move ! (11 ∷ 12 ∷ []) $ free1 ! $ move ! (9 ∷ 10 ∷ []) $ free1 ! $ move ! (7 ∷ 8 ∷ []) $ free1 ! $
@@ -149,11 +149,11 @@ module _ {M : Type 1} (𝓤 : URA M) (H : Heap 𝓤) (A : Atoms 𝓤) (W : Given
 
         -- not refused: the evaluation that was returned, of the machine value w, is stored
         stores : (w : Val) → Is E.the-row (x .evaluation) (w ∷ []) → x .number < 2 ^ 32 → x .number ≤ 0
-            → Sq W (‵ (fobs γ₂ (E.the-row .coded .code old)) ∷ ‵ (fbor κ₂ (Body (mem E.the-row) b₂ o₂ γ₂)) ∷ ‵ (flft κ₂ q₂) ∷ ‵ (froom tyBool l₅ 0) ∷ ‵
-            (fdies tyBool l₅) ∷ ‵ (fat fullShare Ev′.mir l₄ 0 (vstruct (vcons w (vcons (vint w32 (x .number)) vnil)))) ∷ ‵ (fdies Ev′.mir l₄) ∷ ‵
-            (froom J′.mir l₃ 0) ∷ ‵ (fdies J′.mir l₃) ∷ ‵ (fat fullShare lent l₂ 0 (vptr b₂ o₂)) ∷ ‵ (fdies lent l₂) ∷ ‵ (froom asked l₁ 0) ∷ ‵
-            (fdies asked l₁) ∷ ‵ (froom (tyInt w32) l₀ 0) ∷ ‵ (fdies (tyInt w32) l₀) ∷ ‵ (fres γ (J.the-row .coded .code j)) ∷ ‵
-            (fshr-bor κ (λ s. partAt J.the-row s j b o)) ∷ ‵ (flft κ q) ∷ [])
+            → Sq W (‵ (fobs γ₂ (E.the-row .coded .code old)) ∷ ‵ (fbor κ₂ (Body (mem E.the-row) b₂ o₂ γ₂)) ∷ ‵ (flft κ₂ q₂) ∷ ‵ (froom tyBool l₅ 0)
+            ∷ ‵ (fdies tyBool l₅) ∷ ‵ (fat fullShare Ev′.mir l₄ 0 (vstruct (vcons w (vcons (vint w32 (x .number)) vnil)))) ∷ ‵ (fdies Ev′.mir l₄)
+            ∷ ‵ (froom J′.mir l₃ 0) ∷ ‵ (fdies J′.mir l₃) ∷ ‵ (fat fullShare lent l₂ 0 (vptr b₂ o₂)) ∷ ‵ (fdies lent l₂) ∷ ‵ (froom asked l₁ 0)
+            ∷ ‵ (fdies asked l₁) ∷ ‵ (froom (tyInt w32) l₀ 0) ∷ ‵ (fdies (tyInt w32) l₀) ∷ ‵ (fres γ (J.the-row .coded .code j))
+            ∷ ‵ (fshr-bor κ (λ s. partAt J.the-row s j b o)) ∷ ‵ (flft κ q) ∷ [])
             (runs C Λ En t-5 (atRet En Post))
         stores w is small none =
             opens ! tt E.the-row {h = old} b₂ o₂ (λ vs. spelt ! E.the-row (Is E.the-row) (shows 𝓤 H A E.the-row) valsE (LL.tells E.the-type E′.the-laws)
@@ -170,11 +170,11 @@ module _ {M : Type 1} (𝓤 : URA M) (H : Heap 𝓤) (A : Atoms 𝓤) (W : Given
 
         -- the test, and the arm that refuses
         tests : (w : Val) → Is E.the-row (x .evaluation) (w ∷ []) → x .number < 2 ^ 32
-            → Sq W (‵ (fobs γ₂ (E.the-row .coded .code old)) ∷ ‵ (fbor κ₂ (Body (mem E.the-row) b₂ o₂ γ₂)) ∷ ‵ (flft κ₂ q₂) ∷ ‵ (froom tyBool l₅ 0) ∷ ‵
-            (fdies tyBool l₅) ∷ ‵ (fat fullShare Ev′.mir l₄ 0 (vstruct (vcons w (vcons (vint w32 (x .number)) vnil)))) ∷ ‵ (fdies Ev′.mir l₄) ∷ ‵
-            (froom J′.mir l₃ 0) ∷ ‵ (fdies J′.mir l₃) ∷ ‵ (fat fullShare lent l₂ 0 (vptr b₂ o₂)) ∷ ‵ (fdies lent l₂) ∷ ‵ (froom asked l₁ 0) ∷ ‵
-            (fdies asked l₁) ∷ ‵ (froom (tyInt w32) l₀ 0) ∷ ‵ (fdies (tyInt w32) l₀) ∷ ‵ (fres γ (J.the-row .coded .code j)) ∷ ‵
-            (fshr-bor κ (λ s. partAt J.the-row s j b o)) ∷ ‵ (flft κ q) ∷ [])
+            → Sq W (‵ (fobs γ₂ (E.the-row .coded .code old)) ∷ ‵ (fbor κ₂ (Body (mem E.the-row) b₂ o₂ γ₂)) ∷ ‵ (flft κ₂ q₂) ∷ ‵ (froom tyBool l₅ 0)
+            ∷ ‵ (fdies tyBool l₅) ∷ ‵ (fat fullShare Ev′.mir l₄ 0 (vstruct (vcons w (vcons (vint w32 (x .number)) vnil)))) ∷ ‵ (fdies Ev′.mir l₄)
+            ∷ ‵ (froom J′.mir l₃ 0) ∷ ‵ (fdies J′.mir l₃) ∷ ‵ (fat fullShare lent l₂ 0 (vptr b₂ o₂)) ∷ ‵ (fdies lent l₂) ∷ ‵ (froom asked l₁ 0)
+            ∷ ‵ (fdies asked l₁) ∷ ‵ (froom (tyInt w32) l₀ 0) ∷ ‵ (fdies (tyInt w32) l₀) ∷ ‵ (fres γ (J.the-row .coded .code j))
+            ∷ ‵ (fshr-bor κ (λ s. partAt J.the-row s j b o)) ∷ ‵ (flft κ q) ∷ [])
             (runs C Λ En t-3 (atRet En Post))
         tests w is small =
             assigns ! (bin ! (lit ! tt) (load ! (from ! (fld ! refl (stop !))) (look-in ! 5 (sub ! 1 refl (whole !)))) tt) (from ! (stop !))
@@ -188,11 +188,11 @@ module _ {M : Type 1} (𝓤 : URA M) (H : Heap 𝓤) (A : Atoms 𝓤) (W : Given
 
         -- the record is copied, and `evaluated` is called
         starts : FmC 𝓤 H (W .laws) C → Triple 𝓤 (C #callee) Asked
-            → Sq W (‵ (fobs γ₂ (E.the-row .coded .code old)) ∷ ‵ (fbor κ₂ (Body (mem E.the-row) b₂ o₂ γ₂)) ∷ ‵ (flft κ₂ q₂) ∷ ‵ (froom tyBool l₅ 0) ∷ ‵
-            (fdies tyBool l₅) ∷ ‵ (froom Ev′.mir l₄ 0) ∷ ‵ (fdies Ev′.mir l₄) ∷ ‵ (froom J′.mir l₃ 0) ∷ ‵ (fdies J′.mir l₃) ∷ ‵
-            (fat fullShare lent l₂ 0 (vptr b₂ o₂)) ∷ ‵ (fdies lent l₂) ∷ ‵ (fat fullShare asked l₁ 0 (vptr b o)) ∷ ‵ (fdies asked l₁) ∷ ‵
-            (froom (tyInt w32) l₀ 0) ∷ ‵ (fdies (tyInt w32) l₀) ∷ ‵ (fres γ (J.the-row .coded .code j)) ∷ ‵ (fshr-bor κ (λ s. partAt J.the-row s j b o)) ∷ ‵
-            (flft κ q) ∷ [])
+            → Sq W (‵ (fobs γ₂ (E.the-row .coded .code old)) ∷ ‵ (fbor κ₂ (Body (mem E.the-row) b₂ o₂ γ₂)) ∷ ‵ (flft κ₂ q₂) ∷ ‵ (froom tyBool l₅ 0)
+            ∷ ‵ (fdies tyBool l₅) ∷ ‵ (froom Ev′.mir l₄ 0) ∷ ‵ (fdies Ev′.mir l₄) ∷ ‵ (froom J′.mir l₃ 0) ∷ ‵ (fdies J′.mir l₃)
+            ∷ ‵ (fat fullShare lent l₂ 0 (vptr b₂ o₂)) ∷ ‵ (fdies lent l₂) ∷ ‵ (fat fullShare asked l₁ 0 (vptr b o)) ∷ ‵ (fdies asked l₁)
+            ∷ ‵ (froom (tyInt w32) l₀ 0) ∷ ‵ (fdies (tyInt w32) l₀) ∷ ‵ (fres γ (J.the-row .coded .code j)) ∷ ‵ (fshr-bor κ (λ s. partAt J.the-row s j b o))
+            ∷ ‵ (flft κ q) ∷ [])
             (runs C Λ En t-1 (atRet En Post))
         starts fm known =
             move ! (16 ∷ 17 ∷ []) $

@@ -130,11 +130,11 @@ module _ {M : Type 1} (𝓤 : URA M) (H : Heap 𝓤) (A : Atoms 𝓤) (W : Given
     n = numberOf answer
 
     exits : n < 2 ^ 32 → length new ≡ length old → ent 𝓤
-        (⋆ 𝓤 H A (‵ (finally R (sl .name) new) ∷ ‵ (flft κ₂ q₂) ∷ ‵ (fres γ (J.the-row .coded .code j)) ∷ ‵ (fshr-bor κ (λ s. partAt J.the-row s j b o)) ∷ ‵
-        (flft κ q) ∷ [])) (Post (vint w32 n))
+        (⋆ 𝓤 H A (‵ (finally R (sl .name) new) ∷ ‵ (flft κ₂ q₂) ∷ ‵ (fres γ (J.the-row .coded .code j)) ∷ ‵ (fshr-bor κ (λ s. partAt J.the-row s j b o))
+        ∷ ‵ (flft κ q) ∷ [])) (Post (vint w32 n))
     exits small long =
-        qed W (‵ (finally R (sl .name) new) ∷ ‵ (flft κ₂ q₂) ∷ ‵ (fres γ (J.the-row .coded .code j)) ∷ ‵ (fshr-bor κ (λ s. partAt J.the-row s j b o)) ∷ ‵
-        (flft κ q) ∷ []) ∵
+        qed W (‵ (finally R (sl .name) new) ∷ ‵ (flft κ₂ q₂) ∷ ‵ (fres γ (J.the-row .coded .code j)) ∷ ‵ (fshr-bor κ (λ s. partAt J.the-row s j b o))
+        ∷ ‵ (flft κ q) ∷ []) ∵
         suffices ! _ (ends-at 𝓤 H A f.ended stayed (f.clauses 𝓤 H A at-mem run) W (((κ, (κ₂, tt)), (q, (q₂, tt)), tt, a, at), tt) (vint w32 n) n (
           tt,
           (tt, (new, tt)),
@@ -206,11 +206,11 @@ module _ {M : Type 1} (𝓤 : URA M) (H : Heap 𝓤) (A : Atoms 𝓤) (W : Given
 
         -- the row is passed on to `trace`, and the number of its answer is returned
         traces : Is P.the-row p (valsP p)
-            → Sq W (‵ (flft κ₂ q₂) ∷ ‵ OwnR ∷ ‵ (froom passed l₈ 0) ∷ ‵ (fdies passed l₈) ∷ ‵ (froom reborrowed l₇ 0) ∷ ‵ (fdies reborrowed l₇) ∷ ‵
-            (froom Tr′.mir l₆ 0) ∷ ‵ (fdies Tr′.mir l₆) ∷ ‵ (fat fullShare P′.mir l₅ 0 (only (valsP p))) ∷ ‵ (fdies P′.mir l₅) ∷ ‵ (froom J′.mir l₄ 0) ∷ ‵
-            (fdies J′.mir l₄) ∷ ‵ (fat fullShare slice l₃ 0 (only (slice-vals sl))) ∷ ‵ (fdies slice l₃) ∷ ‵ (fat fullShare word l₂ 0 (vint w64 slot)) ∷ ‵
-            (fdies word l₂) ∷ ‵ (froom asked l₁ 0) ∷ ‵ (fdies asked l₁) ∷ ‵ (froom (tyInt w32) l₀ 0) ∷ ‵ (fdies (tyInt w32) l₀) ∷ ‵
-            (fres γ (J.the-row .coded .code j)) ∷ ‵ (fshr-bor κ (λ s. partAt J.the-row s j b o)) ∷ ‵ (flft κ q) ∷ [])
+            → Sq W (‵ (flft κ₂ q₂) ∷ ‵ OwnR ∷ ‵ (froom passed l₈ 0) ∷ ‵ (fdies passed l₈) ∷ ‵ (froom reborrowed l₇ 0) ∷ ‵ (fdies reborrowed l₇)
+            ∷ ‵ (froom Tr′.mir l₆ 0) ∷ ‵ (fdies Tr′.mir l₆) ∷ ‵ (fat fullShare P′.mir l₅ 0 (only (valsP p))) ∷ ‵ (fdies P′.mir l₅) ∷ ‵ (froom J′.mir l₄ 0)
+            ∷ ‵ (fdies J′.mir l₄) ∷ ‵ (fat fullShare slice l₃ 0 (only (slice-vals sl))) ∷ ‵ (fdies slice l₃) ∷ ‵ (fat fullShare word l₂ 0 (vint w64 slot))
+            ∷ ‵ (fdies word l₂) ∷ ‵ (froom asked l₁ 0) ∷ ‵ (fdies asked l₁) ∷ ‵ (froom (tyInt w32) l₀ 0) ∷ ‵ (fdies (tyInt w32) l₀)
+            ∷ ‵ (fres γ (J.the-row .coded .code j)) ∷ ‵ (fshr-bor κ (λ s. partAt J.the-row s j b o)) ∷ ‵ (flft κ q) ∷ [])
             (runs C Λ En t-3 (atRet En Post))
         traces isp =
             assigns ! (addr ! (from ! (fld ! refl (hop ! (look-in ! 12 (sub ! 0 refl (whole !))) (stop !))))) (from ! (stop !)) (init ! 4 refl (tt, tt)) $
@@ -236,11 +236,11 @@ module _ {M : Type 1} (𝓤 : URA M) (H : Heap 𝓤) (A : Atoms 𝓤) (W : Given
             by ! (exits (isn .1) long))))
 
         -- the record is copied, and its lens is read
-        starts : Sq W (‵ OwnR ∷ ‵ (flft κ₂ q₂) ∷ ‵ (froom passed l₈ 0) ∷ ‵ (fdies passed l₈) ∷ ‵ (froom reborrowed l₇ 0) ∷ ‵ (fdies reborrowed l₇) ∷ ‵
-            (froom Tr′.mir l₆ 0) ∷ ‵ (fdies Tr′.mir l₆) ∷ ‵ (froom P′.mir l₅ 0) ∷ ‵ (fdies P′.mir l₅) ∷ ‵ (froom J′.mir l₄ 0) ∷ ‵ (fdies J′.mir l₄) ∷ ‵
-            (fat fullShare slice l₃ 0 (only (slice-vals sl))) ∷ ‵ (fdies slice l₃) ∷ ‵ (fat fullShare word l₂ 0 (vint w64 slot)) ∷ ‵ (fdies word l₂) ∷ ‵
-            (fat fullShare asked l₁ 0 (vptr b o)) ∷ ‵ (fdies asked l₁) ∷ ‵ (froom (tyInt w32) l₀ 0) ∷ ‵ (fdies (tyInt w32) l₀) ∷ ‵
-            (fres γ (J.the-row .coded .code j)) ∷ ‵ (fshr-bor κ (λ s. partAt J.the-row s j b o)) ∷ ‵ (flft κ q) ∷ [])
+        starts : Sq W (‵ OwnR ∷ ‵ (flft κ₂ q₂) ∷ ‵ (froom passed l₈ 0) ∷ ‵ (fdies passed l₈) ∷ ‵ (froom reborrowed l₇ 0) ∷ ‵ (fdies reborrowed l₇) ∷ ‵ (froom
+            Tr′.mir l₆ 0) ∷ ‵ (fdies Tr′.mir l₆) ∷ ‵ (froom P′.mir l₅ 0) ∷ ‵ (fdies P′.mir l₅) ∷ ‵ (froom J′.mir l₄ 0) ∷ ‵ (fdies J′.mir l₄)
+            ∷ ‵ (fat fullShare slice l₃ 0 (only (slice-vals sl))) ∷ ‵ (fdies slice l₃) ∷ ‵ (fat fullShare word l₂ 0 (vint w64 slot)) ∷ ‵ (fdies word l₂)
+            ∷ ‵ (fat fullShare asked l₁ 0 (vptr b o)) ∷ ‵ (fdies asked l₁) ∷ ‵ (froom (tyInt w32) l₀ 0) ∷ ‵ (fdies (tyInt w32) l₀)
+            ∷ ‵ (fres γ (J.the-row .coded .code j)) ∷ ‵ (fshr-bor κ (λ s. partAt J.the-row s j b o)) ∷ ‵ (flft κ q) ∷ [])
             (runs C Λ En t-1 (atRet En Post))
         starts =
             move ! (21 ∷ 22 ∷ []) $

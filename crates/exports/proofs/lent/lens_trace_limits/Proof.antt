@@ -125,13 +125,13 @@ module _ {M : Type 1} (𝓤 : URA M) (H : Heap 𝓤) (A : Atoms 𝓤) (W : Given
     Said r z = (r ≡ limitsNumber (lensOf j) g slot) × (z ≡ limitsAs old (lensOf j) g slot)
 
     exits : (r : ℕ) → r < 2 ^ 32 → (z : TraceLimits) → Said r z
-        → ent 𝓤 (⋆ 𝓤 H A (‵ (fobs γ₂ (E.the-row .coded .code z)) ∷ ‵ (fbor κ₂ (Body (mem E.the-row) b₂ o₂ γ₂)) ∷ ‵ (flft κ₂ q₂) ∷ ‵
-        (fres γ (J.the-row .coded .code j)) ∷ ‵ (fshr-bor κ (λ s. partAt J.the-row s j b o)) ∷ ‵ (flft κ q) ∷ ‵ (fres γ₁ (L.the-row .coded .code g)) ∷ ‵
-        (fshr-bor κ₁ (λ s. partAt L.the-row s g b₁ o₁)) ∷ ‵ (flft κ₁ q₁) ∷ [])) (Post (vint w32 r))
+        → ent 𝓤 (⋆ 𝓤 H A (‵ (fobs γ₂ (E.the-row .coded .code z)) ∷ ‵ (fbor κ₂ (Body (mem E.the-row) b₂ o₂ γ₂)) ∷ ‵ (flft κ₂ q₂) ∷ ‵ (fres γ
+        (J.the-row .coded .code j)) ∷ ‵ (fshr-bor κ (λ s. partAt J.the-row s j b o)) ∷ ‵ (flft κ q) ∷ ‵ (fres γ₁ (L.the-row .coded .code g))
+        ∷ ‵ (fshr-bor κ₁ (λ s. partAt L.the-row s g b₁ o₁)) ∷ ‵ (flft κ₁ q₁) ∷ [])) (Post (vint w32 r))
     exits r small z said =
-        qed W (‵ (fobs γ₂ (E.the-row .coded .code z)) ∷ ‵ (fbor κ₂ (Body (mem E.the-row) b₂ o₂ γ₂)) ∷ ‵ (flft κ₂ q₂) ∷ ‵ (fres γ (J.the-row .coded .code j)) ∷ ‵
-        (fshr-bor κ (λ s. partAt J.the-row s j b o)) ∷ ‵ (flft κ q) ∷ ‵ (fres γ₁ (L.the-row .coded .code g)) ∷ ‵
-        (fshr-bor κ₁ (λ s. partAt L.the-row s g b₁ o₁)) ∷ ‵ (flft κ₁ q₁) ∷ []) ∵
+        qed W (‵ (fobs γ₂ (E.the-row .coded .code z)) ∷ ‵ (fbor κ₂ (Body (mem E.the-row) b₂ o₂ γ₂)) ∷ ‵ (flft κ₂ q₂) ∷ ‵ (fres γ (J.the-row .coded .code j))
+        ∷ ‵ (fshr-bor κ (λ s. partAt J.the-row s j b o)) ∷ ‵ (flft κ q) ∷ ‵ (fres γ₁ (L.the-row .coded .code g))
+        ∷ ‵ (fshr-bor κ₁ (λ s. partAt L.the-row s g b₁ o₁)) ∷ ‵ (flft κ₁ q₁) ∷ []) ∵
         suffices ! _ (ends-at 𝓤 H A f.ended stayed (f.clauses 𝓤 H A at-mem run) W (
           (
             (κ, (κ₁, (κ₂, tt))),
@@ -179,12 +179,12 @@ module _ {M : Type 1} (𝓤 : URA M) (H : Heap 𝓤) (A : Atoms 𝓤) (W : Given
 
         -- the locals are freed
         ends : (r : ℕ) → r < 2 ^ 32 → (z : TraceLimits) → Said r z
-            → Sq W (‵ (fobs γ₂ (E.the-row .coded .code z)) ∷ ‵ (fbor κ₂ (Body (mem E.the-row) b₂ o₂ γ₂)) ∷ ‵ (flft κ₂ q₂) ∷ ‵ (froom tyBool l₈ 0) ∷ ‵
-            (fdies tyBool l₈) ∷ ‵ (froom Ev′.mir l₇ 0) ∷ ‵ (fdies Ev′.mir l₇) ∷ ‵ (froom L′.mir l₆ 0) ∷ ‵ (fdies L′.mir l₆) ∷ ‵ (froom J′.mir l₅ 0) ∷ ‵
-            (fdies J′.mir l₅) ∷ ‵ (froom lent l₄ 0) ∷ ‵ (fdies lent l₄) ∷ ‵ (froom (tyInt w64) l₃ 0) ∷ ‵ (fdies (tyInt w64) l₃) ∷ ‵ (froom given l₂ 0) ∷ ‵
-            (fdies given l₂) ∷ ‵ (froom asked l₁ 0) ∷ ‵ (fdies asked l₁) ∷ ‵ (froom (tyInt w32) l₀ 0) ∷ ‵ (fdies (tyInt w32) l₀) ∷ ‵
-            (fres γ (J.the-row .coded .code j)) ∷ ‵ (fshr-bor κ (λ s. partAt J.the-row s j b o)) ∷ ‵ (flft κ q) ∷ ‵ (fres γ₁ (L.the-row .coded .code g)) ∷ ‵
-            (fshr-bor κ₁ (λ s. partAt L.the-row s g b₁ o₁)) ∷ ‵ (flft κ₁ q₁) ∷ [])
+            → Sq W (‵ (fobs γ₂ (E.the-row .coded .code z)) ∷ ‵ (fbor κ₂ (Body (mem E.the-row) b₂ o₂ γ₂)) ∷ ‵ (flft κ₂ q₂) ∷ ‵ (froom tyBool l₈ 0)
+            ∷ ‵ (fdies tyBool l₈) ∷ ‵ (froom Ev′.mir l₇ 0) ∷ ‵ (fdies Ev′.mir l₇) ∷ ‵ (froom L′.mir l₆ 0) ∷ ‵ (fdies L′.mir l₆) ∷ ‵ (froom J′.mir l₅ 0)
+            ∷ ‵ (fdies J′.mir l₅) ∷ ‵ (froom lent l₄ 0) ∷ ‵ (fdies lent l₄) ∷ ‵ (froom (tyInt w64) l₃ 0) ∷ ‵ (fdies (tyInt w64) l₃) ∷ ‵ (froom given l₂ 0)
+            ∷ ‵ (fdies given l₂) ∷ ‵ (froom asked l₁ 0) ∷ ‵ (fdies asked l₁) ∷ ‵ (froom (tyInt w32) l₀ 0) ∷ ‵ (fdies (tyInt w32) l₀)
+            ∷ ‵ (fres γ (J.the-row .coded .code j)) ∷ ‵ (fshr-bor κ (λ s. partAt J.the-row s j b o)) ∷ ‵ (flft κ q) ∷ ‵ (fres γ₁ (L.the-row .coded .code g))
+            ∷ ‵ (fshr-bor κ₁ (λ s. partAt L.the-row s g b₁ o₁)) ∷ ‵ (flft κ₁ q₁) ∷ [])
             (frees En (prop (Post (vint w32 r))))
         ends r small z said =
             move ! (19 ∷ 20 ∷ []) $ free1 ! $ move ! (17 ∷ 18 ∷ []) $ free1 ! $ move ! (15 ∷ 16 ∷ []) $ free1 ! $ move ! (13 ∷ 14 ∷ []) $ free1 ! $
@@ -194,13 +194,13 @@ module _ {M : Type 1} (𝓤 : URA M) (H : Heap 𝓤) (A : Atoms 𝓤) (W : Given
 
         -- not refused: the limits that were returned, of the machine value w, are stored
         stores : (w : Val) → Is E.the-row (x .traced) (w ∷ []) → x .number < 2 ^ 32 → x .number ≤ 0
-            → Sq W (‵ (fobs γ₂ (E.the-row .coded .code old)) ∷ ‵ (fbor κ₂ (Body (mem E.the-row) b₂ o₂ γ₂)) ∷ ‵ (flft κ₂ q₂) ∷ ‵ (froom tyBool l₈ 0) ∷ ‵
-            (fdies tyBool l₈) ∷ ‵ (fat fullShare Ev′.mir l₇ 0 (vstruct (vcons w (vcons (vint w32 (x .number)) vnil)))) ∷ ‵ (fdies Ev′.mir l₇) ∷ ‵
-            (froom L′.mir l₆ 0) ∷ ‵ (fdies L′.mir l₆) ∷ ‵ (froom J′.mir l₅ 0) ∷ ‵ (fdies J′.mir l₅) ∷ ‵ (fat fullShare lent l₄ 0 (vptr b₂ o₂)) ∷ ‵
-            (fdies lent l₄) ∷ ‵ (froom (tyInt w64) l₃ 0) ∷ ‵ (fdies (tyInt w64) l₃) ∷ ‵ (froom given l₂ 0) ∷ ‵ (fdies given l₂) ∷ ‵ (froom asked l₁ 0) ∷ ‵
-            (fdies asked l₁) ∷ ‵ (froom (tyInt w32) l₀ 0) ∷ ‵ (fdies (tyInt w32) l₀) ∷ ‵ (fres γ (J.the-row .coded .code j)) ∷ ‵
-            (fshr-bor κ (λ s. partAt J.the-row s j b o)) ∷ ‵ (flft κ q) ∷ ‵ (fres γ₁ (L.the-row .coded .code g)) ∷ ‵
-            (fshr-bor κ₁ (λ s. partAt L.the-row s g b₁ o₁)) ∷ ‵ (flft κ₁ q₁) ∷ [])
+            → Sq W (‵ (fobs γ₂ (E.the-row .coded .code old)) ∷ ‵ (fbor κ₂ (Body (mem E.the-row) b₂ o₂ γ₂)) ∷ ‵ (flft κ₂ q₂) ∷ ‵ (froom tyBool l₈ 0)
+            ∷ ‵ (fdies tyBool l₈) ∷ ‵ (fat fullShare Ev′.mir l₇ 0 (vstruct (vcons w (vcons (vint w32 (x .number)) vnil)))) ∷ ‵ (fdies Ev′.mir l₇)
+            ∷ ‵ (froom L′.mir l₆ 0) ∷ ‵ (fdies L′.mir l₆) ∷ ‵ (froom J′.mir l₅ 0) ∷ ‵ (fdies J′.mir l₅) ∷ ‵ (fat fullShare lent l₄ 0 (vptr b₂ o₂))
+            ∷ ‵ (fdies lent l₄) ∷ ‵ (froom (tyInt w64) l₃ 0) ∷ ‵ (fdies (tyInt w64) l₃) ∷ ‵ (froom given l₂ 0) ∷ ‵ (fdies given l₂) ∷ ‵ (froom asked l₁ 0)
+            ∷ ‵ (fdies asked l₁) ∷ ‵ (froom (tyInt w32) l₀ 0) ∷ ‵ (fdies (tyInt w32) l₀) ∷ ‵ (fres γ (J.the-row .coded .code j))
+            ∷ ‵ (fshr-bor κ (λ s. partAt J.the-row s j b o)) ∷ ‵ (flft κ q) ∷ ‵ (fres γ₁ (L.the-row .coded .code g))
+            ∷ ‵ (fshr-bor κ₁ (λ s. partAt L.the-row s g b₁ o₁)) ∷ ‵ (flft κ₁ q₁) ∷ [])
             (runs C Λ En t-6 (atRet En Post))
         stores w is small none =
             opens ! tt E.the-row {h = old} b₂ o₂ (λ vs. spelt ! E.the-row (Is E.the-row) (shows 𝓤 H A E.the-row) valsE (LL.tells E.the-type E′.the-laws)
@@ -217,13 +217,13 @@ module _ {M : Type 1} (𝓤 : URA M) (H : Heap 𝓤) (A : Atoms 𝓤) (W : Given
 
         -- the test, and the arm that refuses
         tests : (w : Val) → Is E.the-row (x .traced) (w ∷ []) → x .number < 2 ^ 32
-            → Sq W (‵ (fobs γ₂ (E.the-row .coded .code old)) ∷ ‵ (fbor κ₂ (Body (mem E.the-row) b₂ o₂ γ₂)) ∷ ‵ (flft κ₂ q₂) ∷ ‵ (froom tyBool l₈ 0) ∷ ‵
-            (fdies tyBool l₈) ∷ ‵ (fat fullShare Ev′.mir l₇ 0 (vstruct (vcons w (vcons (vint w32 (x .number)) vnil)))) ∷ ‵ (fdies Ev′.mir l₇) ∷ ‵
-            (froom L′.mir l₆ 0) ∷ ‵ (fdies L′.mir l₆) ∷ ‵ (froom J′.mir l₅ 0) ∷ ‵ (fdies J′.mir l₅) ∷ ‵ (fat fullShare lent l₄ 0 (vptr b₂ o₂)) ∷ ‵
-            (fdies lent l₄) ∷ ‵ (froom (tyInt w64) l₃ 0) ∷ ‵ (fdies (tyInt w64) l₃) ∷ ‵ (froom given l₂ 0) ∷ ‵ (fdies given l₂) ∷ ‵ (froom asked l₁ 0) ∷ ‵
-            (fdies asked l₁) ∷ ‵ (froom (tyInt w32) l₀ 0) ∷ ‵ (fdies (tyInt w32) l₀) ∷ ‵ (fres γ (J.the-row .coded .code j)) ∷ ‵
-            (fshr-bor κ (λ s. partAt J.the-row s j b o)) ∷ ‵ (flft κ q) ∷ ‵ (fres γ₁ (L.the-row .coded .code g)) ∷ ‵
-            (fshr-bor κ₁ (λ s. partAt L.the-row s g b₁ o₁)) ∷ ‵ (flft κ₁ q₁) ∷ [])
+            → Sq W (‵ (fobs γ₂ (E.the-row .coded .code old)) ∷ ‵ (fbor κ₂ (Body (mem E.the-row) b₂ o₂ γ₂)) ∷ ‵ (flft κ₂ q₂) ∷ ‵ (froom tyBool l₈ 0)
+            ∷ ‵ (fdies tyBool l₈) ∷ ‵ (fat fullShare Ev′.mir l₇ 0 (vstruct (vcons w (vcons (vint w32 (x .number)) vnil)))) ∷ ‵ (fdies Ev′.mir l₇)
+            ∷ ‵ (froom L′.mir l₆ 0) ∷ ‵ (fdies L′.mir l₆) ∷ ‵ (froom J′.mir l₅ 0) ∷ ‵ (fdies J′.mir l₅) ∷ ‵ (fat fullShare lent l₄ 0 (vptr b₂ o₂))
+            ∷ ‵ (fdies lent l₄) ∷ ‵ (froom (tyInt w64) l₃ 0) ∷ ‵ (fdies (tyInt w64) l₃) ∷ ‵ (froom given l₂ 0) ∷ ‵ (fdies given l₂) ∷ ‵ (froom asked l₁ 0)
+            ∷ ‵ (fdies asked l₁) ∷ ‵ (froom (tyInt w32) l₀ 0) ∷ ‵ (fdies (tyInt w32) l₀) ∷ ‵ (fres γ (J.the-row .coded .code j))
+            ∷ ‵ (fshr-bor κ (λ s. partAt J.the-row s j b o)) ∷ ‵ (flft κ q) ∷ ‵ (fres γ₁ (L.the-row .coded .code g))
+            ∷ ‵ (fshr-bor κ₁ (λ s. partAt L.the-row s g b₁ o₁)) ∷ ‵ (flft κ₁ q₁) ∷ [])
             (runs C Λ En t-4 (atRet En Post))
         tests w is small =
             assigns ! (bin ! (lit ! tt) (load ! (from ! (fld ! refl (stop !))) (look-in ! 5 (sub ! 1 refl (whole !)))) tt) (from ! (stop !))
@@ -237,13 +237,13 @@ module _ {M : Type 1} (𝓤 : URA M) (H : Heap 𝓤) (A : Atoms 𝓤) (W : Given
 
         -- the record and the limits are copied, and `limits_traced` is called
         starts : FmC 𝓤 H (W .laws) C → Triple 𝓤 (C #callee) Asked
-            → Sq W (‵ (fobs γ₂ (E.the-row .coded .code old)) ∷ ‵ (fbor κ₂ (Body (mem E.the-row) b₂ o₂ γ₂)) ∷ ‵ (flft κ₂ q₂) ∷ ‵ (froom tyBool l₈ 0) ∷ ‵
-            (fdies tyBool l₈) ∷ ‵ (froom Ev′.mir l₇ 0) ∷ ‵ (fdies Ev′.mir l₇) ∷ ‵ (froom L′.mir l₆ 0) ∷ ‵ (fdies L′.mir l₆) ∷ ‵ (froom J′.mir l₅ 0) ∷ ‵
-            (fdies J′.mir l₅) ∷ ‵ (fat fullShare lent l₄ 0 (vptr b₂ o₂)) ∷ ‵ (fdies lent l₄) ∷ ‵ (fat fullShare (tyInt w64) l₃ 0 (vint w64 slot)) ∷ ‵
-            (fdies (tyInt w64) l₃) ∷ ‵ (fat fullShare given l₂ 0 (vptr b₁ o₁)) ∷ ‵ (fdies given l₂) ∷ ‵ (fat fullShare asked l₁ 0 (vptr b o)) ∷ ‵
-            (fdies asked l₁) ∷ ‵ (froom (tyInt w32) l₀ 0) ∷ ‵ (fdies (tyInt w32) l₀) ∷ ‵ (fres γ (J.the-row .coded .code j)) ∷ ‵
-            (fshr-bor κ (λ s. partAt J.the-row s j b o)) ∷ ‵ (flft κ q) ∷ ‵ (fres γ₁ (L.the-row .coded .code g)) ∷ ‵
-            (fshr-bor κ₁ (λ s. partAt L.the-row s g b₁ o₁)) ∷ ‵ (flft κ₁ q₁) ∷ [])
+            → Sq W (‵ (fobs γ₂ (E.the-row .coded .code old)) ∷ ‵ (fbor κ₂ (Body (mem E.the-row) b₂ o₂ γ₂)) ∷ ‵ (flft κ₂ q₂) ∷ ‵ (froom tyBool l₈ 0)
+            ∷ ‵ (fdies tyBool l₈) ∷ ‵ (froom Ev′.mir l₇ 0) ∷ ‵ (fdies Ev′.mir l₇) ∷ ‵ (froom L′.mir l₆ 0) ∷ ‵ (fdies L′.mir l₆) ∷ ‵ (froom J′.mir l₅ 0)
+            ∷ ‵ (fdies J′.mir l₅) ∷ ‵ (fat fullShare lent l₄ 0 (vptr b₂ o₂)) ∷ ‵ (fdies lent l₄) ∷ ‵ (fat fullShare (tyInt w64) l₃ 0 (vint w64 slot))
+            ∷ ‵ (fdies (tyInt w64) l₃) ∷ ‵ (fat fullShare given l₂ 0 (vptr b₁ o₁)) ∷ ‵ (fdies given l₂) ∷ ‵ (fat fullShare asked l₁ 0 (vptr b o))
+            ∷ ‵ (fdies asked l₁) ∷ ‵ (froom (tyInt w32) l₀ 0) ∷ ‵ (fdies (tyInt w32) l₀) ∷ ‵ (fres γ (J.the-row .coded .code j))
+            ∷ ‵ (fshr-bor κ (λ s. partAt J.the-row s j b o)) ∷ ‵ (flft κ q) ∷ ‵ (fres γ₁ (L.the-row .coded .code g))
+            ∷ ‵ (fshr-bor κ₁ (λ s. partAt L.the-row s g b₁ o₁)) ∷ ‵ (flft κ₁ q₁) ∷ [])
             (runs C Λ En t-1 (atRet En Post))
         starts fm known =
             move ! (22 ∷ 23 ∷ []) $
@@ -282,8 +282,8 @@ module _ {M : Type 1} (𝓤 : URA M) (H : Heap 𝓤) (A : Atoms 𝓤) (W : Given
         walk : ent 𝓤 (onEntry 𝓤 H A f.signature (κ, (κ₁, (κ₂, tt))) (q, (q₁, (q₂, tt))) a at)
             (WpFn 𝓤 H C Λ code.function (vptr b o ∷ vptr b₁ o₁ ∷ vint w64 slot ∷ vptr b₂ o₂ ∷ []) Post)
         walk =
-            qed W ((‵ (flft κ q) ⊛ (‵ (flft κ₁ q₁) ⊛ (‵ (flft κ₂ q₂) ⊛ ‵ ftrue))) ∷ ‵
-            (owns (ShrRef (lifetime 0) κ J.the-row ∷ ShrRef (lifetime 1) κ₁ L.the-row ∷ usize ∷ MutRef (lifetime 2) κ₂ E.the-row ∷ []) a at) ∷ []) ∵
+            qed W ((‵ (flft κ q) ⊛ (‵ (flft κ₁ q₁) ⊛ (‵ (flft κ₂ q₂) ⊛ ‵ ftrue)))
+            ∷ ‵ (owns (ShrRef (lifetime 0) κ J.the-row ∷ ShrRef (lifetime 1) κ₁ L.the-row ∷ usize ∷ MutRef (lifetime 2) κ₂ E.the-row ∷ []) a at) ∷ []) ∵
             split ! $ move ! (1 ∷ []) $ split ! $ move ! (1 ∷ []) $ split ! $ move ! (4 ∷ []) $ fsplit ! $ fsplit3 ! $ drop ! $ move ! (2 ∷ []) $ fsplit ! $
             fsplit3 ! $ drop ! $ move ! (2 ∷ []) $
             fsplit ! $ drop ! $ fsplit ! $ fsplit3 ! $ drop ! $ keep ! (0 ∷ 1 ∷ 7 ∷ 5 ∷ 6 ∷ 10 ∷ 3 ∷ 4 ∷ 9 ∷ []) $

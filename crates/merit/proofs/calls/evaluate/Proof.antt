@@ -141,9 +141,9 @@ module _ {M : Type 1} (𝓤 : URA M) (H : Heap 𝓤) (A : Atoms 𝓤) (W : Given
 
         -- the locals are freed
         ends : (r : ℕ) → r < 2 ^ 32 → (z : MeritEvaluation) → Said r z
-            → Sq W (‵ (fobs γ (E.the-row .coded .code z)) ∷ ‵ (fbor κ (Body (mem E.the-row) b o γ)) ∷ ‵ (flft κ q) ∷ ‵ (froom tyBool l₅ 0) ∷ ‵
-            (fdies tyBool l₅) ∷ ‵ (froom Ev′.mir l₄ 0) ∷ ‵ (fdies Ev′.mir l₄) ∷ ‵ (froom lent l₃ 0) ∷ ‵ (fdies lent l₃) ∷ ‵ (froom F′.mir l₂ 0) ∷ ‵
-            (fdies F′.mir l₂) ∷ ‵ (froom P′.mir l₁ 0) ∷ ‵ (fdies P′.mir l₁) ∷ ‵ (froom (tyInt w32) l₀ 0) ∷ ‵ (fdies (tyInt w32) l₀) ∷ [])
+            → Sq W (‵ (fobs γ (E.the-row .coded .code z)) ∷ ‵ (fbor κ (Body (mem E.the-row) b o γ)) ∷ ‵ (flft κ q) ∷ ‵ (froom tyBool l₅ 0) ∷ ‵ (fdies tyBool l₅)
+            ∷ ‵ (froom Ev′.mir l₄ 0) ∷ ‵ (fdies Ev′.mir l₄) ∷ ‵ (froom lent l₃ 0) ∷ ‵ (fdies lent l₃) ∷ ‵ (froom F′.mir l₂ 0) ∷ ‵ (fdies F′.mir l₂)
+            ∷ ‵ (froom P′.mir l₁ 0) ∷ ‵ (fdies P′.mir l₁) ∷ ‵ (froom (tyInt w32) l₀ 0) ∷ ‵ (fdies (tyInt w32) l₀) ∷ [])
             (frees En (prop (Post (vint w32 r))))
         ends r small z said =
             move ! (13 ∷ 14 ∷ []) $ free1 ! $ move ! (11 ∷ 12 ∷ []) $ free1 ! $ move ! (9 ∷ 10 ∷ []) $ free1 ! $ move ! (7 ∷ 8 ∷ []) $ free1 ! $
@@ -152,10 +152,10 @@ module _ {M : Type 1} (𝓤 : URA M) (H : Heap 𝓤) (A : Atoms 𝓤) (W : Given
 
         -- not refused: the evaluation that was returned, of the machine value w, is stored
         stores : (w : Val) → Is E.the-row (x .evaluation) (w ∷ []) → x .number < 2 ^ 32 → x .number ≤ 0
-            → Sq W (‵ (fobs γ (E.the-row .coded .code old)) ∷ ‵ (fbor κ (Body (mem E.the-row) b o γ)) ∷ ‵ (flft κ q) ∷ ‵ (froom tyBool l₅ 0) ∷ ‵
-            (fdies tyBool l₅) ∷ ‵ (fat fullShare Ev′.mir l₄ 0 (vstruct (vcons w (vcons (vint w32 (x .number)) vnil)))) ∷ ‵ (fdies Ev′.mir l₄) ∷ ‵
-            (fat fullShare lent l₃ 0 (vptr b o)) ∷ ‵ (fdies lent l₃) ∷ ‵ (froom F′.mir l₂ 0) ∷ ‵ (fdies F′.mir l₂) ∷ ‵ (froom P′.mir l₁ 0) ∷ ‵
-            (fdies P′.mir l₁) ∷ ‵ (froom (tyInt w32) l₀ 0) ∷ ‵ (fdies (tyInt w32) l₀) ∷ [])
+            → Sq W (‵ (fobs γ (E.the-row .coded .code old)) ∷ ‵ (fbor κ (Body (mem E.the-row) b o γ)) ∷ ‵ (flft κ q) ∷ ‵ (froom tyBool l₅ 0)
+            ∷ ‵ (fdies tyBool l₅) ∷ ‵ (fat fullShare Ev′.mir l₄ 0 (vstruct (vcons w (vcons (vint w32 (x .number)) vnil)))) ∷ ‵ (fdies Ev′.mir l₄)
+            ∷ ‵ (fat fullShare lent l₃ 0 (vptr b o)) ∷ ‵ (fdies lent l₃) ∷ ‵ (froom F′.mir l₂ 0) ∷ ‵ (fdies F′.mir l₂) ∷ ‵ (froom P′.mir l₁ 0)
+            ∷ ‵ (fdies P′.mir l₁) ∷ ‵ (froom (tyInt w32) l₀ 0) ∷ ‵ (fdies (tyInt w32) l₀) ∷ [])
             (runs C Λ En t-4 (atRet En Post))
         stores w is small none =
             opens ! tt E.the-row {h = old} b o (λ vs. spelt ! E.the-row (Is E.the-row) (shows 𝓤 H A E.the-row) valsE (LL.tells E.the-type E′.the-laws) fullShare
@@ -172,10 +172,10 @@ module _ {M : Type 1} (𝓤 : URA M) (H : Heap 𝓤) (A : Atoms 𝓤) (W : Given
 
         -- the test, and the arm that refuses
         tests : (w : Val) → Is E.the-row (x .evaluation) (w ∷ []) → x .number < 2 ^ 32
-            → Sq W (‵ (fobs γ (E.the-row .coded .code old)) ∷ ‵ (fbor κ (Body (mem E.the-row) b o γ)) ∷ ‵ (flft κ q) ∷ ‵ (froom tyBool l₅ 0) ∷ ‵
-            (fdies tyBool l₅) ∷ ‵ (fat fullShare Ev′.mir l₄ 0 (vstruct (vcons w (vcons (vint w32 (x .number)) vnil)))) ∷ ‵ (fdies Ev′.mir l₄) ∷ ‵
-            (fat fullShare lent l₃ 0 (vptr b o)) ∷ ‵ (fdies lent l₃) ∷ ‵ (froom F′.mir l₂ 0) ∷ ‵ (fdies F′.mir l₂) ∷ ‵ (froom P′.mir l₁ 0) ∷ ‵
-            (fdies P′.mir l₁) ∷ ‵ (froom (tyInt w32) l₀ 0) ∷ ‵ (fdies (tyInt w32) l₀) ∷ [])
+            → Sq W (‵ (fobs γ (E.the-row .coded .code old)) ∷ ‵ (fbor κ (Body (mem E.the-row) b o γ)) ∷ ‵ (flft κ q) ∷ ‵ (froom tyBool l₅ 0)
+            ∷ ‵ (fdies tyBool l₅) ∷ ‵ (fat fullShare Ev′.mir l₄ 0 (vstruct (vcons w (vcons (vint w32 (x .number)) vnil)))) ∷ ‵ (fdies Ev′.mir l₄)
+            ∷ ‵ (fat fullShare lent l₃ 0 (vptr b o)) ∷ ‵ (fdies lent l₃) ∷ ‵ (froom F′.mir l₂ 0) ∷ ‵ (fdies F′.mir l₂) ∷ ‵ (froom P′.mir l₁ 0)
+            ∷ ‵ (fdies P′.mir l₁) ∷ ‵ (froom (tyInt w32) l₀ 0) ∷ ‵ (fdies (tyInt w32) l₀) ∷ [])
             (runs C Λ En t-2 (atRet En Post))
         tests w is small =
             assigns ! (bin ! (lit ! tt) (load ! (from ! (fld ! refl (stop !))) (look-in ! 5 (sub ! 1 refl (whole !)))) tt) (from ! (stop !))

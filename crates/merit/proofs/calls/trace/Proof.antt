@@ -232,12 +232,12 @@ module _ {M : Type 1} (𝓤 : URA M) (H : Heap 𝓤) (A : Atoms 𝓤) (W : Given
 
         -- the locals are freed
         ends : (z : List ParaxialRay) → length z ≡ length old → Said (x .answer) z
-            → Sq W (‵ (finally R (sl .name) z) ∷ ‵ (flft κ q) ∷ ‵ (froom shared l₁₅ 0) ∷ ‵ (fdies shared l₁₅) ∷ ‵ (froom array l₁₄ 0) ∷ ‵ (fdies array l₁₄) ∷ ‵
-            (froom shared l₁₃ 0) ∷ ‵ (fdies shared l₁₃) ∷ ‵ (froom array l₁₂ 0) ∷ ‵ (fdies array l₁₂) ∷ ‵ (froom passed l₁₁ 0) ∷ ‵ (fdies passed l₁₁) ∷ ‵
-            (froom lent l₁₀ 0) ∷ ‵ (fdies lent l₁₀) ∷ ‵ (froom tyUnit l₉ 0) ∷ ‵ (fdies tyUnit l₉) ∷ ‵ (froom tyBool l₈ 0) ∷ ‵ (fdies tyBool l₈) ∷ ‵
-            (froom word l₇ 0) ∷ ‵ (fdies word l₇) ∷ ‵ (froom ty16 l₆ 0) ∷ ‵ (fdies ty16 l₆) ∷ ‵ (froom ty16 l₅ 0) ∷ ‵ (fdies ty16 l₅) ∷ ‵
-            (froom Th′.mir l₄ 0) ∷ ‵ (fdies Th′.mir l₄) ∷ ‵ (froom slice l₃ 0) ∷ ‵ (fdies slice l₃) ∷ ‵ (froom word l₂ 0) ∷ ‵ (fdies word l₂) ∷ ‵
-            (froom P′.mir l₁ 0) ∷ ‵ (fdies P′.mir l₁) ∷ ‵ (froom Tr′.mir l₀ 0) ∷ ‵ (fdies Tr′.mir l₀) ∷ [])
+            → Sq W (‵ (finally R (sl .name) z) ∷ ‵ (flft κ q) ∷ ‵ (froom shared l₁₅ 0) ∷ ‵ (fdies shared l₁₅) ∷ ‵ (froom array l₁₄ 0) ∷ ‵ (fdies array l₁₄)
+            ∷ ‵ (froom shared l₁₃ 0) ∷ ‵ (fdies shared l₁₃) ∷ ‵ (froom array l₁₂ 0) ∷ ‵ (fdies array l₁₂) ∷ ‵ (froom passed l₁₁ 0) ∷ ‵ (fdies passed l₁₁)
+            ∷ ‵ (froom lent l₁₀ 0) ∷ ‵ (fdies lent l₁₀) ∷ ‵ (froom tyUnit l₉ 0) ∷ ‵ (fdies tyUnit l₉) ∷ ‵ (froom tyBool l₈ 0) ∷ ‵ (fdies tyBool l₈)
+            ∷ ‵ (froom word l₇ 0) ∷ ‵ (fdies word l₇) ∷ ‵ (froom ty16 l₆ 0) ∷ ‵ (fdies ty16 l₆) ∷ ‵ (froom ty16 l₅ 0) ∷ ‵ (fdies ty16 l₅)
+            ∷ ‵ (froom Th′.mir l₄ 0) ∷ ‵ (fdies Th′.mir l₄) ∷ ‵ (froom slice l₃ 0) ∷ ‵ (fdies slice l₃) ∷ ‵ (froom word l₂ 0) ∷ ‵ (fdies word l₂)
+            ∷ ‵ (froom P′.mir l₁ 0) ∷ ‵ (fdies P′.mir l₁) ∷ ‵ (froom Tr′.mir l₀ 0) ∷ ‵ (fdies Tr′.mir l₀) ∷ [])
             (frees En (prop (Post w)))
         ends z long said =
             move ! (32 ∷ 33 ∷ []) $ free1 ! $ move ! (30 ∷ 31 ∷ []) $ free1 ! $ move ! (28 ∷ 29 ∷ []) $ free1 ! $ move ! (26 ∷ 27 ∷ []) $ free1 ! $
@@ -249,15 +249,15 @@ module _ {M : Type 1} (𝓤 : URA M) (H : Heap 𝓤) (A : Atoms 𝓤) (W : Given
         module _ (ish : Is Floats16 hs (vals16 hs)) (isu : Is Floats16 us (vals16 us)) (fm : FmC 𝓤 H (W .laws) C) (known : Triple 𝓤 (C #fill) Fill) where
           -- the arrays are lent, the row is filled, and the arrays come back
           fills : T (not (not (x .done)))
-              → Sq W (‵ OwnR ∷ ‵ (flft κ q) ∷ ‵ (fat fullShare shared l₁₅ 0 (sliceVal (l₆, 0) (length us))) ∷ ‵ (fdies shared l₁₅) ∷ ‵ (froom array l₁₄ 0) ∷ ‵
-              (fdies array l₁₄) ∷ ‵ (fat fullShare shared l₁₃ 0 (sliceVal (l₅, 0) (length hs))) ∷ ‵ (fdies shared l₁₃) ∷ ‵ (froom array l₁₂ 0) ∷ ‵
-              (fdies array l₁₂) ∷ ‵ (fat fullShare passed l₁₁ 0 (only (slice-vals sl))) ∷ ‵ (fdies passed l₁₁) ∷ ‵ (froom lent l₁₀ 0) ∷ ‵
-              (fdies lent l₁₀) ∷ ‵ (froom tyUnit l₉ 0) ∷ ‵ (fdies tyUnit l₉) ∷ ‵ (froom tyBool l₈ 0) ∷ ‵ (fdies tyBool l₈) ∷ ‵ (froom word l₇ 0) ∷ ‵
-              (fdies word l₇) ∷ ‵ (fat fullShare ty16 l₆ 0 (only (vals16 us))) ∷ ‵ (fdies ty16 l₆) ∷ ‵ (fat fullShare ty16 l₅ 0 (only (vals16 hs))) ∷ ‵
-              (fdies ty16 l₅) ∷ ‵ (fat fullShare Th′.mir l₄ 0
-              (vstruct (vcons (only (vals16 hs)) (vcons (only (vals16 us)) (vcons (vbool (x .done)) (vcons w vnil)))))) ∷ ‵ (fdies Th′.mir l₄) ∷ ‵
-              (froom slice l₃ 0) ∷ ‵ (fdies slice l₃) ∷ ‵ (froom word l₂ 0) ∷ ‵ (fdies word l₂) ∷ ‵ (froom P′.mir l₁ 0) ∷ ‵ (fdies P′.mir l₁) ∷ ‵
-              (froom Tr′.mir l₀ 0) ∷ ‵ (fdies Tr′.mir l₀) ∷ [])
+              → Sq W (‵ OwnR ∷ ‵ (flft κ q) ∷ ‵ (fat fullShare shared l₁₅ 0 (sliceVal (l₆, 0) (length us))) ∷ ‵ (fdies shared l₁₅) ∷ ‵ (froom array l₁₄ 0)
+              ∷ ‵ (fdies array l₁₄) ∷ ‵ (fat fullShare shared l₁₃ 0 (sliceVal (l₅, 0) (length hs))) ∷ ‵ (fdies shared l₁₃) ∷ ‵ (froom array l₁₂ 0)
+              ∷ ‵ (fdies array l₁₂) ∷ ‵ (fat fullShare passed l₁₁ 0 (only (slice-vals sl))) ∷ ‵ (fdies passed l₁₁) ∷ ‵ (froom lent l₁₀ 0)
+              ∷ ‵ (fdies lent l₁₀) ∷ ‵ (froom tyUnit l₉ 0) ∷ ‵ (fdies tyUnit l₉) ∷ ‵ (froom tyBool l₈ 0) ∷ ‵ (fdies tyBool l₈) ∷ ‵ (froom word l₇ 0)
+              ∷ ‵ (fdies word l₇) ∷ ‵ (fat fullShare ty16 l₆ 0 (only (vals16 us))) ∷ ‵ (fdies ty16 l₆) ∷ ‵ (fat fullShare ty16 l₅ 0 (only (vals16 hs)))
+              ∷ ‵ (fdies ty16 l₅) ∷ ‵ (fat fullShare Th′.mir l₄ 0
+              (vstruct (vcons (only (vals16 hs)) (vcons (only (vals16 us)) (vcons (vbool (x .done)) (vcons w vnil)))))) ∷ ‵ (fdies Th′.mir l₄)
+              ∷ ‵ (froom slice l₃ 0) ∷ ‵ (fdies slice l₃) ∷ ‵ (froom word l₂ 0) ∷ ‵ (fdies word l₂) ∷ ‵ (froom P′.mir l₁ 0) ∷ ‵ (fdies P′.mir l₁)
+              ∷ ‵ (froom Tr′.mir l₀ 0) ∷ ‵ (fdies Tr′.mir l₀) ∷ [])
               (runs C Λ En t-13 (atRet En Post))
           fills made =
               lft-new ! tt (λ α. lft-new ! tt (λ β. move ! (24 ∷ []) $
@@ -292,13 +292,13 @@ module _ {M : Type 1} (𝓤 : URA M) (H : Heap 𝓤) (A : Atoms 𝓤) (W : Given
 
           -- traced: the arrays are copied out, and references are made
           arm : T (not (not (x .done)))
-              → Sq W (‵ OwnR ∷ ‵ (flft κ q) ∷ ‵ (froom shared l₁₅ 0) ∷ ‵ (fdies shared l₁₅) ∷ ‵ (froom array l₁₄ 0) ∷ ‵ (fdies array l₁₄) ∷ ‵
-              (froom shared l₁₃ 0) ∷ ‵ (fdies shared l₁₃) ∷ ‵ (froom array l₁₂ 0) ∷ ‵ (fdies array l₁₂) ∷ ‵ (froom passed l₁₁ 0) ∷ ‵ (fdies passed l₁₁) ∷ ‵
-              (froom lent l₁₀ 0) ∷ ‵ (fdies lent l₁₀) ∷ ‵ (froom tyUnit l₉ 0) ∷ ‵ (fdies tyUnit l₉) ∷ ‵ (froom tyBool l₈ 0) ∷ ‵ (fdies tyBool l₈) ∷ ‵
-              (froom word l₇ 0) ∷ ‵ (fdies word l₇) ∷ ‵ (froom ty16 l₆ 0) ∷ ‵ (fdies ty16 l₆) ∷ ‵ (froom ty16 l₅ 0) ∷ ‵ (fdies ty16 l₅) ∷ ‵
-              (fat fullShare Th′.mir l₄ 0 (vstruct (vcons (only (vals16 hs)) (vcons (only (vals16 us)) (vcons (vbool (x .done)) (vcons w vnil)))))) ∷ ‵
-              (fdies Th′.mir l₄) ∷ ‵ (fat fullShare slice l₃ 0 (only (slice-vals sl))) ∷ ‵ (fdies slice l₃) ∷ ‵ (froom word l₂ 0) ∷ ‵ (fdies word l₂) ∷ ‵
-              (froom P′.mir l₁ 0) ∷ ‵ (fdies P′.mir l₁) ∷ ‵ (froom Tr′.mir l₀ 0) ∷ ‵ (fdies Tr′.mir l₀) ∷ [])
+              → Sq W (‵ OwnR ∷ ‵ (flft κ q) ∷ ‵ (froom shared l₁₅ 0) ∷ ‵ (fdies shared l₁₅) ∷ ‵ (froom array l₁₄ 0) ∷ ‵ (fdies array l₁₄)
+              ∷ ‵ (froom shared l₁₃ 0) ∷ ‵ (fdies shared l₁₃) ∷ ‵ (froom array l₁₂ 0) ∷ ‵ (fdies array l₁₂) ∷ ‵ (froom passed l₁₁ 0) ∷ ‵ (fdies passed l₁₁)
+              ∷ ‵ (froom lent l₁₀ 0) ∷ ‵ (fdies lent l₁₀) ∷ ‵ (froom tyUnit l₉ 0) ∷ ‵ (fdies tyUnit l₉) ∷ ‵ (froom tyBool l₈ 0) ∷ ‵ (fdies tyBool l₈)
+              ∷ ‵ (froom word l₇ 0) ∷ ‵ (fdies word l₇) ∷ ‵ (froom ty16 l₆ 0) ∷ ‵ (fdies ty16 l₆) ∷ ‵ (froom ty16 l₅ 0) ∷ ‵ (fdies ty16 l₅)
+              ∷ ‵ (fat fullShare Th′.mir l₄ 0 (vstruct (vcons (only (vals16 hs)) (vcons (only (vals16 us)) (vcons (vbool (x .done)) (vcons w vnil))))))
+              ∷ ‵ (fdies Th′.mir l₄) ∷ ‵ (fat fullShare slice l₃ 0 (only (slice-vals sl))) ∷ ‵ (fdies slice l₃) ∷ ‵ (froom word l₂ 0) ∷ ‵ (fdies word l₂)
+              ∷ ‵ (froom P′.mir l₁ 0) ∷ ‵ (fdies P′.mir l₁) ∷ ‵ (froom Tr′.mir l₀ 0) ∷ ‵ (fdies Tr′.mir l₀) ∷ [])
               (runs C Λ En t-5 (atRet En Post))
           arm made =
               assigns ! (of-opd ! (load ! (from ! (fld ! refl (stop !))) (look-in ! 24 (sub ! 0 refl (whole !))))) (from ! (stop !))
@@ -320,13 +320,13 @@ module _ {M : Type 1} (𝓤 : URA M) (H : Heap 𝓤) (A : Atoms 𝓤) (W : Given
               forget ! 4 refl $ forget ! 8 refl $ forget ! 12 refl $ forget ! 26 refl $ fills made
 
           -- the test, and the arm where nothing was traced
-          tests : Sq W (‵ OwnR ∷ ‵ (flft κ q) ∷ ‵ (froom shared l₁₅ 0) ∷ ‵ (fdies shared l₁₅) ∷ ‵ (froom array l₁₄ 0) ∷ ‵ (fdies array l₁₄) ∷ ‵
-              (froom shared l₁₃ 0) ∷ ‵ (fdies shared l₁₃) ∷ ‵ (froom array l₁₂ 0) ∷ ‵ (fdies array l₁₂) ∷ ‵ (froom passed l₁₁ 0) ∷ ‵ (fdies passed l₁₁) ∷ ‵
-              (froom lent l₁₀ 0) ∷ ‵ (fdies lent l₁₀) ∷ ‵ (froom tyUnit l₉ 0) ∷ ‵ (fdies tyUnit l₉) ∷ ‵ (froom tyBool l₈ 0) ∷ ‵ (fdies tyBool l₈) ∷ ‵
-              (froom word l₇ 0) ∷ ‵ (fdies word l₇) ∷ ‵ (froom ty16 l₆ 0) ∷ ‵ (fdies ty16 l₆) ∷ ‵ (froom ty16 l₅ 0) ∷ ‵ (fdies ty16 l₅) ∷ ‵
-              (fat fullShare Th′.mir l₄ 0 (vstruct (vcons (only (vals16 hs)) (vcons (only (vals16 us)) (vcons (vbool (x .done)) (vcons w vnil)))))) ∷ ‵
-              (fdies Th′.mir l₄) ∷ ‵ (fat fullShare slice l₃ 0 (only (slice-vals sl))) ∷ ‵ (fdies slice l₃) ∷ ‵ (froom word l₂ 0) ∷ ‵ (fdies word l₂) ∷ ‵
-              (froom P′.mir l₁ 0) ∷ ‵ (fdies P′.mir l₁) ∷ ‵ (froom Tr′.mir l₀ 0) ∷ ‵ (fdies Tr′.mir l₀) ∷ [])
+          tests : Sq W (‵ OwnR ∷ ‵ (flft κ q) ∷ ‵ (froom shared l₁₅ 0) ∷ ‵ (fdies shared l₁₅) ∷ ‵ (froom array l₁₄ 0) ∷ ‵ (fdies array l₁₄) ∷ ‵ (froom shared
+              l₁₃ 0) ∷ ‵ (fdies shared l₁₃) ∷ ‵ (froom array l₁₂ 0) ∷ ‵ (fdies array l₁₂) ∷ ‵ (froom passed l₁₁ 0) ∷ ‵ (fdies passed l₁₁) ∷ ‵ (froom lent l₁₀ 0)
+              ∷ ‵ (fdies lent l₁₀) ∷ ‵ (froom tyUnit l₉ 0) ∷ ‵ (fdies tyUnit l₉) ∷ ‵ (froom tyBool l₈ 0) ∷ ‵ (fdies tyBool l₈) ∷ ‵ (froom word l₇ 0)
+              ∷ ‵ (fdies word l₇) ∷ ‵ (froom ty16 l₆ 0) ∷ ‵ (fdies ty16 l₆) ∷ ‵ (froom ty16 l₅ 0) ∷ ‵ (fdies ty16 l₅)
+              ∷ ‵ (fat fullShare Th′.mir l₄ 0 (vstruct (vcons (only (vals16 hs)) (vcons (only (vals16 us)) (vcons (vbool (x .done)) (vcons w vnil))))))
+              ∷ ‵ (fdies Th′.mir l₄) ∷ ‵ (fat fullShare slice l₃ 0 (only (slice-vals sl))) ∷ ‵ (fdies slice l₃) ∷ ‵ (froom word l₂ 0) ∷ ‵ (fdies word l₂)
+              ∷ ‵ (froom P′.mir l₁ 0) ∷ ‵ (fdies P′.mir l₁) ∷ ‵ (froom Tr′.mir l₀ 0) ∷ ‵ (fdies Tr′.mir l₀) ∷ [])
               (runs C Λ En t-3 (atRet En Post))
           tests =
               assigns ! (un ! (load ! (from ! (fld ! refl (stop !))) (look-in ! 24 (sub ! 2 refl (whole !)))) tt) (from ! (stop !)) (init ! 16 refl (tt, tt)) $

@@ -157,8 +157,9 @@ module _ {M : Type 1} (𝓤 : URA M) (H : Heap 𝓤) (A : Atoms 𝓤) (W : Given
   abbrev Post : Val → SProp 𝓤
   Post = walkOf 𝓤 H A f.ended stayed (f.clauses 𝓤 H A at-mem run) .post ((κs, qs, tt, x, at), tt)
 
-  exits : Room R n → ent 𝓤 (⋆ 𝓤 H A (‵ (fobs γ (codedHoleys R .code (heres R (zs n)))) ∷ ‵ (fbor κ (Held R (length (zs n)) b o γ)) ∷ ‵ (flft κ q) ∷ tok ∷ ‵
-      Owns2 ∷ [])) (Post vunit)
+  exits : Room R n
+      → ent 𝓤 (⋆ 𝓤 H A (‵ (fobs γ (codedHoleys R .code (heres R (zs n)))) ∷ ‵ (fbor κ (Held R (length (zs n)) b o γ)) ∷ ‵ (flft κ q) ∷ tok ∷ ‵ Owns2 ∷ []))
+      (Post vunit)
   exits gn =
       qed W (‵ (fobs γ (codedHoleys R .code (heres R (zs n)))) ∷ ‵ (fbor κ (Held R (length (zs n)) b o γ)) ∷ ‵ (flft κ q) ∷ tok ∷ ‵ Owns2 ∷ []) ∵
       suffices ! _ (ends-at 𝓤 H A f.ended stayed (f.clauses 𝓤 H A at-mem run) W ((κs, qs, tt, x, at), tt) vunit tt (
@@ -211,16 +212,16 @@ module _ {M : Type 1} (𝓤 : URA M) (H : Heap 𝓤) (A : Atoms 𝓤) (W : Given
 
     -- what no turn touches: the parameters' locals, the result's, and the open borrow
     abbrev Frame : List (Item 𝓤)
-    Frame = ‵ (fat fullShare slice l₁ 0 (sliceVal (b, o) n)) ∷ ‵ (fat fullShare ysT l₂ 0 (only (slice-vals sy))) ∷ ‵
-        (fat fullShare usT l₃ 0 (only (slice-vals su))) ∷ ‵ (froom tyUnit l₀ 0)
+    Frame = ‵ (fat fullShare slice l₁ 0 (sliceVal (b, o) n)) ∷ ‵ (fat fullShare ysT l₂ 0 (only (slice-vals sy)))
+        ∷ ‵ (fat fullShare usT l₃ 0 (only (slice-vals su))) ∷ ‵ (froom tyUnit l₀ 0)
         ∷ ‵ (fobor κ q (Held R n b o γ)) ∷ ‵ (fobs γ (codedHoleys R .code (heres R xs))) ∷ ‵ (fauth γ (codedHoleys R .code (heres R xs)))
-        ∷ ‵ (fdies tyUnit l₀) ∷ ‵ (fdies slice l₁) ∷ ‵ (fdies ysT l₂) ∷ ‵ (fdies usT l₃) ∷ ‵ (fdies word l₄) ∷ ‵ (fdies T′.mir l₅) ∷ ‵ (fdies word l₆) ∷ ‵
-        (fdies tyBool l₇) ∷ ‵ (fdies tyPtr l₈) ∷ []
+        ∷ ‵ (fdies tyUnit l₀) ∷ ‵ (fdies slice l₁) ∷ ‵ (fdies ysT l₂) ∷ ‵ (fdies usT l₃) ∷ ‵ (fdies word l₄) ∷ ‵ (fdies T′.mir l₅) ∷ ‵ (fdies word l₆)
+        ∷ ‵ (fdies tyBool l₇) ∷ ‵ (fdies tyPtr l₈) ∷ []
 
     -- i records are written
     abbrev At : ℕ → List (Item 𝓤)
-    At i = tok ∷ ‵ Owns2 ∷ ‵ (row R fullShare (zs i) b o) ∷ ‵ (fat fullShare word l₄ 0 (vint w64 i)) ∷ ‵ (froom T′.mir l₅ 0) ∷ ‵ (froom word l₆ 0) ∷ ‵
-        (froom tyBool l₇ 0) ∷ ‵ (froom tyPtr l₈ 0) ∷ Frame
+    At i = tok ∷ ‵ Owns2 ∷ ‵ (row R fullShare (zs i) b o) ∷ ‵ (fat fullShare word l₄ 0 (vint w64 i)) ∷ ‵ (froom T′.mir l₅ 0) ∷ ‵ (froom word l₆ 0)
+        ∷ ‵ (froom tyBool l₇ 0) ∷ ‵ (froom tyPtr l₈ 0) ∷ Frame
 
     -- the invariant, where t records are left
     abbrev Inv : ℕ → SProp 𝓤
