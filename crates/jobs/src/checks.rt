@@ -2,11 +2,9 @@
 ghost use mathlib.Core.Path.{_≡_};
 ghost use mathlib.Core.Bool.{_&&_};
 ghost use Rattle.lists.specs.Refusals.{firstRefusal};
-ghost use Rattle.jobs.specs.Checks.{fromZeroTo, dlsTaken, multiStartTaken, annealingTaken, settingsTaken, countsTaken, jobRefusals, admissionRefusals};
-use crate::filled;
+ghost use Rattle.jobs.specs.Checks.{fromZeroTo, dlsTaken, multiStartTaken, annealingTaken, settingsTaken, countsTaken, jobRefusals};
 use crate::types::DlsConfig;
 use crate::types::Job;
-use crate::types::JobRequest;
 use crate::types::Method;
 use crate::types::MultiStartConfig;
 use crate::types::SimulatedAnnealingConfig;
@@ -86,7 +84,7 @@ fn counts_taken(job: Job) -> bool
 }
 
 // The number by which the job is refused, and 0 where it is not.
-fn job_refusal(job: Job) -> u32
+pub fn job_refusal(job: Job) -> u32
     ensures { λ r. ⌜ r ≡ firstRefusal (jobRefusals job) ⌝ }
 {
     if !counts_taken(job) {
@@ -115,11 +113,4 @@ fn job_refusal(job: Job) -> u32
         return 8;
     }
     0
-}
-
-// The number by which a request is refused on admission to an empty place.
-pub fn refusal_of(request: JobRequest) -> u32
-    ensures { λ r. ⌜ r ≡ firstRefusal (admissionRefusals request) ⌝ }
-{
-    job_refusal(filled::filled_job(request))
 }

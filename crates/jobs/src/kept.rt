@@ -1,9 +1,7 @@
 // A job as it is kept: whatever stands past the counts is zero.
 ghost use mathlib.Core.Path.{_≡_};
-ghost use Rattle.jobs.specs.Kept.{zeroVariable, zeroOperand, clearedVariables, clearedOperands, keptVariables, keptOperands, keptJob, jobFrom};
-use crate::filled;
+ghost use Rattle.jobs.specs.Kept.{zeroVariable, zeroOperand, clearedVariables, clearedOperands, keptVariables, keptOperands, keptJob};
 use crate::types::Job;
-use crate::types::JobRequest;
 use merit::MeritFunction;
 use merit::MeritOperand;
 use merit::OperandType;
@@ -81,7 +79,7 @@ fn kept_operands(f: MeritFunction) -> MeritFunction
     }
 }
 
-fn kept_job(job: Job) -> Job
+pub fn kept_job(job: Job) -> Job
     ensures { λ r. ⌜ r ≡ keptJob job ⌝ }
 {
     let asked_prescription = job.prescription;
@@ -97,11 +95,4 @@ fn kept_job(job: Job) -> Job
         merit_function,
         method,
     }
-}
-
-// The job that a request makes.
-pub fn job_from(request: JobRequest) -> Job
-    ensures { λ r. ⌜ r ≡ jobFrom request ⌝ }
-{
-    kept_job(filled::filled_job(request))
 }

@@ -2,24 +2,22 @@
 // Stands on `variables` and `merit`; called by admission (`rows`), and by all that reads a row's job.
 mod checks;
 mod entries;
-mod filled;
 mod jobrecords;
 mod kept;
 mod types;
 
 pub use checks::annealing_taken;
 pub use checks::dls_taken;
-pub use checks::refusal_of;
+pub use checks::job_refusal;
 pub use entries::OPERAND_KINDS;
 pub use entries::operand_type;
 pub use entries::variable_type;
 pub use entries::zero_operand_record;
 pub use entries::zero_variable_record;
-pub use filled::polish_settings;
 pub use jobrecords::job_of;
 pub use jobrecords::known_kinds;
 pub use jobrecords::record_of;
-pub use kept::job_from;
+pub use kept::kept_job;
 pub use types::CountSetting;
 pub use types::DlsConfig;
 pub use types::DlsRequest;

@@ -21,7 +21,7 @@ use Rattle.variables.specs.Active.{enabledOf}
 use Rattle.variables.specs.Kinds.{radiusOf}
 use Rattle.variables.specs.Taken.{variableTaken, variablesTaken}
 use Rattle.variables.specs.Values.{appliedTo, applied}
-use Rattle.merit.specs.Edges.{sagOf}
+use Rattle.edges.specs.Edges.{sagOf}
 use Rattle.merit.specs.Operands.{tenThousand, hundred, penalty, finiteOr, isFocalLength, isMagnified, track, shortfall, valueOf}
 use Rattle.merit.specs.Evaluation.{difference, residual, term, total, countedTotal}
 use Rattle.merit.specs.Check.{kindTaken, weightTaken, operandTaken}

@@ -1,7 +1,6 @@
--- The merit of a lens: `Operands` (values; `Edges`: that of the edge operand), `Evaluation` (residuals and total), `Check` (refusal 5), `Calls` (evaluate and
+-- The merit of a lens: `Operands` (values; the edge operand's by `edges`), `Evaluation` (residuals and total), `Check` (refusal 5), `Calls` (evaluate and
 -- trace).
 pub mod OperandTable
-pub mod Edges
 pub mod Operands
 pub mod Evaluation
 pub mod Check

@@ -10,12 +10,12 @@ use Rattle.optics.specs.declared.types.OpticalSurface.{OpticalSurface}
 use Rattle.optics.specs.declared.types.Paraxial.{Paraxial}
 use Rattle.optics.specs.declared.types.Paraxial.the-variants.{Failed, Traced}
 use Rattle.optics.specs.declared.types.ParaxialProperties.{ParaxialProperties}
-use Rattle.merit.specs.Edges.{edgeOf}
+use Rattle.edges.specs.Edges.{edgeOf}
 use Rattle.merit.specs.declared.types.OperandType.{OperandType}
 use Rattle.merit.specs.declared.types.OperandType.the-variants.{EffectiveFocalLength, WorkingFNumber, TotalTrack, BackFocalLength, ParaxialMagnification}
 use Rattle.merit.specs.declared.types.OperandType.the-variants.{MinCenterThickness, MaxCenterThickness, MinEdgeThickness}
-use Rattle.merit.specs.declared.types.Sag.{Sag}
-use Rattle.merit.specs.declared.types.Sag.the-variants.{Is, Missing}
+use Rattle.edges.specs.declared.types.Sag.{Sag}
+use Rattle.edges.specs.declared.types.Sag.the-variants.{Is, Missing}
 
 -- "Failures .. give 10,000, 100, 10,000 and 0 for the four paraxial kinds"
 abbrev pub tenThousand : Float

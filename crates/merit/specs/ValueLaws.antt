@@ -9,14 +9,14 @@ use lib.Dec.{T, ltb, ltb→lt}
 use lib.Ieee.{Float, binary64, add}
 use Rattle.optics.specs.declared.types.OpticalSurface.{OpticalSurface}
 use Rattle.optics.specs.declared.types.Paraxial.{Paraxial}
-use Rattle.merit.specs.Edges.{edgeBetween, edgeOf}
+use Rattle.edges.specs.Edges.{edgeBetween, edgeOf}
 use Rattle.merit.specs.Operands.{counted, penalty, ofSurface, edgeCounted, focalLength, fNumber, backFocus, magnification, track, shortfall, excess}
 use Rattle.merit.specs.Operands.{slotNamed, valueOf}
 use Rattle.merit.specs.Steps.{slotKnown}
 use Rattle.merit.specs.declared.types.OperandType.{OperandType}
 use Rattle.merit.specs.declared.types.OperandType.the-variants.{EffectiveFocalLength, WorkingFNumber, TotalTrack, BackFocalLength, ParaxialMagnification}
 use Rattle.merit.specs.declared.types.OperandType.the-variants.{MinCenterThickness, MaxCenterThickness, MinEdgeThickness}
-use Rattle.merit.specs.declared.types.Sag.the-variants.{Missing}
+use Rattle.edges.specs.declared.types.Sag.the-variants.{Missing}
 
 -- a value turns on the trace of the slot that its operand names, and on no other
 pub value-same : (earlier : List Float) (slot slot′ : ℕ → Paraxial) (surface : ℕ → OpticalSurface) (count : ℕ) (kind : OperandType) → T (slotKnown kind)

@@ -1,8 +1,7 @@
 // Operands, the merit of a lens, and the two calls that stand alone: evaluate and trace (out of operands.rs, merit.rs).
-// Stands on `optics`; called by `heldmerit` for runs, by `lending` and `exports` for callers, by `jobs` (refusal 5).
+// Stands on `optics` and `edges`; called by `heldmerit` for runs, by `lending` and `exports` for callers, by `jobs` (refusal 5).
 mod calls;
 mod checks;
-mod edges;
 mod evaluation;
 mod operands;
 mod types;

@@ -21,12 +21,6 @@ pub enum OperandType {
     },
 }
 
-// A surface's sag, or an edge made of two: a number, or missing where the conic does not reach so far out, or there is no second surface.
-pub(crate) enum Sag {
-    Is(f64),
-    Missing,
-}
-
 pub struct MeritOperand {
     pub operand_type: OperandType,
     pub target: f64,

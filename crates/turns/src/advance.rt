@@ -149,7 +149,7 @@ fn advance_annealing(
     }
     advance_part(
         h,
-        jobs::polish_settings(),
+        requests::polish_settings(),
         counts,
         numbers,
         found,

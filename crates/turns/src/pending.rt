@@ -45,7 +45,7 @@ fn pending_annealing(
     }
     dls::pending_damped(
         damped,
-        jobs::polish_settings(),
+        requests::polish_settings(),
         counts,
         numbers,
         surfaces,
