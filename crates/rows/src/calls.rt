@@ -13,7 +13,7 @@ use jobs::JobRequest;
 pub fn admit_number(place: usize, occupied: bool, request: JobRequest) -> u32
     ensures { λ r. ⌜ r ≡ firstRefusal (admitRefusals place request occupied) ⌝ }
 {
-    let number = requests::refusal_of(request);
+    let number = defaults::refusal_of(request);
     if number == 1 {
         return 1;
     }
@@ -41,7 +41,7 @@ pub fn admit_row(held: HeldRow, place: usize, request: JobRequest) -> RowAnswer
             number: number,
         };
     }
-    let job = requests::job_from(request);
+    let job = defaults::job_from(request);
     let record = jobs::record_of(job);
     let admitted = began(record, job);
     let left = held::held_of(admitted);

@@ -149,7 +149,7 @@ fn advance_annealing(
     }
     advance_part(
         h,
-        requests::polish_settings(),
+        defaults::polish_settings(),
         counts,
         numbers,
         found,

@@ -45,7 +45,7 @@ fn pending_annealing(
     }
     dls::pending_damped(
         damped,
-        requests::polish_settings(),
+        defaults::polish_settings(),
         counts,
         numbers,
         surfaces,
