@@ -16,6 +16,5 @@ pub mod RefusalLaws
 pub mod Passed
 pub mod UnusedLaws
 pub mod CheckLaws
--- A request that is taken, of each kind.
+-- The lens of the known values, and a request over it for each kind of run.
 pub mod Sample
-pub mod SampleTaken

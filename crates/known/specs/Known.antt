@@ -19,7 +19,6 @@ use Rattle.optics.specs.declared.types.OpticalPrescription.{OpticalPrescription
 use Rattle.optics.specs.declared.types.OpticalSurface.{OpticalSurface}
 use Rattle.variables.specs.Active.{enabledOf}
 use Rattle.variables.specs.Kinds.{radiusOf}
-use Rattle.variables.specs.Taken.{variableTaken, variablesTaken}
 use Rattle.variables.specs.Values.{appliedTo, applied}
 use Rattle.edges.specs.Edges.{sagOf}
 use Rattle.merit.specs.Operands.{tenThousand, hundred, penalty, finiteOr, isFocalLength, isMagnified, track, shortfall, valueOf}
@@ -28,17 +27,14 @@ use Rattle.merit.specs.Check.{kindTaken, weightTaken, operandTaken}
 use Rattle.merit.specs.Calls.{lensEvaluation, evaluateNumber}
 use Rattle.merit.specs.declared.types.MeritEvaluation.{MeritEvaluation}
 use Rattle.merit.specs.declared.types.MeritFunction.{MeritFunction}
-use Rattle.jobs.specs.Checks.{fromZeroTo, dlsTaken, multiStartTaken, annealingTaken}
 use Rattle.jobs.specs.Sample.{Unused, lens, sixty, request, damped, multiStart, annealing, n1, n2, n8, n16, n64}
 use Rattle.jobs.specs.declared.types.Job.{Job}
-use Rattle.jobs.specs.declared.types.JobRequest.{JobRequest}
 use Rattle.jobs.specs.declared.types.Method.the-variants.{Damped}
 use Rattle.runs.specs.Run.{Surfaces, bind, afterMerit, afterMerits, isDone, value}
 use Rattle.runs.specs.DampedRun
 use Rattle.runs.specs.DampedRun.{iterations}
 use Rattle.runs.specs.JobRun.{runBy}
-use Rattle.bench.specs.Benches.{zeroRow, emptyBench}
-use Rattle.bench.specs.Calls.{admitNumber}
+use Rattle.bench.specs.Accepted.{Admitted, drawings-admitted}
 use Rattle.known.specs.Samples.{Settings, limitZero, n3, n10, n12, n13, n56, sevenEighths, tenthOfLeast, least, pastFive, pastOne, firstAlone, kinds}
 use Rattle.known.specs.Samples.{atLeastThree, halfBall, edgeAtLeast, curvature}
 
@@ -56,10 +52,6 @@ Flat s rest new = new ≡ withRadius s (inf false) ∷ rest
 
 abbrev pub Bent : OpticalSurface → (rest new : Surfaces) → Type 0
 Bent s rest new = finiteOf (surfaceAt new 0 .«radius_mm») ≡ true
-
--- `admit` takes the request at place 0 of the empty bench
-abbrev pub Admitted : JobRequest → Type 0
-Admitted r = admitNumber emptyBench 0 r ≡ 0
 
 -- Each value holds whatever stands past the counts (u).
 pub record Known : Type 0 where
@@ -100,7 +92,6 @@ pub known : Known
 unfolding stepOf seeded stepTimes radiusOf lt magnitude finiteOf ofBits neg div tab allBelow Curvature.curvature arriving paraxialOf within aboveZeroUpTo
     surfaceTaken lensTaken finiteOr isFocalLength isMagnified track shortfall sagOf valueOf difference residual term total countedTotal kindTaken weightTaken
     operandTaken evaluateNumber sqrtOf le sub mul isNan enabledOf appliedTo applied runBy DampedRun.damped iterations bind afterMerits afterMerit isDone value
-    variableTaken variablesTaken fromZeroTo dlsTaken multiStartTaken annealingTaken zeroRow admitNumber
 known = record {
   values = λ u. (refl, refl);
   weighted = λ u. (refl, (refl, refl));
@@ -122,5 +113,5 @@ known = record {
   a-turn = λ s job. refl;
   one-turn = λ f s job. refl;
   not-converged = λ f s job. refl;
-  admitted = λ u. (refl, refl, refl);
+  admitted = drawings-admitted;
 }
