@@ -1,25 +1,15 @@
 -- The evaluation of a record by value, and what the lent call keeps or stores of it. Assumes nothing.
 use mathlib.Core.Path.{_≡_, refl, sym, ap, _∙_}
 use mathlib.Core.Bool.{true, false}
-use Prim.Native.Nat.{ℕ, zero, suc, _<_, _≤_}
-use native.Mathlib.Omega.{arith}
+use Prim.Native.Nat.{ℕ, _<_, _≤_}
 use Rattle.merit.specs.declared.types.Evaluated.{Evaluated}
 use Rattle.merit.specs.declared.types.MeritEvaluation.{MeritEvaluation}
 use Rattle.merit.specs.OperandTable.{zeroEvaluation}
 use Rattle.merit.specs.Calls.{unlessRefused, evaluateNumber, lensEvaluation}
+use Rattle.merit.specs.CallLaws.{none, stays}
 use Rattle.lending.specs.Over.{evaluatedOver}
 use Rattle.jobs.specs.declared.types.JobRecord.{JobRecord}
 use Rattle.exports.specs.Lenses.{lensOf, functionOf, areOperands, evaluateRecordNumber, evaluatedRecord, recordEvaluated}
-
-none : (n : ℕ) → n ≤ 0 → n ≡ 0
-none n h = omega arith
-
-stays : {A : Type 0} (n : ℕ) (new old : A) → 0 < n → old ≡ unlessRefused n new old
-stays zero new old h = absurd (no h)
-  where
-    no : 0 < 0 → ⊥
-    no h = omega arith
-stays (suc n) new old h = refl
 
 -- ---- by value
 module _ (j : JobRecord) where
@@ -40,7 +30,7 @@ module _ (j : JobRecord) where
 module _ (j : JobRecord) (old : MeritEvaluation) where
   pub record-kept : 0 < recordEvaluated j .number → (recordEvaluated j .number ≡ evaluateRecordNumber j) × (old ≡ evaluatedRecord old j)
   unfolding recordEvaluated
-  record-kept h = (refl, stays (evaluateRecordNumber j) (lensEvaluation (lensOf j) (functionOf j)) old h)
+  record-kept h = (refl, sym (stays (evaluateRecordNumber j) (lensEvaluation (lensOf j) (functionOf j)) old h))
 
   pub record-stored : recordEvaluated j .number ≤ 0 →
       (recordEvaluated j .number ≡ evaluateRecordNumber j) × (recordEvaluated j .evaluation ≡ evaluatedRecord old j)

@@ -33,7 +33,7 @@ fn are_operands(held: JobRecord) -> bool
 pub(crate) fn evaluated(held: JobRecord) -> Evaluated
     ensures { λ r. ⌜ r ≡ recordEvaluated held ⌝ }
 {
-    let none = merit::zero_evaluation();
+    let none = meritcalls::zero_evaluation();
     if !are_operands(held) {
         return Evaluated {
             evaluation: none,

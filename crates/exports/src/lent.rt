@@ -35,7 +35,7 @@ pub extern "C" fn lens_trace(asked: &JobRecord, slot: usize, rays: &mut [Paraxia
 {
     let held = *asked;
     let prescription = lenses::lens_of(held);
-    let answer = merit::trace(prescription, slot, rays);
+    let answer = meritcalls::trace(prescription, slot, rays);
     lenses::number_of(answer)
 }
 

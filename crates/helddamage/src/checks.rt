@@ -95,7 +95,7 @@ fn operands_taken(counts: &[u64; 57], numbers: &[f64]) -> bool
             return false;
         }
         let o = held::operand_at(counts, numbers, n);
-        if !merit::operand_taken(slots, o) {
+        if !meritcalls::operand_taken(slots, o) {
             return false;
         }
         n += 1;

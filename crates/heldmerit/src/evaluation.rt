@@ -31,7 +31,7 @@ pub fn values_of(flat: &[f64], counts: &[u64; 57], numbers: &[f64]) -> [f64; 12]
     while n < many {
         let o = held::operand_at(counts, numbers, n);
         let kind = o.operand_type;
-        values[n] = merit::value_of(kind, slots, flat, count, values);
+        values[n] = meritcalls::value_of(kind, slots, flat, count, values);
         n += 1;
     }
     values
@@ -49,11 +49,11 @@ pub fn merit_of(values: &[f64; 12], counts: &[u64; 57], numbers: &[f64]) -> f64
     let mut n: usize = 0;
     while n < many {
         let o = held::operand_at(counts, numbers, n);
-        let d = merit::difference_of(o, values[n]);
+        let d = meritcalls::difference_of(o, values[n]);
         total = total + o.weight * d * d;
         n += 1;
     }
-    merit::counted_total(total)
+    meritcalls::counted_total(total)
 }
 
 // Their residuals: a root is worked out once where neighbouring weights are equal.
@@ -72,8 +72,8 @@ pub fn residuals_of(values: &[f64; 12], counts: &[u64; 57], numbers: &[f64]) -> 
     let mut n: usize = 0;
     while n < many {
         let o = held::operand_at(counts, numbers, n);
-        let d = merit::difference_of(o, values[n]);
-        known = merit::root_of(known, o.weight);
+        let d = meritcalls::difference_of(o, values[n]);
+        known = meritcalls::root_of(known, o.weight);
         residuals[n] = known.root * d;
         n += 1;
     }

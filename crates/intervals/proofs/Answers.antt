@@ -6,10 +6,10 @@ use native.Mathlib.Omega.{arith}
 use borrow.Author.Tests.{le-leb, lt-leb}
 use Rattle.lists.specs.All.{allBelow}
 use Rattle.optics.specs.declared.types.OpticalPrescription.{OpticalPrescription}
-use Rattle.merit.proofs.Answers.{none}
+use Rattle.merit.specs.CallLaws.{none, stays}
 use Rattle.merit.specs.Calls.{unlessRefused, traceNumber}
 use Rattle.intervals.specs.Calls.{allGiven, finiteAt, lensLimits, limitsTaken, limitsNumber, limitsAs, limitsTraced, refusedAs, zeroLimits}
-use Rattle.intervals.specs.CallLaws.{stays, number-is}
+use Rattle.intervals.specs.CallLaws.{number-is}
 use Rattle.intervals.specs.declared.types.ThicknessLimits.{ThicknessLimits}
 use Rattle.intervals.specs.declared.types.TraceLimits.{TraceLimits}
 use Rattle.intervals.specs.declared.types.TracedLimits.{TracedLimits}

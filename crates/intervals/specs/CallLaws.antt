@@ -3,7 +3,7 @@ use mathlib.Core.Path.{_≡_, refl, subst}
 use mathlib.Core.Bool.{Bool, true, false, not, cond, _&&_, true≢false}
 use mathlib.Core.List.{[], _∷_}
 use mathlib.Core.Logic.{_↔_}
-use Prim.Native.Nat.{ℕ, zero, suc, _≤_, _<_}
+use Prim.Native.Nat.{ℕ, _≤_, _<_}
 use native.Mathlib.Omega.{arith}
 use lib.Dec.{T, leb, ltb, eqb, leb→le}
 use borrow.Author.Tests.{eq-eqb}
@@ -13,7 +13,7 @@ use Rattle.lists.specs.Refusals.{refusal, NoneOf, before, answers, answers-none
 use Rattle.optics.specs.Kept.{lensCountsTaken}
 use Rattle.optics.specs.Check.{lensTaken}
 use Rattle.optics.specs.declared.types.OpticalPrescription.{OpticalPrescription}
-use Rattle.merit.specs.Calls.{unlessRefused, traceRefusals, traceNumber}
+use Rattle.merit.specs.Calls.{traceRefusals, traceNumber}
 use Rattle.merit.specs.CallLaws.{Traceable, traceable}
 use Rattle.intervals.specs.Calls.{thicknessAt, givenTaken, allGiven, finiteAt, limitsTaken, limitsRefusals, limitsNumber}
 use Rattle.intervals.specs.declared.types.ThicknessLimits.{ThicknessLimits}
@@ -37,14 +37,6 @@ behind-trace false false false d n e = (λ h. absurd (no n e h), λ z. refl)
   where
     no : (n : ℕ) → 0 ≡ n → 0 < n → ⊥
     no n e h = omega arith
-
--- what a number refuses stays as it was
-pub stays : {A : Type 0} (n : ℕ) (new old : A) → 0 < n → unlessRefused n new old ≡ old
-stays zero new old h = absurd (no h)
-  where
-    no : 0 < 0 → ⊥
-    no h = omega arith
-stays (suc n) new old h = refl
 
 passed : (b : Bool) → not b ≡ false → T b
 passed true e = tt

@@ -19,11 +19,12 @@ use Rattle.optics.specs.declared.types.OpticalPrescription.{OpticalPrescription
 use Rattle.optics.specs.declared.types.OpticalSurface.{OpticalSurface}
 use Rattle.optics.specs.declared.types.ParaxialRay.{ParaxialRay}
 use Rattle.merit.specs.Calls.{unlessRefused, lensRay}
+use Rattle.merit.specs.CallLaws.{stays}
 use Rattle.merit.specs.Operands.{track}
 use Rattle.intervals.specs.Interval.{Between, endsFinite, crossed, noInterval, zeroInterval}
 use Rattle.intervals.specs.IntervalLaws.{Bounds, bounds, crossed-empty, uncrossed-holds}
 use Rattle.intervals.specs.Calls.{thicknessAt, sixteen, heightAt, slopeAt, lensLimits, limitsNumber, limitsAs}
-use Rattle.intervals.specs.CallLaws.{stays, Limitable, limitable, limits-1, limits-3, limits-5, limits-19, limits-0}
+use Rattle.intervals.specs.CallLaws.{Limitable, limitable, limits-1, limits-3, limits-5, limits-19, limits-0}
 use Rattle.intervals.specs.Contained.{positive-above, height-between, slope-between, track-between, nominal-height, nominal-slope, nominal-track}
 use Rattle.intervals.specs.Limits.{trackLimits}
 use Rattle.intervals.specs.Within.{thicknessOf, Inside, trackOf, entry, Request13}

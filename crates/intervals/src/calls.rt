@@ -35,7 +35,7 @@ pub fn limits_traced(
 ) -> TracedLimits
     ensures { λ r. ⌜ r ≡ limitsTraced prescription limits slot ⌝ }
 {
-    let number = merit::trace_number(prescription, slot, prescription.surface_count);
+    let number = meritcalls::trace_number(prescription, slot, prescription.surface_count);
     if number > 0 {
         return refused(number);
     }

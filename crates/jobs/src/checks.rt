@@ -100,7 +100,7 @@ pub fn job_refusal(job: Job) -> u32
     if !variables::variables_taken(variables, prescription.surface_count) {
         return 4;
     }
-    if !merit::operands_taken(prescription.slot_count, merit_function) {
+    if !meritcalls::operands_taken(prescription.slot_count, merit_function) {
         return 5;
     }
     if !settings_taken(method) {

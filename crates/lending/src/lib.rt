@@ -21,7 +21,7 @@ pub fn evaluate_over(
     ensures { λ r. ⌜ r ≡ evaluatedOver prescription function old ⌝ }
 {
     let mut evaluation = old;
-    let number = merit::evaluate(prescription, function, &mut evaluation);
+    let number = meritcalls::evaluate(prescription, function, &mut evaluation);
     Evaluated {
         evaluation: evaluation,
         number: number,
@@ -39,7 +39,7 @@ pub fn trace_over(
 {
     let mut rays = old;
     let n = if length < 16 { length } else { 16 };
-    let answer = merit::trace(prescription, slot, &mut rays[..n]);
+    let answer = meritcalls::trace(prescription, slot, &mut rays[..n]);
     TracedRow {
         rays: rays,
         answer: answer,

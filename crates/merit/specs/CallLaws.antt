@@ -11,7 +11,9 @@ use Rattle.optics.specs.Kept.{lensCountsTaken}
 use Rattle.optics.specs.Check.{lensTaken}
 use Rattle.optics.specs.declared.types.OpticalPrescription.{OpticalPrescription}
 use Rattle.merit.specs.Check.{operandsTaken}
-use Rattle.merit.specs.Calls.{evaluateRefusals, evaluateNumber, traceRefusals, traceNumber, answerOf, tracedNumber, traceAnswer}
+use Rattle.merit.specs.Calls.{unlessRefused, evaluateRefusals, evaluateNumber, lensEvaluation, evaluatedAs}
+use Rattle.merit.specs.Calls.{traceRefusals, traceNumber, answerOf, tracedNumber, traceAnswer}
+use Rattle.merit.specs.declared.types.MeritEvaluation.{MeritEvaluation}
 use Rattle.merit.specs.declared.types.MeritFunction.{MeritFunction}
 use Rattle.merit.specs.declared.types.Traced.{Traced}
 use Rattle.merit.specs.declared.types.Traced.the-variants.{Done, Failed, Refused}
@@ -35,8 +37,23 @@ counts-room p {b} e h =
     let k = counts-parts (p .«surface_count») (p .«slot_count») (subst T e (passed b h)) in
     (k .0, k .2)
 
+-- ---- what a refusal leaves
+pub none : (n : ℕ) → n ≤ 0 → n ≡ 0
+none n h = omega arith
+
+pub stays : {A : Type 0} (n : ℕ) (new old : A) → 0 < n → unlessRefused n new old ≡ old
+stays zero new old h = absurd (no h)
+  where
+    no : 0 < 0 → ⊥
+    no h = omega arith
+stays (suc n) new old h = refl
+
 -- ---- evaluate
 module _ (p : OpticalPrescription) (f : MeritFunction) where
+  -- "a refused call changes nothing"
+  pub evaluate-keeps : (old : MeritEvaluation) → 0 < evaluateNumber p f → evaluatedAs old p f ≡ old
+  evaluate-keeps old h = stays (evaluateNumber p f) (lensEvaluation p f) old h
+
   abbrev counted : Bool
   counted = lensCountsTaken (p .«surface_count») (p .«slot_count») && leb (f .«operand_count») 12
 

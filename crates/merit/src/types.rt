@@ -60,7 +60,7 @@ pub enum Traced {
 }
 
 // A trace by value: heights and slopes, zero past the surfaces and where nothing was traced, whether they were, and the answer.
-pub(crate) struct TracedHeights {
+pub struct TracedHeights {
     pub heights: [f64; 16],
     pub slopes: [f64; 16],
     pub done: bool,

@@ -7,7 +7,7 @@ use native.Mathlib.Omega.{arith}
 use lib.Dec.{eqb}
 use borrow.Author.Tests.{ltb-false}
 use Rattle.lists.specs.Refusals.{Refusal, firstRefusal, NoneOf, answers-none, none-of}
-use Rattle.merit.proofs.Answers.{none, stays}
+use Rattle.merit.specs.CallLaws.{none, stays}
 use Rattle.merit.specs.Calls.{unlessRefused}
 use Rattle.normal.specs.Layout.{scratchLength}
 use Rattle.jobs.specs.declared.types.SettingsRecord.{SettingsRecord}

@@ -17,7 +17,7 @@ use runs::Row;
 fn beginning(phase: u64, surfaces: [OpticalSurface; 16]) -> DampedState
     ensures { λ r. ⌜ r ≡ holding phase surfaces zeroParams zeroParams ⌝ }
 {
-    let evaluation = merit::zero_evaluation();
+    let evaluation = meritcalls::zero_evaluation();
     DampedState {
         surfaces: surfaces,
         jacobian: [0.0; 96],

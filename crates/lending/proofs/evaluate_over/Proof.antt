@@ -56,10 +56,10 @@ use Rattle.merit.proofs.types.MeritEvaluation as E
 use Rattle.merit.proofs.types.MeritEvaluation.Laws as E′
 use Rattle.merit.proofs.types.MeritFunction as F
 use Rattle.merit.proofs.types.MeritFunction.Laws as F′
-use Rattle.merit.proofs.evaluate as callee
-use Rattle.merit.proofs.evaluate.Symbol as callee-def
-use Rattle.merit.proofs.evaluate.Symbol.{name as #callee}
-use Rattle.merit.proofs.evaluate.Met as callee-thm
+use Rattle.meritcalls.proofs.evaluate as callee
+use Rattle.meritcalls.proofs.evaluate.Symbol as callee-def
+use Rattle.meritcalls.proofs.evaluate.Symbol.{name as #callee}
+use Rattle.meritcalls.proofs.evaluate.Met as callee-thm
 use Rattle.lending.proofs.evaluate_over.Key.{name as #evaluate-over}
 use Rattle.lending.proofs.evaluate_over as f
 use Rattle.lending.proofs.evaluate_over.Statement as stated
@@ -230,5 +230,5 @@ evaluate-over-spec 𝓤 H 𝓜 𝓖 𝓡 =
     entered 𝓤 H (tripleOf 𝓤 H (𝓖 .A) f.signature (f.spec 𝓤 H (𝓖 .A) (𝓜 .mem) (𝓡 .run)))
     (tables 𝓤 H 𝓜 𝓡 code.env .C) (tables 𝓤 H 𝓜 𝓡 code.env .Λ) #evaluate-over code.function (code.unfolded 𝓤 H 𝓜 𝓡)
     (f-meets 𝓤 H (𝓖 .A) (givenOf 𝓤 H 𝓜 𝓖) (𝓜 .mem) (𝓡 .run) (tablesOf 𝓤 H 𝓜 (tables 𝓤 H 𝓜 𝓡 code.env))
-    (cited 𝓤 H (Asked 𝓤 H (𝓖 .A) (givenOf 𝓤 H 𝓜 𝓖) (𝓜 .mem) (𝓡 .run)) 𝓜 𝓡 code.env #callee callee-def.routine code.calls-merit·evaluate
+    (cited 𝓤 H (Asked 𝓤 H (𝓖 .A) (givenOf 𝓤 H 𝓜 𝓖) (𝓜 .mem) (𝓡 .run)) 𝓜 𝓡 code.env #callee callee-def.routine code.calls-meritcalls·evaluate
     (callee-thm.met 𝓤 H 𝓜 𝓖 𝓡)))

@@ -57,10 +57,10 @@ use Rattle.merit.specs.Calls.{traceAnswer, tracedRays}
 use Rattle.merit.specs.declared.types.Traced.{Traced}
 use Rattle.merit.proofs.types.Traced as Tr
 use Rattle.merit.proofs.types.Traced.Laws as Tr′
-use Rattle.merit.proofs.trace as callee
-use Rattle.merit.proofs.trace.Symbol as callee-def
-use Rattle.merit.proofs.trace.Symbol.{name as #callee}
-use Rattle.merit.proofs.trace.Met as callee-thm
+use Rattle.meritcalls.proofs.trace as callee
+use Rattle.meritcalls.proofs.trace.Symbol as callee-def
+use Rattle.meritcalls.proofs.trace.Symbol.{name as #callee}
+use Rattle.meritcalls.proofs.trace.Met as callee-thm
 use Rattle.lending.specs.declared.types.TracedRow.{TracedRow}
 use Rattle.lending.proofs.types.TracedRow as T
 use Rattle.lending.proofs.types.TracedRow.Laws as T′
@@ -313,5 +313,5 @@ trace-over-spec 𝓤 H 𝓜 𝓖 𝓡 =
     entered 𝓤 H (tripleOf 𝓤 H (𝓖 .A) f.signature (f.spec 𝓤 H (𝓖 .A) (𝓜 .mem) (𝓡 .run)))
     (tables 𝓤 H 𝓜 𝓡 code.env .C) (tables 𝓤 H 𝓜 𝓡 code.env .Λ) #trace-over code.function (code.unfolded 𝓤 H 𝓜 𝓡)
     (f-meets 𝓤 H (𝓖 .A) (givenOf 𝓤 H 𝓜 𝓖) (𝓜 .mem) (𝓡 .run) (tablesOf 𝓤 H 𝓜 (tables 𝓤 H 𝓜 𝓡 code.env))
-    (cited 𝓤 H (Asked 𝓤 H (𝓖 .A) (givenOf 𝓤 H 𝓜 𝓖) (𝓜 .mem) (𝓡 .run)) 𝓜 𝓡 code.env #callee callee-def.routine code.calls-merit·trace
+    (cited 𝓤 H (Asked 𝓤 H (𝓖 .A) (givenOf 𝓤 H 𝓜 𝓖) (𝓜 .mem) (𝓡 .run)) 𝓜 𝓡 code.env #callee callee-def.routine code.calls-meritcalls·trace
     (callee-thm.met 𝓤 H 𝓜 𝓖 𝓡)))

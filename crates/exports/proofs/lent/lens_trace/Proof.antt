@@ -50,10 +50,10 @@ use Rattle.merit.specs.Calls.{traceAnswer, tracedRays}
 use Rattle.merit.specs.declared.types.Traced.{Traced}
 use Rattle.merit.proofs.types.Traced as Tr
 use Rattle.merit.proofs.types.Traced.Laws as Tr′
-use Rattle.merit.proofs.trace as tracing
-use Rattle.merit.proofs.trace.Symbol as tracing-def
-use Rattle.merit.proofs.trace.Symbol.{name as #tracing}
-use Rattle.merit.proofs.trace.Met as tracing-thm
+use Rattle.meritcalls.proofs.trace as tracing
+use Rattle.meritcalls.proofs.trace.Symbol as tracing-def
+use Rattle.meritcalls.proofs.trace.Symbol.{name as #tracing}
+use Rattle.meritcalls.proofs.trace.Met as tracing-thm
 use Rattle.jobs.specs.declared.types.JobRecord.{JobRecord}
 use Rattle.jobs.proofs.types.JobRecord as J
 use Rattle.jobs.proofs.types.JobRecord.Laws as J′
@@ -287,6 +287,6 @@ lens-trace-spec 𝓤 H 𝓜 𝓖 𝓡 =
     walk 𝓤 H (𝓖 .A) W (𝓜 .mem) (𝓡 .run) (κs .0) (κs .1 .0) (qs .0) (qs .1 .0) (a .0 .ptr .0) (a .0 .ptr .1) (a .0 .name) (a .0 .now) (a .1 .0) (are .1 .0 .1)
     (a .1 .1 .0) (are .1 .1 .0 .0 .1) (tables 𝓤 H 𝓜 𝓡 code.env .C) (tables 𝓤 H 𝓜 𝓡 code.env .Λ) fm
     (cited 𝓤 H (Reads 𝓤 H (𝓖 .A) W (𝓜 .mem) (𝓡 .run)) 𝓜 𝓡 code.env #reading reading-def.routine code.calls-exports·lenses·lens-of (reading-thm.met 𝓤 H 𝓜 𝓖 𝓡))
-    (cited 𝓤 H (Traces 𝓤 H (𝓖 .A) W (𝓜 .mem) (𝓡 .run)) 𝓜 𝓡 code.env #tracing tracing-def.routine code.calls-merit·trace (tracing-thm.met 𝓤 H 𝓜 𝓖 𝓡))
+    (cited 𝓤 H (Traces 𝓤 H (𝓖 .A) W (𝓜 .mem) (𝓡 .run)) 𝓜 𝓡 code.env #tracing tracing-def.routine code.calls-meritcalls·trace (tracing-thm.met 𝓤 H 𝓜 𝓖 𝓡))
     (cited 𝓤 H (Numbers 𝓤 H (𝓖 .A) W (𝓜 .mem) (𝓡 .run)) 𝓜 𝓡 code.env #numbering numbering-def.routine code.calls-exports·lenses·number-of
     (numbering-thm.met 𝓤 H 𝓜 𝓖 𝓡)))

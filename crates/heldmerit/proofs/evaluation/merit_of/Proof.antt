@@ -10,7 +10,7 @@ use Rattle.optics.specs.Types.{surfaceAt, slotIndex}
 use Rattle.runs.specs.JobMerit.{evaluateOf}
 use Rattle.held.specs.JobFrom.{surfaceCountFrom, operandCountFrom, pupilFrom, indicesFrom, operandsFrom}
 use Rattle.merit.specs.Evaluation.{term, countedTotal}
-use Rattle.merit.proofs.Evaluating.{term-is}
+use Rattle.meritcalls.proofs.Evaluating.{term-is}
 use Rattle.heldmerit.specs.Over.{termsOver, terms-more, merit-over}
 use Rattle.heldmerit.proofs.evaluation.merit_of.Statement.{statement}
 use Rattle.heldmerit.proofs.evaluation.merit_of.Tie as tie

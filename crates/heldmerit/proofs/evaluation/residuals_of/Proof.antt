@@ -13,7 +13,7 @@ use Rattle.floatlaws.specs.CallerLaws.{root-one}
 use Rattle.lists.specs.Tab.{tab, tab-step}
 use Rattle.merit.specs.Evaluation.{residual}
 use Rattle.merit.specs.Steps.{RootKnown}
-use Rattle.merit.proofs.Evaluating.{residual-is}
+use Rattle.meritcalls.proofs.Evaluating.{residual-is}
 use Rattle.heldmerit.specs.Over.{residualOver, residuals-over, Standing, all-stand}
 use Rattle.heldmerit.proofs.evaluation.residuals_of.Statement.{statement}
 use Rattle.heldmerit.proofs.evaluation.residuals_of.Tie as tie

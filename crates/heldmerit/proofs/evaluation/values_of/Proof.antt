@@ -18,7 +18,7 @@ use Rattle.optics.specs.declared.types.Paraxial.the-variants.{Failed}
 use Rattle.merit.specs.Evaluation.{valueAt}
 use Rattle.merit.specs.Operands.{valueOf}
 use Rattle.merit.specs.declared.types.MeritEvaluation.{MeritEvaluation}
-use Rattle.merit.proofs.Answers.{laid-evaluation}
+use Rattle.meritcalls.proofs.Answers.{laid-evaluation}
 use Rattle.runs.specs.JobMerit.{lensWith}
 use Rattle.held.specs.EntryLaws.{indices-long}
 use Rattle.held.specs.JobFrom.{heldJob}

@@ -2,7 +2,7 @@
 use mathlib.Core.Path.{sym, ap, _∙_}
 use mathlib.Core.Bool.{true, false}
 use borrow.Author.Tests.{not-true, not-false}
-use Rattle.merit.proofs.Answers.{none}
+use Rattle.merit.specs.CallLaws.{none}
 use Rattle.merit.specs.CallLaws.{traceable}
 use Rattle.intervals.specs.declared.types.WorkedLimits.{WorkedLimits}
 use Rattle.intervals.proofs.Answers.{by-trace, by-limits, done, too-few, not-given, taken-as}

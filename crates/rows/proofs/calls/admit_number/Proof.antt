@@ -6,7 +6,7 @@ use Prim.Native.Nat.{ℕ, _<_, _≤_}
 use native.Mathlib.Omega.{arith}
 use borrow.Author.Tests.{lt-ltb, le-ltb}
 use Rattle.lists.specs.Refusals.{Refusal, refusal, firstRefusal, behind}
-use Rattle.merit.proofs.Answers.{none}
+use Rattle.merit.specs.CallLaws.{none}
 use Rattle.jobs.specs.declared.types.Job.{Job}
 use Rattle.jobs.specs.Checks.{countsWrong, jobRefusals}
 use Rattle.jobs.specs.Filled.{filled}

@@ -1,0 +1,28 @@
+-- `meritcalls::operands::thickness_at` meets its contract. Assumes nothing.
+use native.Mathlib.Omega.{arith}
+use borrow.Author.Needs.{needs}
+use Rattle.meritcalls.proofs.operands.thickness_at.Statement.{statement}
+use Rattle.meritcalls.proofs.operands.thickness_at.Tie as tie
+
+mul-result : tie.Need-mul-result
+mul-result c = search needs
+
+add-result : tie.Need-add-result
+add-result c = search needs
+
+mul-result-2 : tie.Need-mul-result-2
+mul-result-2 c = search needs
+
+shared-slice-read-result : tie.Need-shared-slice-read-result
+shared-slice-read-result c = search needs
+
+returns : tie.Need-returns
+returns c = search needs
+
+returns-2 : tie.Need-returns-2
+returns-2 c = λ h. absurd (omega arith)
+
+pub thickness-at-spec : {M : Type 1} → statement M
+thickness-at-spec =
+    tie.close
+    (tie.spec mul-result add-result mul-result-2 shared-slice-read-result returns returns-2)
