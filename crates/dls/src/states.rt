@@ -131,7 +131,7 @@ pub(crate) fn at_candidate(
 }
 
 // At the end.
-pub fn ended(
+pub(crate) fn ended(
     h: Head,
     converged: bool,
     jacobian: &mut [f64; 96],

@@ -8,7 +8,7 @@ ghost use Rattle.variables.specs.Active.{variableAt};
 ghost use Rattle.merit.specs.OperandTable.{operandAt};
 ghost use Rattle.jobs.specs.Entries.{variableKnown, operandKnown};
 ghost use Rattle.jobs.specs.Records.{dlsConfig, annealingConfig};
-ghost use Rattle.held.specs.JobFrom.{surfaceCountFrom, slotCountFrom, variableCountFrom, operandCountFrom, numTrialsFrom, seedFrom, maxIterationsFrom};
+ghost use Rattle.held.specs.JobFrom.{surfaceCountFrom, slotCountFrom, variableCountFrom, operandCountFrom, numTrialsFrom, maxIterationsFrom};
 ghost use Rattle.held.specs.JobFrom.{stepsPerTemperatureFrom, maxCoolingCyclesFrom, pupilFrom, indicesFrom, settingsFrom, variableRecordFrom};
 ghost use Rattle.held.specs.JobFrom.{operandRecordFrom, variablesFrom, operandsFrom};
 use crate::places;
@@ -118,12 +118,6 @@ pub fn num_trials(counts: &[u64; 57]) -> u64
     ensures { λ r. ⌜ r ≡ numTrialsFrom (now (counts .entry)) ⌝ }
 {
     counts[places::NUM_TRIALS]
-}
-
-pub fn seed(counts: &[u64; 57]) -> u64
-    ensures { λ r. ⌜ r ≡ seedFrom (now (counts .entry)) ⌝ }
-{
-    counts[places::SEED]
 }
 
 pub fn max_iterations(counts: &[u64; 57]) -> u64

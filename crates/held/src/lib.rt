@@ -23,7 +23,6 @@ pub use entries::operand_at;
 pub use entries::operand_count;
 pub use entries::operand_known;
 pub use entries::pupil;
-pub use entries::seed;
 pub use entries::slot_count;
 pub use entries::steps_per_temperature;
 pub use entries::surface_count;

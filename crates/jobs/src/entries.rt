@@ -63,7 +63,7 @@ fn one_if(b: bool) -> u64
     if b { 1 } else { 0 }
 }
 
-pub fn variable_record(d: VariableDef) -> VariableRecord
+pub(crate) fn variable_record(d: VariableDef) -> VariableRecord
     ensures { λ r. ⌜ r ≡ variableRecord d ⌝ }
 {
     let t = d.var_type;
@@ -205,7 +205,7 @@ pub fn operand_type(kind: u64, at: usize, limit: f64) -> OperandType
     surface_type(kind, at, limit)
 }
 
-pub fn operand_record(o: MeritOperand) -> OperandRecord
+pub(crate) fn operand_record(o: MeritOperand) -> OperandRecord
     ensures { λ r. ⌜ r ≡ operandRecord o ⌝ }
 {
     let t = o.operand_type;

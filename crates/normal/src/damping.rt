@@ -34,7 +34,7 @@ impl Damping {
 
 // An entry of the diagonal, damped.
 // dls.rs: `a_mat[(i, i)] += damping * diag_val`
-pub fn damped_diagonal(damping: f64, d: f64) -> f64
+pub(crate) fn damped_diagonal(damping: f64, d: f64) -> f64
     ensures { λ r. ⌜ r ≡ dampedDiagonal damping d ⌝ }
 {
     d + damping * max(abs(d), 1e-6)

@@ -49,7 +49,7 @@ pub fn system_place(i: usize, j: usize) -> usize
 }
 
 // Operand i in column q of the flat Jacobian.
-pub fn jacobian_place(i: usize, q: usize) -> usize
+pub(crate) fn jacobian_place(i: usize, q: usize) -> usize
     requires { ⌜ i < mostOperands ⌝ ∗ ⌜ q < mostVariables ⌝ }
     ensures { λ r. ⌜ r ≡ jacobianPlace i q ⌝ }
 {

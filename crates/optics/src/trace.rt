@@ -24,7 +24,7 @@ pub fn curvature_of(radius: f64) -> f64
 }
 
 // The ray in front of the first surface.
-pub fn start_of(pupil: f64) -> ArrivingRay
+pub(crate) fn start_of(pupil: f64) -> ArrivingRay
     ensures { λ r. ⌜ r ≡ start pupil ⌝ }
 {
     ArrivingRay {
