@@ -4,6 +4,7 @@ pub mod Order
 pub mod Book
 pub mod Benches
 pub mod Calls
+pub mod Limits
 pub mod Accepted
 pub mod CallLaws
 pub mod OrderLaws

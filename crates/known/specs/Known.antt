@@ -2,7 +2,7 @@
 -- nothing.
 use mathlib.Core.Path.{_≡_, refl}
 use mathlib.Core.Bool.{true, false}
-use mathlib.Core.List.{List, _∷_}
+use mathlib.Core.List.{List, [], _∷_}
 use lib.Ieee.{Float, inf, neg, lt, le, sub, mul, div, isNan, ofBits}
 use Rattle.floats.specs.Basic.{magnitude, finiteOf}
 use Rattle.floats.specs.Constants.{zero64}
@@ -11,12 +11,13 @@ use Rattle.lists.specs.Tab.{tab}
 use Rattle.lists.specs.All.{allBelow}
 use Rattle.xorshift.specs.Xorshift.{stepOf, seeded, stepTimes}
 use Rattle.optics.specs.Curvature
-use Rattle.optics.specs.Trace.{arriving}
+use Rattle.optics.specs.Trace.{rayOf, arriving}
 use Rattle.optics.specs.Properties.{paraxialOf}
 use Rattle.optics.specs.Check.{within, aboveZeroUpTo, surfaceTaken, lensTaken}
 use Rattle.optics.specs.Types.{withRadius, surfaceAt}
 use Rattle.optics.specs.declared.types.OpticalPrescription.{OpticalPrescription}
 use Rattle.optics.specs.declared.types.OpticalSurface.{OpticalSurface}
+use Rattle.optics.specs.declared.types.ParaxialRay.{ParaxialRay}
 use Rattle.variables.specs.Active.{enabledOf}
 use Rattle.variables.specs.Kinds.{radiusOf}
 use Rattle.variables.specs.Values.{appliedTo, applied}
@@ -24,18 +25,21 @@ use Rattle.edges.specs.Edges.{sagOf}
 use Rattle.merit.specs.Operands.{tenThousand, hundred, penalty, finiteOr, isFocalLength, isMagnified, track, shortfall, valueOf}
 use Rattle.merit.specs.Evaluation.{difference, residual, term, total, countedTotal}
 use Rattle.merit.specs.Check.{kindTaken, weightTaken, operandTaken}
-use Rattle.merit.specs.Calls.{lensEvaluation, evaluateNumber}
+use Rattle.merit.specs.Calls.{lensEvaluation, evaluateNumber, traceNumber, traceAnswer, tracedRays}
 use Rattle.merit.specs.declared.types.MeritEvaluation.{MeritEvaluation}
 use Rattle.merit.specs.declared.types.MeritFunction.{MeritFunction}
-use Rattle.jobs.specs.Sample.{Unused, lens, sixty, request, damped, multiStart, annealing, n1, n2, n8, n16, n64}
+use Rattle.merit.specs.declared.types.Traced.the-variants.{Done}
+use Rattle.jobs.specs.Sample.{Unused, lens, sixty, request, damped, multiStart, annealing, n1, n2, n4, n8, n16, n64}
 use Rattle.jobs.specs.declared.types.Job.{Job}
 use Rattle.jobs.specs.declared.types.Method.the-variants.{Damped}
 use Rattle.runs.specs.Run.{Surfaces, bind, afterMerit, afterMerits, isDone, value}
 use Rattle.runs.specs.DampedRun
 use Rattle.runs.specs.DampedRun.{iterations}
 use Rattle.runs.specs.JobRun.{runBy}
+use Rattle.runs.specs.Moved.{n3, quarter, twoAndHalf, thickened, half-way}
 use Rattle.bench.specs.Accepted.{Admitted, drawings-admitted}
-use Rattle.known.specs.Samples.{Settings, limitZero, n3, n10, n12, n13, n56, sevenEighths, tenthOfLeast, least, pastFive, pastOne, firstAlone, kinds}
+use Rattle.known.specs.Samples.{Settings, limitZero, n10, n12, n13, n56, sevenEighths, tenthOfLeast, least, pastFive, pastOne, firstAlone, kinds}
+use Rattle.known.specs.Samples.{threeAndHalf, sixteenth, halfSixteenth, n19880, n395214400}
 use Rattle.known.specs.Samples.{atLeastThree, halfBall, edgeAtLeast, curvature}
 
 -- `evaluate` takes the lens and the operands, and its answer has a property
@@ -59,10 +63,16 @@ pub record Known : Type 0 where
   pub values : (u : Unused) → Evaluates (lens u n64 n16) (kinds u) (λ e. e .values ≡ n64 ∷ n56 ∷ n8 ∷ n16 ∷ sevenEighths ∷ pastFive)
   -- "Focal length target 60, weight 4: residual 8, merit 64."
   pub weighted : (u : Unused) → Evaluates (lens u n64 n16) (sixty u) (λ e. (e .residuals ≡ n8 ∷ pastOne) × (e .«total_merit» ≡ n64))
+  -- another lens under the same operand: 10,000 against 60, and so another merit
+  pub flat-weighted : (u : Unused) → Evaluates (lens u (inf false) n16) (sixty u) (λ e. (e .residuals ≡ n19880 ∷ pastOne) × (e .«total_merit» ≡ n395214400))
   -- "First surface flat too: 10,000, 10,000, 100; magnification 100,000, since infinity over infinity."
   pub flat : (u : Unused) → Evaluates (lens u (inf false) n16) (kinds u) (λ e. e .values ≡ tenThousand ∷ tenThousand ∷ hundred ∷ n16 ∷ penalty ∷ pastFive)
   -- "Only the first surface: magnification 0."
   pub alone : (u : Unused) → Evaluates (firstAlone u) (kinds u) (λ e. e .values ≡ tenThousand ∷ tenThousand ∷ hundred ∷ n16 ∷ zero64 ∷ pastFive)
+  -- the heights and slopes of the lens, whatever the row held: height 4, 3.5 behind 16 of a glass of index 2, on to a focus 56 behind
+  pub traced : (u : Unused) (r s : ParaxialRay)
+      → (traceAnswer (lens u n64 n16) 0 2 ≡ Done)
+      × (tracedRays (lens u n64 n16) 0 (r ∷ s ∷ []) ≡ rayOf n4 (neg halfSixteenth) ∷ rayOf threeAndHalf (neg sixteenth) ∷ [])
   -- "Seed 1 draws first hexadecimal 40822041."
   pub first-draw : stepTimes 1 (seeded 1) ≡ 0x40822041
   -- "Curvature -1e-13: radius plus infinity. 1e-12: finite." As they come, and from beyond the bounds.
@@ -81,6 +91,8 @@ pub record Known : Type 0 where
   pub parabola-enough : (u : Unused) → Evaluates (halfBall u (neg n1)) (edgeAtLeast u 0 n12) (λ e. e .values ≡ zero64 ∷ pastOne)
   pub sag-fails : (u : Unused) → Evaluates (halfBall u n3) (edgeAtLeast u 0 n10) (λ e. e .values ≡ penalty ∷ pastOne)
   pub no-successor : (u : Unused) → Evaluates (halfBall u zero64) (edgeAtLeast u 1 n10) (λ e. e .values ≡ penalty ∷ pastOne)
+  -- a damped run moves: 2 thick where 3 is wanted, damping 1, one iteration: 2.5 thick, merit 1/4
+  pub moves : (u : Unused) → (thickened u .«final_merit» ≡ quarter) × (surfaceAt (thickened u .surfaces) 0 .«thickness_mm» ≡ twoAndHalf)
   -- "Iteration limit 0: one turn, not converged." Whatever the job and the other settings are.
   pub a-turn : (s : Settings) (job : Job) → isDone (runBy (Damped (limitZero s)) job) ≡ false
   pub one-turn : (f : Surfaces → MeritEvaluation) (s : Settings) (job : Job) → isDone (afterMerits f 1 (runBy (Damped (limitZero s)) job)) ≡ true
@@ -89,14 +101,16 @@ pub record Known : Type 0 where
   pub admitted : (u : Unused) → Admitted (request u damped) × Admitted (request u multiStart) × Admitted (request u annealing)
 
 pub known : Known
-unfolding stepOf seeded stepTimes radiusOf lt magnitude finiteOf ofBits neg div tab allBelow Curvature.curvature arriving paraxialOf within aboveZeroUpTo
+unfolding traceNumber traceAnswer stepOf seeded stepTimes radiusOf lt magnitude finiteOf ofBits neg div tab allBelow Curvature.curvature arriving paraxialOf within aboveZeroUpTo
     surfaceTaken lensTaken finiteOr isFocalLength isMagnified track shortfall sagOf valueOf difference residual term total countedTotal kindTaken weightTaken
     operandTaken evaluateNumber sqrtOf le sub mul isNan enabledOf appliedTo applied runBy DampedRun.damped iterations bind afterMerits afterMerit isDone value
 known = record {
   values = λ u. (refl, refl);
   weighted = λ u. (refl, (refl, refl));
+  flat-weighted = λ u. (refl, (refl, refl));
   flat = λ u. (refl, refl);
   alone = λ u. (refl, refl);
+  traced = λ u r s. (refl, refl);
   first-draw = refl;
   flat-radius = λ u s rest more. refl;
   below-bound = λ u s rest more. refl;
@@ -110,6 +124,7 @@ known = record {
   parabola-enough = λ u. (refl, refl);
   sag-fails = λ u. (refl, refl);
   no-successor = λ u. (refl, refl);
+  moves = half-way;
   a-turn = λ s job. refl;
   one-turn = λ f s job. refl;
   not-converged = λ f s job. refl;

@@ -13,9 +13,7 @@ use Rattle.merit.specs.declared.types.OperandType.the-variants.{EffectiveFocalL
 use Rattle.merit.specs.declared.types.OperandType.the-variants.{MinCenterThickness, MinEdgeThickness}
 use Rattle.jobs.specs.declared.types.DlsConfig.{DlsConfig}
 use Rattle.jobs.specs.Sample.{Unused, surface, operand, n1, n2, n8, n16, n64}
-
-abbrev pub n3 : Float
-n3 = ofBits binary64 0x4008_0000_0000_0000
+use Rattle.runs.specs.Moved.{n3}
 
 abbrev pub n10 : Float
 n10 = ofBits binary64 0x4024_0000_0000_0000
@@ -28,6 +26,23 @@ n13 = ofBits binary64 0x402a_0000_0000_0000
 
 abbrev pub n56 : Float
 n56 = ofBits binary64 0x404c_0000_0000_0000
+
+-- 3.5, 1/16, 1/32
+abbrev pub threeAndHalf : Float
+threeAndHalf = ofBits binary64 0x400c_0000_0000_0000
+
+abbrev pub sixteenth : Float
+sixteenth = ofBits binary64 0x3fb0_0000_0000_0000
+
+abbrev pub halfSixteenth : Float
+halfSixteenth = ofBits binary64 0x3fa0_0000_0000_0000
+
+-- 19,880 and 395,214,400
+abbrev pub n19880 : Float
+n19880 = ofBits binary64 0x40d3_6a00_0000_0000
+
+abbrev pub n395214400 : Float
+n395214400 = ofBits binary64 0x41b7_8e7e_4000_0000
 
 abbrev pub sevenEighths : Float
 sevenEighths = ofBits binary64 0x3fec_0000_0000_0000

@@ -3,7 +3,9 @@ use mathlib.Core.Path.{_≡_, refl, sym, _∙_, subst}
 use mathlib.Core.Bool.{Bool, true, false, not, cond, _&&_, true≢false}
 use mathlib.Core.Logic.{_↔_}
 use Prim.Native.Nat.{ℕ, zero, suc, _≤_, _<_}
+use native.Mathlib.Nat.{lt-irrefl, lt-of-le-of-lt}
 use native.Mathlib.Omega.{arith}
+use borrow.Author.Tests.{ltb-true, ltb-false}
 use lib.Dec.{T, leb, ltb, eqb, leb→le, ltb→lt, eqb→eq}
 use lib.Ieee.Fits.{and-l, and-r}
 use Rattle.lists.specs.Refusals.{NoneOf, before, answers, answers-none, none-of}
@@ -101,6 +103,31 @@ Refusing Done = ⊥
 Refusing Failed = ⊥
 Refusing (Refused n) = Unit {0}
 
+abbrev Doing : Traced → Type 0
+Doing Done = Unit {0}
+Doing Failed = ⊥
+Doing (Refused n) = ⊥
+
+not-suc : (n : ℕ) → suc n ≡ 0 → ⊥
+not-suc n e = omega arith
+
+-- an answer that refuses nothing, by the count
+unrefused : (count : ℕ) (b : Bool) → ltb count 2 ≡ b → ((cond b Failed Done ≡ Done) ↔ (2 ≤ count)) × ((cond b Failed Done ≡ Failed) ↔ (count < 2))
+unrefused count true e =
+    let few = ltb-true count 2 e in
+    ((λ h. absurd (subst Doing (sym h) tt), λ h. absurd (lt-irrefl 2 (lt-of-le-of-lt h few))), (λ h. few, λ h. refl))
+unrefused count false e =
+    let many = ltb-false count 2 e in
+    ((λ h. many, λ h. refl), (λ h. absurd (subst Doing h tt), λ h. absurd (lt-irrefl 2 (lt-of-le-of-lt many h))))
+
+answer-done : (n count : ℕ) → (answerOf n count ≡ Done) ↔ ((n ≡ 0) × (2 ≤ count))
+answer-done zero count = let by = unrefused count (ltb count 2) refl .0 in (λ e. (refl, by .0 e), λ h. by .1 (h .1))
+answer-done (suc n) count = (λ e. absurd (subst Refusing e tt), λ h. absurd (not-suc n (h .0)))
+
+answer-failed : (n count : ℕ) → (answerOf n count ≡ Failed) ↔ ((n ≡ 0) × (count < 2))
+answer-failed zero count = let by = unrefused count (ltb count 2) refl .1 in (λ e. (refl, by .0 e), λ h. by .1 (h .1))
+answer-failed (suc n) count = (λ e. absurd (subst Refusing e tt), λ h. absurd (not-suc n (h .0)))
+
 module _ (p : OpticalPrescription) (slot rows : ℕ) where
   abbrev fitting : Bool
   fitting = lensCountsTaken (p .«surface_count») (p .«slot_count») && eqb rows (p .«surface_count»)
@@ -136,6 +163,22 @@ module _ (p : OpticalPrescription) (slot rows : ℕ) where
   pub trace-0 : (tracedNumber (traceAnswer p slot rows) ≡ 0) ↔ NoneOf (traceRefusals p slot rows)
   unfolding traceNumber
   trace-0 = by-answer (answers-none (traceRefusals p slot rows) tt)
+
+  none-refuses : (traceNumber p slot rows ≡ 0) ↔ NoneOf (traceRefusals p slot rows)
+  none-refuses = (λ e. trace-0 .0 (traced-number ∙ e), λ h. sym traced-number ∙ trace-0 .1 h)
+
+  -- "Fewer than two surfaces is a failed trace"; else it is done, unless it is refused
+  pub trace-done : (traceAnswer p slot rows ≡ Done) ↔ (NoneOf (traceRefusals p slot rows) × (2 ≤ p .«surface_count»))
+  unfolding traceAnswer
+  trace-done =
+      let by = answer-done (traceNumber p slot rows) (p .«surface_count») in
+      (λ e. (none-refuses .0 (by .0 e .0), by .0 e .1), λ h. by .1 (none-refuses .1 (h .0), h .1))
+
+  pub trace-failed : (traceAnswer p slot rows ≡ Failed) ↔ (NoneOf (traceRefusals p slot rows) × (p .«surface_count» < 2))
+  unfolding traceAnswer
+  trace-failed =
+      let by = answer-failed (traceNumber p slot rows) (p .«surface_count») in
+      (λ e. (none-refuses .0 (by .0 e .0), by .0 e .1), λ h. by .1 (none-refuses .1 (h .0), h .1))
 
   -- what a trace that is not refused has passed
   pub record Traceable : Type 0 where

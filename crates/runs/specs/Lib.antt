@@ -25,7 +25,7 @@ pub mod MultiStartLaws
 pub mod AnnealingLaws
 pub mod RowLaws
 pub mod Turned
--- How long runs take and what holds at their ends; shorter runs as beginnings of longer ones.
+-- How long runs take and what holds at their ends; shorter runs as beginnings of longer ones; a run that moves.
 pub mod Ends
 pub mod DampedEnds
 pub mod MultiStartEnds
@@ -33,6 +33,7 @@ pub mod AnnealingEnds
 pub mod RunEnds
 pub mod MultiStartBase
 pub mod Prefix
+pub mod Moved
 pub mod TurnLaws
 -- Undamaged rows stay undamaged (5), the causes of damage, what is pending passes check 3, and unused entries are zero (6).
 pub mod Usable
