@@ -9,6 +9,7 @@ ghost use Rattle.merit.specs.Steps.{SlotsKnown};
 ghost use Rattle.runs.specs.JobMerit.{evaluateOf};
 ghost use Rattle.runs.specs.Run.{Surfaces};
 ghost use Rattle.held.specs.JobFrom.{surfaceCountFrom, operandCountFrom, operandsFrom, heldJob};
+ghost use Rattle.heldmerit.specs.HeldOver.{meritOver, residualsOver};
 use merit::WeightRoot;
 
 // The values of surfaces laid flat: all slots are traced in one pass over them.
@@ -40,9 +41,7 @@ pub fn values_of(flat: &[f64], counts: &[u64; 57], numbers: &[f64]) -> [f64; 12]
 // The merit of surfaces that have these values.
 pub fn merit_of(values: &[f64; 12], counts: &[u64; 57], numbers: &[f64]) -> f64
     requires { ⌜ operandCountFrom (now counts) ≤ 12 ⌝ ∗ ⌜ 195 ≤ length (now numbers) ⌝ }
-    ensures { λ r.
-        ⌜ ((kind : ℕ) (s : Surfaces) → now (values .entry) ≡ evaluateOf (heldJob (now (counts .entry)) (now (numbers .entry)) kind) s .values
-        → r ≡ evaluateOf (heldJob (now (counts .entry)) (now (numbers .entry)) kind) s .«total_merit») ⌝ }
+    ensures { λ r. ⌜ r ≡ meritOver (now (counts .entry)) (now (numbers .entry)) (now (values .entry)) ⌝ }
 {
     let many = held::operand_count(counts);
     let mut total = 0.0;
@@ -59,9 +58,7 @@ pub fn merit_of(values: &[f64; 12], counts: &[u64; 57], numbers: &[f64]) -> f64
 // Their residuals: a root is worked out once where neighbouring weights are equal.
 pub fn residuals_of(values: &[f64; 12], counts: &[u64; 57], numbers: &[f64]) -> [f64; 12]
     requires { ⌜ operandCountFrom (now counts) ≤ 12 ⌝ ∗ ⌜ 195 ≤ length (now numbers) ⌝ }
-    ensures { λ r.
-        ⌜ ((kind : ℕ) (s : Surfaces) → now (values .entry) ≡ evaluateOf (heldJob (now (counts .entry)) (now (numbers .entry)) kind) s .values
-        → r ≡ evaluateOf (heldJob (now (counts .entry)) (now (numbers .entry)) kind) s .residuals) ⌝ }
+    ensures { λ r. ⌜ r ≡ residualsOver (now (counts .entry)) (now (numbers .entry)) (now (values .entry)) ⌝ }
 {
     let many = held::operand_count(counts);
     let mut residuals = [0.0; 12];

@@ -101,9 +101,10 @@ pub record Known : Type 0 where
   pub admitted : (u : Unused) → Admitted (request u damped) × Admitted (request u multiStart) × Admitted (request u annealing)
 
 pub known : Known
-unfolding traceNumber traceAnswer stepOf seeded stepTimes radiusOf lt magnitude finiteOf ofBits neg div tab allBelow Curvature.curvature arriving paraxialOf within aboveZeroUpTo
-    surfaceTaken lensTaken finiteOr isFocalLength isMagnified track shortfall sagOf valueOf difference residual term total countedTotal kindTaken weightTaken
-    operandTaken evaluateNumber sqrtOf le sub mul isNan enabledOf appliedTo applied runBy DampedRun.damped iterations bind afterMerits afterMerit isDone value
+unfolding traceNumber traceAnswer stepOf seeded stepTimes radiusOf lt magnitude finiteOf ofBits neg div tab allBelow Curvature.curvature arriving paraxialOf
+    within aboveZeroUpTo surfaceTaken lensTaken finiteOr isFocalLength isMagnified track shortfall sagOf valueOf difference residual term total countedTotal
+    kindTaken weightTaken operandTaken evaluateNumber sqrtOf le sub mul isNan enabledOf appliedTo applied runBy DampedRun.damped iterations bind afterMerits
+    afterMerit isDone value
 known = record {
   values = λ u. (refl, refl);
   weighted = λ u. (refl, (refl, refl));

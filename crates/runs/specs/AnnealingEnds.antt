@@ -27,7 +27,7 @@ module _ (a : Annealer) (Sound : Surfaces → Type 0) (tries : (trial : List Flo
 
   sound-accepted : (trial : List Float) (x : Float) (w : Walk) → SoundWalk w → SoundWalk (accepted a trial x w)
   unfolding accepted
-  sound-accepted trial x w h = sound-best (lt x (w .bestMerit)) (moved a trial x w) (tries trial w (h .0), h .1)
+  sound-accepted trial x w h = sound-best _ (moved a trial x w) (tries trial w (h .0), h .1)
 
   sound-drawn : (b : Bool) (trial : List Float) (x : Float) (w : Walk) → SoundWalk w → SoundWalk (ifDrawn a b trial x w)
   unfolding ifDrawn

@@ -129,7 +129,7 @@ module _ (a : Annealer) where
   accepted-walks : (trial : List Float) (m : Float) (w : Walk) → Walks w → Walks (accepted a trial m w)
   unfolding accepted AnnealingRun.trialPresc
   accepted-walks trial m w h =
-      best-walks (lt m (w .bestMerit)) (moved a trial m w) record { here = length-applied (a .variables) trial (w .surfaces) ∙ h .here; best = h .best }
+      best-walks _ (moved a trial m w) record { here = length-applied (a .variables) trial (w .surfaces) ∙ h .here; best = h .best }
 
   module _ (trial : List Float) (m : Float) where
     drawn : (b : Bool) (w : Walk) → Walks w → Walks (ifDrawn a b trial m w)

@@ -25,7 +25,8 @@ pub mod MultiStartLaws
 pub mod AnnealingLaws
 pub mod RowLaws
 pub mod Turned
--- How long runs take and what holds at their ends; shorter runs as beginnings of longer ones; a run that moves.
+-- How long runs take and what holds at their ends; shorter runs as beginnings of longer ones; a run that moves; trials
+-- and a walk whose best counts.
 pub mod Ends
 pub mod DampedEnds
 pub mod MultiStartEnds
@@ -33,8 +34,13 @@ pub mod AnnealingEnds
 pub mod RunEnds
 pub mod MultiStartBase
 pub mod Prefix
+pub mod MultiStartBest
+pub mod Asked
+pub mod Risen
+pub mod AnnealingBest
 pub mod Moved
 pub mod TurnLaws
+pub mod JobBest
 -- Undamaged rows stay undamaged (5), the causes of damage, what is pending passes check 3, and unused entries are zero (6).
 pub mod Usable
 pub mod DampedInvariant

@@ -66,9 +66,9 @@ abbrev pub thickened : Unused → Result
 thickened u = value (evaluateOf (tooThin u)) (run (tooThin u))
 
 pub half-way : (u : Unused) → (thickened u .«final_merit» ≡ quarter) × (surfaceAt (thickened u .surfaces) 0 .«thickness_mm» ≡ twoAndHalf)
-unfolding ofBits neg lt le eq add sub mul div isNan magnitude finiteOf sqrtOf tab allBelow enabledOf extracted clampedValues appliedTo applied finiteOr shortfall
-    valueOf difference residual term total countedTotal valuesAfter sumOf normalProduct gradientOf normOf damped dampedSystem pivotRow exchanged reduced pivoted
-    eliminated pivotOf solvable rightSide unknowns solutionOf stepOf stepFound bind value Run.damped Run.iterations Run.iteration Run.columns Run.ifStationary
-    Run.isStationary Run.attempts Run.ifSolved Run.isSolved Run.candidateParams Run.testPresc Run.isReduction Run.ifReduced Run.accepted Run.relImprovement
-    Run.settled Run.goingOn Run.pPlus Run.pMinus Run.prescPlus Run.prescMinus Run.denom Run.withDifferences runBy run evaluateOf
+unfolding ofBits neg lt le eq add sub mul div isNan magnitude finiteOf sqrtOf tab allBelow enabledOf extracted clampedValues appliedTo applied finiteOr
+    shortfall valueOf difference residual term total countedTotal valuesAfter sumOf normalProduct gradientOf normOf damped dampedSystem pivotRow exchanged
+    reduced pivoted eliminated pivotOf solvable rightSide unknowns solutionOf stepOf stepFound bind value Run.damped Run.iterations Run.iteration Run.columns
+    Run.ifStationary Run.isStationary Run.attempts Run.ifSolved Run.isSolved Run.candidateParams Run.testPresc Run.isReduction Run.ifReduced Run.accepted
+    Run.relImprovement Run.settled Run.goingOn Run.pPlus Run.pMinus Run.prescPlus Run.prescMinus Run.denom Run.withDifferences runBy run evaluateOf
 half-way u = (refl, refl)

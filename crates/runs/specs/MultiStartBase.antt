@@ -34,7 +34,7 @@ module _ (f : Surfaces → MeritEvaluation) (o : Optimizer) (base : Surfaces) wh
   abbrev last : Best → Run OptimizationResult
   last best = done (theBest best)
 
-  trials-below : (left rng : ℕ) (best : OptimizationResult)
+  pub trials-below : (left rng : ℕ) (best : OptimizationResult)
       → NotAbove (theBest (value f (trials o base left rng (some best))) .«final_merit») (best .«final_merit»)
   unfolding trials value
   trials-below zero rng best = same refl
@@ -43,10 +43,13 @@ module _ (f : Surfaces → MeritEvaluation) (o : Optimizer) (base : Surfaces) wh
       subst (λ (b : Best). NotAbove (theBest b .«final_merit») (best .«final_merit»)) (sym (value-bind f (damped o (trialPresc o base rng)) _))
       (under _ _ _ (trials-below left (afterDraws (o .variables) rng) (merged (some best) result)) (merged-below best result))
 
-  pub not-above-base : (n seed : ℕ) → NotAbove (value f (multiStart o base n seed) .«final_merit») (value f (damped o base) .«final_merit»)
+  pub multiStart-value : (n seed : ℕ)
+      → value f (multiStart o base n seed) ≡ theBest (value f (trials o base n (seeded seed) (some (value f (damped o base)))))
   unfolding multiStart merged value
+  multiStart-value n seed = value-bind f (damped o base) _ ∙ value-bind f (trials o base n (seeded seed) (some (value f (damped o base)))) last
+
+  pub not-above-base : (n seed : ℕ) → NotAbove (value f (multiStart o base n seed) .«final_merit») (value f (damped o base) .«final_merit»)
   not-above-base n seed =
       let result = value f (damped o base) in
-      subst (λ (r : OptimizationResult). NotAbove (r .«final_merit») (result .«final_merit»))
-      (sym (value-bind f (damped o base) _ ∙ value-bind f (trials o base n (seeded seed) (some result)) last))
+      subst (λ (r : OptimizationResult). NotAbove (r .«final_merit») (result .«final_merit»)) (sym (multiStart-value n seed))
       (trials-below n (seeded seed) result)

@@ -38,7 +38,7 @@ module _ (o : Optimizer) (base : Surfaces) where
       let e : suc m * p ≡ p + m * p = omega arith in
       sym (ap (λ (k : ℕ). stepTimes k rng) e ∙ times-add p (m * p) rng)
 
-  no-draws : (rng : ℕ) → rng ≡ stepTimes (0 * p) rng
+  pub no-draws : (rng : ℕ) → rng ≡ stepTimes (0 * p) rng
   unfolding stepTimes
   no-draws rng = sym (ap (λ (k : ℕ). stepTimes k rng) (zero-mul p))
 

@@ -129,7 +129,7 @@ module _ (job : Job) (k : Kept job) where
 
     accepted-clean : (trial : List Float) (x : Float) (w : Walk) → CleanW w → ZeroFrom p 8 trial → CleanW (accepted a trial x w)
     unfolding accepted AnnealingRun.trialPresc
-    accepted-clean trial x w h t = best-clean (lt x (w .bestMerit)) (moved a trial x w) (k .applies trial (w .surfaces) (h .0), t, h .2)
+    accepted-clean trial x w h t = best-clean _ (moved a trial x w) (k .applies trial (w .surfaces) (h .0), t, h .2)
 
     drawn-clean : (b : Bool) (trial : List Float) (x : Float) (w : Walk) → CleanW w → ZeroFrom p 8 trial → CleanW (ifDrawn a b trial x w)
     unfolding ifDrawn

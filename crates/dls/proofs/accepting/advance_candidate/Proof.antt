@@ -7,6 +7,7 @@ use Rattle.runs.specs.JobMerit.{evaluateOf}
 use Rattle.dls.specs.DampedSteps.{optimizer}
 use Rattle.held.specs.JobFrom.{operandCountFrom, variablesFrom, heldJob}
 use Rattle.held.specs.RowFrom.{dampedFrom}
+use Rattle.heldmerit.specs.HeldOver.{merit-held}
 use Rattle.dls.proofs.Advances.{candidate-taken, candidate-left}
 use Rattle.dls.proofs.Kept.{kept-same}
 use borrow.Author.Needs.{needs}
@@ -30,9 +31,10 @@ returns c =
           (x .candidate .now)) (evaluateOf (heldJob (x .counts .now) (x .numbers .now) k) lens)
           (c .before .before .before .before .before .before .before .before .before .is-reduction .ensures
           ∙ ap (λ (y : Float). finiteOf y && lt y (x .h .«total_merit»))
-          (c .before .before .before .before .before .before .before .before .before .before .merit-of .ensures k lens w))
+          (merit-held _ _ _ (c .before .before .before .before .before .before .before .before .before .before .merit-of .ensures) k lens w))
           (c .before .before .before .before .before .before .before .before .if1 .taken)
-          (c .advance-accepted .ensures k lens w (sym (c .before .before .before .before .before .before .before .before .before .before .merit-of .ensures k
+          (c .advance-accepted .ensures k lens w
+          (sym (merit-held _ _ _ (c .before .before .before .before .before .before .before .before .before .before .merit-of .ensures) k
           lens w)) (operandCountFrom (x .counts .now))),
       kept-same (x .scratch .now),
     )
@@ -52,7 +54,7 @@ returns-2 c =
           (x .candidate .now)) (evaluateOf (heldJob (x .counts .now) (x .numbers .now) k) lens)
           (c .before .before .before .before .before .before .before .before .before .before .is-reduction .ensures
           ∙ ap (λ (y : Float). finiteOf y && lt y (x .h .«total_merit»))
-          (c .before .before .before .before .before .before .before .before .before .before .before .merit-of .ensures k lens w))
+          (merit-held _ _ _ (c .before .before .before .before .before .before .before .before .before .before .before .merit-of .ensures) k lens w))
           (c .before .before .before .before .before .before .before .before .before .if1 .left) (a .0 (x .config) (x .surfaces .now) (x .values .now)),
       a .1,
     )

@@ -1,6 +1,7 @@
 -- `dls::accepting::moved` meets its contract: the calls one after the other. Assumes nothing.
 use mathlib.Core.Path.{sym}
 use Rattle.runs.specs.DampedRun.{testPresc}
+use Rattle.heldmerit.specs.HeldOver.{residuals-held}
 use borrow.Author.Needs.{needs}
 use Rattle.dls.proofs.accepting.moved.Statement.{statement}
 use Rattle.dls.proofs.accepting.moved.Tie as tie
@@ -20,7 +21,7 @@ returns c =
     λ k lens w em config m j p. simp (
       c .before .before .before .apply-values .ensures .0,
       c .ease .ensures,
-      c .before .residuals-of .ensures k lens w,
+      residuals-held _ _ _ (c .before .residuals-of .ensures) k lens w,
       w,
       sym em,
     )

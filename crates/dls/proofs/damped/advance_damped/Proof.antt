@@ -8,6 +8,7 @@ use Rattle.held.specs.JobFrom.{operandCountFrom, variablesFrom, heldJob}
 use Rattle.held.specs.RowFrom.{dampedFrom}
 use native.Mathlib.Omega.{arith}
 use Rattle.runs.specs.DampedRow.{phaseOf, advanceAt, currentOf, atMinus}
+use Rattle.heldmerit.specs.HeldOver.{residuals-held}
 use Rattle.dls.proofs.Advances.{advance-at, advance-over}
 use Rattle.dls.proofs.Kept.{kept-same}
 use borrow.Author.Needs.{needs}
@@ -44,7 +45,7 @@ returns-2 c =
           (c .at-minus .ensures (x .surfaces .now) (x .jacobian .now) (x .values .now) (x .residuals .now) (x .params .now)
           ∙ ap (λ (l : List Float). atMinus (currentOf (dampedFrom (x .h) (x .surfaces .now) (x .jacobian .now) (x .values .now) (x .residuals .now)
           (x .plus-residuals .now) (x .params .now) (x .candidate .now))) (x .jacobian .now) (x .h .column) l)
-          (c .before .before .before .residuals-of .ensures k lens w)),
+          (residuals-held _ _ _ (c .before .before .before .residuals-of .ensures) k lens w)),
       kept-same (x .scratch .now),
     )
 

@@ -6,6 +6,7 @@ use Rattle.dls.specs.DampedSteps.{iterationEntered, optimizer}
 use Rattle.runs.specs.JobMerit.{evaluateOf}
 use Rattle.held.specs.JobFrom.{variablesFrom, heldJob, standing}
 use Rattle.held.specs.RowFrom.{dampedFrom}
+use Rattle.heldmerit.specs.HeldOver.{merit-held, residuals-held}
 use Rattle.dls.proofs.Advances.{first-on}
 use borrow.Author.Needs.{needs}
 use Rattle.dls.proofs.damped.advance_first.Statement.{statement}
@@ -29,7 +30,11 @@ returns c = λ k lens w m.
     let r = c .before .before .before .before .before .before .residuals-of in
     let e : record { values = x .found .now; residuals = r .result; «total_merit» = c .before .before .before .before .before .merit-of .result }
     ≡ (evaluateOf (heldJob (x .counts .now) (x .numbers .now) k) lens) = λ i.
-    record { values = w i; residuals = r .ensures k lens w i; «total_merit» = c .before .before .before .before .before .merit-of .ensures k lens w i } in
+    record {
+      values = w i;
+      residuals = residuals-held _ _ _ (r .ensures) k lens w i;
+      «total_merit» = merit-held _ _ _ (c .before .before .before .before .before .merit-of .ensures) k lens w i;
+    } in
     first-on (optimizer (x .config) (variablesFrom (x .counts .now) (x .numbers .now)) m)
     (dampedFrom (x .h) (x .surfaces .now) (x .jacobian .now) (x .values .now) (x .residuals .now) (x .plus-residuals .now) (x .params .now)
     (x .candidate .now)) (evaluateOf (heldJob (x .counts .now) (x .numbers .now) k) lens)

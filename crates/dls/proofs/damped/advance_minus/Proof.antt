@@ -10,6 +10,7 @@ use Rattle.held.specs.JobFrom.{operandCountFrom, variablesFrom, heldJob}
 use Rattle.held.specs.RowFrom.{dampedFrom}
 use native.Mathlib.Omega.{arith}
 use Rattle.variables.specs.CallerLaws.{active-le}
+use Rattle.heldmerit.specs.HeldOver.{residuals-held}
 use Rattle.dls.proofs.Advances.{column-on, column-over}
 use Rattle.dls.proofs.Kept.{kept-same}
 use borrow.Author.Needs.{needs}
@@ -48,8 +49,8 @@ returns c =
           (currentOf (dampedFrom (x .h) s (x .jacobian .now) v (x .residuals .now) (x .plus-residuals .now) (x .params .now) (x .candidate .now)))
           (x .h .column)
           (x .jacobian .now) (x .plus-residuals .now) l))
-          (c .before .before .before .before .before .before .before .before .before .before .residuals-of .ensures k lens w)) (omega arith)
-          (c .at-plus .ensures s _ v (x .residuals .now) (x .params .now)),
+          (residuals-held _ _ _ (c .before .before .before .before .before .before .before .before .before .before .residuals-of .ensures) k lens w))
+          (omega arith) (c .at-plus .ensures s _ v (x .residuals .now) (x .params .now)),
       kept-same (x .scratch .now),
     )
 
@@ -84,9 +85,9 @@ returns-2 c =
           (currentOf (dampedFrom (x .h) s (x .jacobian .now) v (x .residuals .now) (x .plus-residuals .now) (x .params .now) (x .candidate .now)))
           (x .h .column)
           (x .jacobian .now) (x .plus-residuals .now) l))
-          (c .before .before .before .before .before .before .before .before .before .before .before .before .before .before .before .residuals-of .ensures k
-          lens
-          w)) (omega arith) (a .0 s v),
+          (residuals-held _ _ _
+          (c .before .before .before .before .before .before .before .before .before .before .before .before .before .before .before .residuals-of .ensures)
+          k lens w)) (omega arith) (a .0 s v),
       a .1,
     )
 

@@ -6,12 +6,11 @@ use lib.Ieee.{nan}
 use lib.ListN.{getD}
 use borrow.Author.Needs.{needs}
 use Rattle.merit.specs.declared.types.MeritOperand.{MeritOperand}
-use Rattle.optics.specs.Types.{surfaceAt, slotIndex}
-use Rattle.runs.specs.JobMerit.{evaluateOf}
-use Rattle.held.specs.JobFrom.{surfaceCountFrom, operandCountFrom, pupilFrom, indicesFrom, operandsFrom}
+use Rattle.held.specs.JobFrom.{operandCountFrom, operandsFrom}
 use Rattle.merit.specs.Evaluation.{term, countedTotal}
 use Rattle.meritcalls.proofs.Evaluating.{term-is}
-use Rattle.heldmerit.specs.Over.{termsOver, terms-more, merit-over}
+use Rattle.heldmerit.specs.HeldOver.{meritOver}
+use Rattle.heldmerit.specs.Over.{termsOver, terms-more}
 use Rattle.heldmerit.proofs.evaluation.merit_of.Statement.{statement}
 use Rattle.heldmerit.proofs.evaluation.merit_of.Tie as tie
 
@@ -63,14 +62,12 @@ counted-total-requires : tie.Need-counted-total-requires Inv-loop μ-loop
 counted-total-requires c κs = search needs
 
 returns : tie.Need-returns Inv-loop μ-loop
-unfolding evaluateOf
-returns c = λ kind s e.
+unfolding meritOver
+returns c =
     let x = c .before .before .before .before .before .args in
     let f = operandsFrom (x .counts .now) (x .numbers .now) in
     let m : c .before .before .loop .n ≡ operandCountFrom (x .counts .now) = omega (arith, c .before .before .loop .inv .1) in
     c .counted-total .ensures ∙ ap countedTotal (c .before .before .loop .inv .2 ∙ ap (termsOver f (x .values .now)) m)
-    ∙ merit-over (surfaceAt s) (slotIndex (indicesFrom (x .numbers .now))) (pupilFrom (x .numbers .now)) (surfaceCountFrom (x .counts .now)) f (x .values .now)
-    e
 
 pub merit-of-spec : {M : Type 1} → statement M
 merit-of-spec =

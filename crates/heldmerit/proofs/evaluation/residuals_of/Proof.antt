@@ -6,15 +6,14 @@ use lib.Ieee.{nan}
 use lib.ListN.{getD}
 use borrow.Author.Needs.{needs}
 use Rattle.merit.specs.declared.types.MeritOperand.{MeritOperand}
-use Rattle.optics.specs.Types.{surfaceAt, slotIndex}
-use Rattle.runs.specs.JobMerit.{evaluateOf}
-use Rattle.held.specs.JobFrom.{surfaceCountFrom, operandCountFrom, pupilFrom, indicesFrom, operandsFrom}
+use Rattle.held.specs.JobFrom.{operandCountFrom, operandsFrom}
 use Rattle.floatlaws.specs.CallerLaws.{root-one}
 use Rattle.lists.specs.Tab.{tab, tab-step}
 use Rattle.merit.specs.Evaluation.{residual}
 use Rattle.merit.specs.Steps.{RootKnown}
 use Rattle.meritcalls.proofs.Evaluating.{residual-is}
-use Rattle.heldmerit.specs.Over.{residualOver, residuals-over, Standing, all-stand}
+use Rattle.heldmerit.specs.HeldOver.{residualsOver}
+use Rattle.heldmerit.specs.Over.{residualOver, Standing, all-stand}
 use Rattle.heldmerit.proofs.evaluation.residuals_of.Statement.{statement}
 use Rattle.heldmerit.proofs.evaluation.residuals_of.Tie as tie
 
@@ -75,15 +74,13 @@ loop-again c =
     )
 
 returns : tie.Need-returns Inv-loop μ-loop
-unfolding evaluateOf
-returns c = λ kind s e.
+unfolding residualsOver
+returns c =
     let x = c .before .before .before .before .args in
     let f = operandsFrom (x .counts .now) (x .numbers .now) in
     let m : c .before .loop .n ≡ operandCountFrom (x .counts .now) = omega (arith, c .before .loop .inv .1) in
     all-stand (residualOver f (x .values .now)) (operandCountFrom (x .counts .now)) (c .before .loop .n) (c .before .loop .residuals) (c .before .loop .inv .2)
     m
-    ∙ residuals-over (surfaceAt s) (slotIndex (indicesFrom (x .numbers .now))) (pupilFrom (x .numbers .now)) (surfaceCountFrom (x .counts .now)) f
-    (x .values .now) e
 
 pub residuals-of-spec : {M : Type 1} → statement M
 residuals-of-spec =

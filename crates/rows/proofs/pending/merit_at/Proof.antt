@@ -3,6 +3,7 @@ use Prim.Native.Nat.{_*_}
 use lib.ListN.{drop, replicate}
 use Rattle.floats.specs.Constants.{zero64}
 use Rattle.held.specs.JobFrom.{surfaceCountFrom}
+use Rattle.heldmerit.specs.HeldOver.{merit-held}
 use borrow.Author.Needs.{needs}
 use Rattle.rows.proofs.pending.merit_at.Statement.{statement}
 use Rattle.rows.proofs.pending.merit_at.Tie as tie
@@ -31,7 +32,7 @@ returns c = λ kind.
     let laid =
     rw (c .before .before .before .before .before .before .before .surface-count .ensures) at
     (c .before .before .before .before .before .lay-flat .ensures) in
-    c .merit-of .ensures kind (x .lens) (c .before .before .values-of .ensures kind (x .lens) (drop (4 * surfaceCountFrom (x .counts .now))
+    merit-held _ _ _ (c .merit-of .ensures) kind (x .lens) (c .before .before .values-of .ensures kind (x .lens) (drop (4 * surfaceCountFrom (x .counts .now))
     (replicate 64 zero64)) laid)
 
 pub merit-at-spec : {M : Type 1} → statement M

@@ -13,6 +13,7 @@ use Rattle.kinds.proofs.Over.{polish-phase}
 use Rattle.held.specs.JobFrom.{operandCountFrom, settingsFrom, variablesFrom, heldJob}
 use Rattle.held.specs.RowFrom.{dampedFrom, stateFrom}
 use Rattle.runs.specs.JobMerit.{evaluateOf}
+use Rattle.heldmerit.specs.HeldOver.{merit-held}
 use borrow.Author.Needs.{needs}
 use Rattle.turns.proofs.advance.advance_annealing.Statement.{statement}
 use Rattle.turns.proofs.advance.advance_annealing.Tie as tie
@@ -34,7 +35,7 @@ returns c =
       λ k lens w. c .advance-walk-first .ensures a
           (sym (c .before .before .before .before .before .before .before .before .before .before .before .before .before .annealing-config .ensures)) refl
           (x .h) (evaluateOf (heldJob (x .counts .now) (x .numbers .now) k) lens)
-          (sym (c .before .before .before .before .before .before .before .before .before .before .before .merit-of .ensures k lens w))
+          (sym (merit-held _ _ _ (c .before .before .before .before .before .before .before .before .before .before .before .merit-of .ensures) k lens w))
           ∙ ap (λ (n : ℕ). Annealing.advanceAt a (Annealing.phaseOf n)
           (stateFrom (x .h) (x .surfaces .now) (x .jacobian .now) (x .values .now) (x .residuals .now) (x .plus-residuals .now) (x .params .now)
           (x .candidate .now) (x .best-surfaces .now) (x .best-values .now) (x .best-residuals .now))
@@ -57,7 +58,7 @@ returns-2 c =
       λ k lens w. c .advance-walk .ensures a
           (sym (c .before .before .before .before .before .before .before .before .before .before .before .before .before .before .annealing-config .ensures))
           refl (evaluateOf (heldJob (x .counts .now) (x .numbers .now) k) lens)
-          (sym (c .before .before .before .before .before .before .before .before .before .before .before .merit-of2 .ensures k lens w))
+          (sym (merit-held _ _ _ (c .before .before .before .before .before .before .before .before .before .before .before .merit-of2 .ensures) k lens w))
           ∙ ap (λ (n : ℕ). Annealing.advanceAt a (Annealing.phaseOf n)
           (stateFrom (x .h) (x .surfaces .now) (x .jacobian .now) (x .values .now) (x .residuals .now) (x .plus-residuals .now) (x .params .now)
           (x .candidate .now) (x .best-surfaces .now) (x .best-values .now) (x .best-residuals .now))
