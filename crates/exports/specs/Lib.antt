@@ -1,3 +1,4 @@
 pub mod Abi
 pub mod Lenses
 pub mod LensLaws
+pub mod ByRecord

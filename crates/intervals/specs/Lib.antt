@@ -7,4 +7,5 @@ pub mod CallLaws
 pub mod IntervalLaws
 pub mod Contained
 pub mod Within
+pub mod TakenLaws
 pub mod WithinLaws

@@ -3,7 +3,7 @@ use mathlib.Core.Path.{_≡_}
 use mathlib.Core.Bool.{Bool, true, not}
 use mathlib.Core.List.{List}
 use mathlib.Core.Logic.{_↔_}
-use Prim.Native.Nat.{ℕ, _<_}
+use Prim.Native.Nat.{ℕ, _<_, _≤_}
 use lib.Dec.{T, ltb}
 use lib.Ieee.{Float}
 use lib.ListN.{getD}
@@ -12,10 +12,10 @@ use Rattle.optics.specs.Check.{lensTaken}
 use Rattle.optics.specs.Kept.{lensCountsTaken}
 use Rattle.optics.specs.Types.{surfaceAt, withThickness}
 use Rattle.optics.specs.declared.types.OpticalPrescription.{OpticalPrescription}
-use Rattle.merit.specs.Calls.{lensRay}
+use Rattle.merit.specs.Calls.{lensRay, traceRefusals}
 use Rattle.merit.specs.Operands.{track}
 use Rattle.intervals.specs.Interval.{Between, exactly, crossed, endsFinite, noInterval}
-use Rattle.intervals.specs.Calls.{thicknessAt, limitsTaken, limitsRefusals, limitsNumber, limitsAs}
+use Rattle.intervals.specs.Calls.{thicknessAt, lensLimits, limitsRefusals, limitsNumber, limitsAs}
 use Rattle.intervals.specs.declared.types.Interval.{Interval}
 use Rattle.intervals.specs.declared.types.ThicknessLimits.{ThicknessLimits}
 use Rattle.intervals.specs.declared.types.TraceLimits.{TraceLimits}
@@ -42,6 +42,15 @@ trackOf q = track (surfaceAt (q .surfaces)) (q .«surface_count»)
 -- entry k of what the call writes
 abbrev pub entry : List Interval → ℕ → Interval
 entry xs k = getD xs k noInterval
+
+-- no "Fewer than two surfaces, crossed limits, or an interval end, given or worked out, that is not finite"
+pub record Taken (p : OpticalPrescription) (l : ThicknessLimits) (slot : ℕ) : Type 0 where
+  pub two : 2 ≤ p .«surface_count»
+  pub uncrossed : (k : ℕ) → k < p .«surface_count» → T (not (crossed (thicknessAt l k)))
+  pub given : (k : ℕ) → k < p .«surface_count» → T (endsFinite (thicknessAt l k))
+  pub heights : (k : ℕ) → k < p .«surface_count» → T (endsFinite (entry (lensLimits p l slot .heights) k))
+  pub slopes : (k : ℕ) → k < p .«surface_count» → T (endsFinite (entry (lensLimits p l slot .slopes) k))
+  pub track : T (endsFinite (lensLimits p l slot .track))
 
 -- of a lens, limits, a slot, and what was lent before the call
 module _ (p : OpticalPrescription) (l : ThicknessLimits) (slot : ℕ) (old : TraceLimits) where
@@ -76,5 +85,5 @@ module _ (p : OpticalPrescription) (l : ThicknessLimits) (slot : ℕ) (old : Tra
     pub number-1 : Answers 1 (not (lensCountsTaken (p .«surface_count») (p .«slot_count»)))
     pub number-3 : Answers 3 (not (lensTaken p))
     pub number-5 : Answers 5 (not (ltb slot (p .«slot_count»)))
-    pub number-19 : Answers 19 (not (limitsTaken p l slot))
-    pub number-0 : (number ≡ 0) ↔ NoneOf (limitsRefusals p l slot)
+    pub number-19 : (number ≡ 19) ↔ ((Taken p l slot → ⊥) × NoneOf (traceRefusals p slot (p .«surface_count»)))
+    pub number-0 : (number ≡ 0) ↔ (Taken p l slot × NoneOf (traceRefusals p slot (p .«surface_count»)))

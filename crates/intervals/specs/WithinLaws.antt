@@ -2,14 +2,12 @@
 use mathlib.Core.Path.{_≡_, refl, sym, ap, _∙_, subst}
 use mathlib.Core.Bool.{not}
 use mathlib.Core.List.{List}
-use Prim.Native.Nat.{ℕ, zero, suc, _-_, _<_}
+use Prim.Native.Nat.{ℕ, zero, suc, _<_}
 use native.Mathlib.Omega.{arith}
 use native.Mathlib.Nat.{le-refl}
 use lib.Ieee.{Float, binary64, add}
 use lib.Ieee.Fits.{and-r}
-use lib.ListN.{replicate, List·getD-append}
 use Rattle.floatlaws.specs.Monotone.{Positive}
-use Rattle.lists.specs.Tab.{tab, length-tab, getD-tab}
 use Rattle.optics.specs.Check.{ten}
 use Rattle.optics.specs.CheckLaws.{lens-parts, above-parts, above-finite, ten-finite}
 use Rattle.optics.specs.Trace.{rayAt}
@@ -21,20 +19,17 @@ use Rattle.optics.specs.declared.types.ParaxialRay.{ParaxialRay}
 use Rattle.merit.specs.Calls.{unlessRefused, lensRay}
 use Rattle.merit.specs.CallLaws.{stays}
 use Rattle.merit.specs.Operands.{track}
-use Rattle.intervals.specs.Interval.{Between, endsFinite, crossed, noInterval, zeroInterval}
+use Rattle.intervals.specs.Interval.{Between, endsFinite, crossed}
 use Rattle.intervals.specs.IntervalLaws.{Bounds, bounds, crossed-empty, uncrossed-holds}
-use Rattle.intervals.specs.Calls.{thicknessAt, sixteen, heightAt, slopeAt, lensLimits, limitsNumber, limitsAs}
-use Rattle.intervals.specs.CallLaws.{Limitable, limitable, limits-1, limits-3, limits-5, limits-19, limits-0}
+use Rattle.intervals.specs.Calls.{thicknessAt, heightAt, slopeAt, lensLimits, limitsNumber, limitsAs}
+use Rattle.intervals.specs.CallLaws.{Limitable, limitable, limits-1, limits-3, limits-5}
 use Rattle.intervals.specs.Contained.{positive-above, height-between, slope-between, track-between, nominal-height, nominal-slope, nominal-track}
 use Rattle.intervals.specs.Limits.{trackLimits}
+use Rattle.intervals.specs.TakenLaws.{entry-is, refused-19, answered-0}
 use Rattle.intervals.specs.Within.{thicknessOf, Inside, trackOf, entry, Request13}
 use Rattle.intervals.specs.declared.types.Interval.{Interval}
 use Rattle.intervals.specs.declared.types.ThicknessLimits.{ThicknessLimits}
 use Rattle.intervals.specs.declared.types.TraceLimits.{TraceLimits}
-
--- entry k of one for each surface
-entry-is : (f : ℕ → Interval) (n k : ℕ) → k < n → entry (sixteen f n) k ≡ f k
-entry-is f n k h = List·getD-append (tab f n) (replicate (16 - n) zeroInterval) noInterval k (rw (length-tab f n) h) ∙ getD-tab f n k noInterval h
 
 -- the track looks only at surfaces below the count
 track-same : (surface other : ℕ → OpticalSurface) (n : ℕ) → ((k : ℕ) → k < n → surface k ≡ other k) → track surface n ≡ track other n
@@ -131,6 +126,6 @@ module _ (p : OpticalPrescription) (l : ThicknessLimits) (slot : ℕ) (old : Tra
     number-1 = limits-1 p l slot;
     number-3 = limits-3 p l slot;
     number-5 = limits-5 p l slot;
-    number-19 = limits-19 p l slot;
-    number-0 = limits-0 p l slot;
+    number-19 = refused-19 p l slot;
+    number-0 = answered-0 p l slot;
   }

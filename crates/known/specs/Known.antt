@@ -3,7 +3,8 @@
 use mathlib.Core.Path.{_≡_, refl}
 use mathlib.Core.Bool.{true, false}
 use mathlib.Core.List.{List, [], _∷_}
-use lib.Ieee.{Float, inf, neg, lt, le, sub, mul, div, isNan, ofBits}
+use lib.Ieee.{Float, inf, neg, lt, le, add, sub, mul, div, isNan, ofBits}
+use lib.ListN.{replicate}
 use Rattle.floats.specs.Basic.{magnitude, finiteOf}
 use Rattle.floats.specs.Constants.{zero64}
 use Rattle.floats.specs.Sqrt.{sqrtOf}
@@ -29,6 +30,13 @@ use Rattle.merit.specs.Calls.{lensEvaluation, evaluateNumber, traceNumber, trac
 use Rattle.merit.specs.declared.types.MeritEvaluation.{MeritEvaluation}
 use Rattle.merit.specs.declared.types.MeritFunction.{MeritFunction}
 use Rattle.merit.specs.declared.types.Traced.the-variants.{Done}
+use Rattle.intervals.specs.Interval.{ends, exactly, zeroInterval, lesser, greater, endsFinite}
+use Rattle.intervals.specs.Limits
+use Rattle.intervals.specs.Limits.{refractionFinite, transferFinite, trackLimits, arrivalFinite}
+use Rattle.intervals.specs.Calls.{limitsTaken, limitsNumber, limitsAs}
+use Rattle.intervals.specs.declared.types.Interval.{Interval}
+use Rattle.intervals.specs.declared.types.ThicknessLimits.{ThicknessLimits}
+use Rattle.intervals.specs.declared.types.TraceLimits.{TraceLimits}
 use Rattle.jobs.specs.Sample.{Unused, lens, sixty, request, damped, multiStart, annealing, n1, n2, n4, n8, n16, n64}
 use Rattle.jobs.specs.declared.types.Job.{Job}
 use Rattle.jobs.specs.declared.types.Method.the-variants.{Damped}
@@ -39,12 +47,17 @@ use Rattle.runs.specs.JobRun.{runBy}
 use Rattle.runs.specs.Moved.{n3, quarter, twoAndHalf, thickened, half-way}
 use Rattle.bench.specs.Accepted.{Admitted, drawings-admitted}
 use Rattle.known.specs.Samples.{Settings, limitZero, n10, n12, n13, n56, sevenEighths, tenthOfLeast, least, pastFive, pastOne, firstAlone, kinds}
-use Rattle.known.specs.Samples.{threeAndHalf, sixteenth, halfSixteenth, n19880, n395214400}
+use Rattle.known.specs.Samples.{threeAndHalf, sixteenth, thirtySecond, n19880, n395214400}
+use Rattle.known.specs.Samples.{n24, threeAndQuarter, fourLessQuarter, shopLimits}
 use Rattle.known.specs.Samples.{atLeastThree, halfBall, edgeAtLeast, curvature}
 
 -- `evaluate` takes the lens and the operands, and its answer has a property
 abbrev pub Evaluates : OpticalPrescription → MeritFunction → (MeritEvaluation → Type 0) → Type 0
 Evaluates p f Has = (evaluateNumber p f ≡ 0) × Has (lensEvaluation p f)
+
+-- `trace_limits` takes the lens and the limits in slot 0, and what it leaves has a property, whatever was lent
+abbrev pub Limited : OpticalPrescription → ThicknessLimits → (TraceLimits → Type 0) → Type 0
+Limited p l Has = (limitsNumber p l 0 ≡ 0) × ((old : TraceLimits) → Has (limitsAs old p l 0))
 
 -- The first surface's curvature set to x: the surface, those behind it, and all of them afterwards have a property. Whatever they are, and whatever values
 -- follow.
@@ -72,7 +85,7 @@ pub record Known : Type 0 where
   -- the heights and slopes of the lens, whatever the row held: height 4, 3.5 behind 16 of a glass of index 2, on to a focus 56 behind
   pub traced : (u : Unused) (r s : ParaxialRay)
       → (traceAnswer (lens u n64 n16) 0 2 ≡ Done)
-      × (tracedRays (lens u n64 n16) 0 (r ∷ s ∷ []) ≡ rayOf n4 (neg halfSixteenth) ∷ rayOf threeAndHalf (neg sixteenth) ∷ [])
+      × (tracedRays (lens u n64 n16) 0 (r ∷ s ∷ []) ≡ rayOf n4 (neg thirtySecond) ∷ rayOf threeAndHalf (neg sixteenth) ∷ [])
   -- "Seed 1 draws first hexadecimal 40822041."
   pub first-draw : stepTimes 1 (seeded 1) ≡ 0x40822041
   -- "Curvature -1e-13: radius plus infinity. 1e-12: finite." As they come, and from beyond the bounds.
@@ -91,6 +104,11 @@ pub record Known : Type 0 where
   pub parabola-enough : (u : Unused) → Evaluates (halfBall u (neg n1)) (edgeAtLeast u 0 n12) (λ e. e .values ≡ zero64 ∷ pastOne)
   pub sag-fails : (u : Unused) → Evaluates (halfBall u n3) (edgeAtLeast u 0 n10) (λ e. e .values ≡ penalty ∷ pastOne)
   pub no-successor : (u : Unused) → Evaluates (halfBall u zero64) (edgeAtLeast u 1 n10) (λ e. e .values ≡ penalty ∷ pastOne)
+  -- Request 13: the lens with its first thickness from 8 to 24 is taken. Track 8 to 24; heights 4, then 3.25 to 3.75; slopes -1/32, then -1/16.
+  pub within-limits : (u : Unused) (rest : List Interval) → Limited (lens u n64 n16) (shopLimits rest) (λ t.
+      (t .track ≡ ends n8 n24)
+      × (t .heights ≡ exactly n4 ∷ ends threeAndQuarter fourLessQuarter ∷ replicate 14 zeroInterval)
+      × (t .slopes ≡ exactly (neg thirtySecond) ∷ exactly (neg sixteenth) ∷ replicate 14 zeroInterval))
   -- a damped run moves: 2 thick where 3 is wanted, damping 1, one iteration: 2.5 thick, merit 1/4
   pub moves : (u : Unused) → (thickened u .«final_merit» ≡ quarter) × (surfaceAt (thickened u .surfaces) 0 .«thickness_mm» ≡ twoAndHalf)
   -- "Iteration limit 0: one turn, not converged." Whatever the job and the other settings are.
@@ -105,6 +123,7 @@ unfolding traceNumber traceAnswer stepOf seeded stepTimes radiusOf lt magnitude 
     within aboveZeroUpTo surfaceTaken lensTaken finiteOr isFocalLength isMagnified track shortfall sagOf valueOf difference residual term total countedTotal
     kindTaken weightTaken operandTaken evaluateNumber sqrtOf le sub mul isNan enabledOf appliedTo applied runBy DampedRun.damped iterations bind afterMerits
     afterMerit isDone value
+    lesser greater endsFinite refractionFinite transferFinite trackLimits arrivalFinite Limits.arriving limitsTaken limitsNumber add
 known = record {
   values = λ u. (refl, refl);
   weighted = λ u. (refl, (refl, refl));
@@ -125,6 +144,7 @@ known = record {
   parabola-enough = λ u. (refl, refl);
   sag-fails = λ u. (refl, refl);
   no-successor = λ u. (refl, refl);
+  within-limits = λ u rest. (refl, λ old. (refl, refl, refl));
   moves = half-way;
   a-turn = λ s job. refl;
   one-turn = λ f s job. refl;

@@ -11,6 +11,9 @@ use Rattle.variables.specs.declared.types.VariableType.the-variants.{Curvature}
 use Rattle.merit.specs.declared.types.MeritFunction.{MeritFunction}
 use Rattle.merit.specs.declared.types.OperandType.the-variants.{EffectiveFocalLength, WorkingFNumber, TotalTrack, BackFocalLength, ParaxialMagnification}
 use Rattle.merit.specs.declared.types.OperandType.the-variants.{MinCenterThickness, MinEdgeThickness}
+use Rattle.intervals.specs.Interval.{ends, exactly}
+use Rattle.intervals.specs.declared.types.Interval.{Interval}
+use Rattle.intervals.specs.declared.types.ThicknessLimits.{ThicknessLimits}
 use Rattle.jobs.specs.declared.types.DlsConfig.{DlsConfig}
 use Rattle.jobs.specs.Sample.{Unused, surface, operand, n1, n2, n8, n16, n64}
 use Rattle.runs.specs.Moved.{n3}
@@ -24,18 +27,27 @@ n12 = ofBits binary64 0x4028_0000_0000_0000
 abbrev pub n13 : Float
 n13 = ofBits binary64 0x402a_0000_0000_0000
 
+abbrev pub n24 : Float
+n24 = ofBits binary64 0x4038_0000_0000_0000
+
 abbrev pub n56 : Float
 n56 = ofBits binary64 0x404c_0000_0000_0000
 
--- 3.5, 1/16, 1/32
+-- 3.25, 3.5, 3.75, 1/16, 1/32
+abbrev pub threeAndQuarter : Float
+threeAndQuarter = ofBits binary64 0x400a_0000_0000_0000
+
 abbrev pub threeAndHalf : Float
 threeAndHalf = ofBits binary64 0x400c_0000_0000_0000
+
+abbrev pub fourLessQuarter : Float
+fourLessQuarter = ofBits binary64 0x400e_0000_0000_0000
 
 abbrev pub sixteenth : Float
 sixteenth = ofBits binary64 0x3fb0_0000_0000_0000
 
-abbrev pub halfSixteenth : Float
-halfSixteenth = ofBits binary64 0x3fa0_0000_0000_0000
+abbrev pub thirtySecond : Float
+thirtySecond = ofBits binary64 0x3fa0_0000_0000_0000
 
 -- 19,880 and 395,214,400
 abbrev pub n19880 : Float
@@ -112,6 +124,10 @@ module _ (u : Unused) where
     variables = record { «var_type» = Curvature 0; «min_value» = neg tenthOfLeast; «max_value» = least; «step_size» = n1; enabled = true } ∷ u .variables;
     «variable_count» = 1;
   }
+
+-- request 13: the first thickness from 8 to 24, the second 0; then whatever stands past the surfaces
+abbrev pub shopLimits : (rest : List Interval) → ThicknessLimits
+shopLimits rest = record { thicknesses = ends n8 n24 ∷ exactly zero64 ∷ rest }
 
 -- what a damped run is set to, apart from its iteration limit
 pub record Settings : Type 0 where
