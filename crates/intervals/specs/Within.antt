@@ -10,7 +10,7 @@ use lib.ListN.{getD}
 use Rattle.lists.specs.Refusals.{NoneOf, before}
 use Rattle.optics.specs.Check.{lensTaken}
 use Rattle.optics.specs.Kept.{lensCountsTaken}
-use Rattle.optics.specs.Types.{surfaceAt, withThickness}
+use Rattle.optics.specs.Types.{surfaceAt, slotIndex, withThickness}
 use Rattle.optics.specs.declared.types.OpticalPrescription.{OpticalPrescription}
 use Rattle.merit.specs.Calls.{lensRay, traceRefusals}
 use Rattle.merit.specs.Operands.{track}
@@ -27,7 +27,7 @@ thicknessOf q k = surfaceAt (q .surfaces) k .«thickness_mm»
 pub record Inside (p : OpticalPrescription) (l : ThicknessLimits) (q : OpticalPrescription) : Type 0 where
   pub count : q .«surface_count» ≡ p .«surface_count»
   pub pupil : q .«entrance_pupil_diameter_mm» ≡ p .«entrance_pupil_diameter_mm»
-  pub indices : q .indices ≡ p .indices
+  pub indices : (k w : ℕ) → k < p .«surface_count» → w < p .«slot_count» → slotIndex (q .indices) w k ≡ slotIndex (p .indices) w k
   pub surfaces : (k : ℕ) → k < p .«surface_count» → surfaceAt (q .surfaces) k ≡ withThickness (surfaceAt (p .surfaces) k) (thicknessOf q k)
   pub between : (k : ℕ) → k < p .«surface_count» → Between (thicknessAt l k) (thicknessOf q k)
 

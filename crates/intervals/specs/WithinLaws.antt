@@ -1,7 +1,6 @@
 -- What request 13 says holds of every lens, limits and slot. Assumes nothing.
 use mathlib.Core.Path.{_≡_, refl, sym, ap, _∙_, subst}
 use mathlib.Core.Bool.{not}
-use mathlib.Core.List.{List}
 use Prim.Native.Nat.{ℕ, zero, suc, _<_}
 use native.Mathlib.Omega.{arith}
 use native.Mathlib.Nat.{le-refl}
@@ -92,7 +91,7 @@ module _ (p : OpticalPrescription) (l : ThicknessLimits) (slot : ℕ) (old : Tra
       ray-is k h =
           ap (λ (d : Float). rayAt (surfaceAt (q .surfaces)) (slotIndex (q .indices) slot) d k) (i .pupil)
           ∙ ray-same (surfaceAt (q .surfaces)) other (slotIndex (q .indices) slot) index pupil count (i .surfaces)
-          (λ j m. ap (λ (xs : List Float). slotIndex xs slot j) (i .indices)) k h
+          (λ j m. i .indices j slot m (ok .traced .there)) k h
 
       track-is : trackOf q ≡ track other count
       track-is = ap (track (surfaceAt (q .surfaces))) (i .count) ∙ track-same (surfaceAt (q .surfaces)) other count (i .surfaces)

@@ -4,7 +4,7 @@ use mathlib.Core.Bool.{Bool, true, false, cond}
 use mathlib.Core.List.{List}
 use Prim.Native.Nat.{ℕ, zero, suc}
 use lib.Dec.{ltb}
-use lib.Ieee.{Float, binary64, sub, lt, le}
+use lib.Ieee.{Float, binary64, sub, le}
 use lib.ListN.{length}
 use Rattle.floats.specs.Constants.{zero64}
 use Rattle.xorshift.specs.Xorshift.{stepOf}

@@ -1,4 +1,4 @@
 pub mod Same
 pub mod SameLaws
 pub mod Equal
-pub mod Alike
+pub mod Itself

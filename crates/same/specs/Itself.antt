@@ -15,7 +15,7 @@ use Rattle.runs.specs.declared.types.OptimizationResult.{OptimizationResult}
 use Rattle.held.specs.declared.types.HeldRow.{HeldRow}
 use Rattle.bench.specs.declared.types.Bench.{Bench}
 use Rattle.bench.specs.Benches.{heldAt}
-use Rattle.same.specs.Same.{sameFloat, sameFloats, sameWords, sameRow, sameBench, sameSurface, sameSurfaces, sameResult}
+use Rattle.same.specs.Same.{sameFloat, sameFloats, sameWords, sameRow, sameBench, sameSurface, sameResult}
 use Rattle.same.specs.SameLaws.{all-alike}
 
 and : (p q : Bool) → p ≡ true → q ≡ true → (p && q) ≡ true
