@@ -1,5 +1,5 @@
 // Thicknesses known only within limits: the trace worked with intervals.
-// Stands on `merit`, whose refusals of a trace it takes over; called by `exports` and `replay`.
+// Stands on `meritcalls`, whose refusals of a trace it takes over; called by `exports` and `replay`.
 mod calls;
 mod ends;
 mod surfaces;

@@ -1,5 +1,5 @@
 // Jobs: as they are asked for, admitted and kept.
-// Stands on `variables` and `merit`; called by admission (`rows`), and by all that reads a row's job.
+// Stands on `variables` and `meritcalls`; called by admission (`rows`), and by all that reads a row's job.
 mod checks;
 mod entries;
 mod jobrecords;

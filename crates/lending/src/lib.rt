@@ -1,5 +1,5 @@
 // The two calls that stand alone, lent what is the caller's own: by value, with what stood there before.
-// Stands on `merit`; called by `exports` and `replay`.
+// Stands on `meritcalls`; called by `exports` and `replay`.
 ghost use mathlib.Core.Path.{_≡_};
 ghost use Rattle.lending.specs.Over.{evaluatedOver, tracedOver};
 

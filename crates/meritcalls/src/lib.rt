@@ -1,5 +1,5 @@
 // The code of `merit`: operands, evaluations, refusal 5, and the two calls that stand alone, evaluate and trace.
-// Stands on `merit`; called by `heldmerit` for runs, by `lending` and `exports` for callers, by `jobs` (refusal 5).
+// Stands on `merit`; called by `heldmerit` for runs, by `lending`, `exports` and `intervals` for callers, by `jobs` and `helddamage` (refusal 5).
 mod calls;
 mod checks;
 mod evaluation;

@@ -1,5 +1,5 @@
--- `intervals::calls::trace_limits` meets its contract: a walk of its MIR, as `merit::calls::evaluate`'s. `limits_traced` is called with copies of the lens, the
--- limits and the slot; where its number refuses, the borrow stays shut, and else it is opened and what was returned is stored.
+-- `intervals::calls::trace_limits` meets its contract: a walk of its MIR, as `meritcalls::calls::evaluate`'s. `limits_traced` is called with copies of the
+-- lens, the limits and the slot; where its number refuses, the borrow stays shut, and else it is opened and what was returned is stored.
 -- All that the proof knows of `limits_traced` is that it meets its contract.
 -- Assumes nothing.
 use mathlib.Core.Path.{_≡_, refl}
