@@ -1,11 +1,12 @@
 -- What the run of an admissible job comes to. Assumes nothing.
 use mathlib.Core.Path.{_≡_, refl, sym, ap, subst}
-use mathlib.Core.Bool.{Bool, true, false, not, _&&_}
+use mathlib.Core.Bool.{true, not, _&&_}
 use Prim.Native.Nat.{ℕ}
 use native.Mathlib.Nat.{le-refl}
 use lib.Dec.{T, leb}
 use borrow.Author.Tests.{le-leb}
 use Rattle.lists.specs.All.{all-at}
+use Rattle.lists.specs.Refusals.{not-refusing}
 use Rattle.optics.specs.Check.{surfaceTaken, surfacesTaken, lensTaken}
 use Rattle.optics.specs.CheckLaws.{lens-parts, lens-from}
 use Rattle.optics.specs.Types.{surfaceAt}
@@ -68,10 +69,6 @@ module _ (job : Job) where
           indices = l .indices;
         })
 
-    is-taken : (b : Bool) → T b → not b ≡ false
-    is-taken true t = refl
-    is-taken false t = absurd t
-
     pub evaluable : (s : Surfaces) → T (surfacesTaken s (job .prescription .«surface_count»)) → evaluateNumber (lensWith job s) (job .«merit_function») ≡ 0
     evaluable s t =
         let has = passed job (a .taken) in
@@ -84,8 +81,8 @@ module _ (job : Job) where
         evaluate-0 (lensWith job s) (job .«merit_function») .1 (
           ap not counted,
           (
-            is-taken (lensTaken (lensWith job s)) (lens-with s t),
-            (is-taken (operandsTaken (p .«slot_count») (job .«merit_function»)) (has .operands), tt),
+            not-refusing (lensTaken (lensWith job s)) (lens-with s t),
+            (not-refusing (operandsTaken (p .«slot_count») (job .«merit_function»)) (has .operands), tt),
           ),
         )
 

@@ -1,6 +1,6 @@
 -- What callers may use of the call's refusals: each number is answered exactly when its cause holds and no cause in front of it does. Assumes nothing.
 use mathlib.Core.Path.{_≡_, refl, subst}
-use mathlib.Core.Bool.{Bool, true, false, not, cond, _&&_, true≢false}
+use mathlib.Core.Bool.{Bool, true, false, not, cond, _&&_}
 use mathlib.Core.List.{[], _∷_}
 use mathlib.Core.Logic.{_↔_}
 use Prim.Native.Nat.{ℕ, _≤_, _<_}
@@ -9,7 +9,7 @@ use lib.Dec.{T, leb, ltb, eqb, leb→le}
 use borrow.Author.Tests.{eq-eqb}
 use lib.Ieee.Fits.{and-l, and-r}
 use Rattle.lists.specs.All.{allBelow, all-at}
-use Rattle.lists.specs.Refusals.{refusal, NoneOf, before, answers, answers-none, none-of, none-front}
+use Rattle.lists.specs.Refusals.{refusal, NoneOf, before, answers, answers-none, none-of, none-front, let-through}
 use Rattle.optics.specs.Kept.{lensCountsTaken}
 use Rattle.optics.specs.Check.{lensTaken}
 use Rattle.optics.specs.declared.types.OpticalPrescription.{OpticalPrescription}
@@ -37,10 +37,6 @@ behind-trace false false false d n e = (λ h. absurd (no n e h), λ z. refl)
   where
     no : (n : ℕ) → 0 ≡ n → 0 < n → ⊥
     no n e h = omega arith
-
-passed : (b : Bool) → not b ≡ false → T b
-passed true e = tt
-passed false e = absurd (true≢false e)
 
 module _ (p : OpticalPrescription) (l : ThicknessLimits) (slot : ℕ) where
   abbrev counted : Bool
@@ -97,7 +93,7 @@ module _ (p : OpticalPrescription) (l : ThicknessLimits) (slot : ℕ) where
   limitable e =
       let h = limits-0 .0 e in
       let count = p .«surface_count» in
-      let t : T (limitsTaken p l slot) = passed (limitsTaken p l slot) (none-of (limitsRefusals p l slot) 19 h) in
+      let t : T (limitsTaken p l slot) = let-through (limitsTaken p l slot) (none-of (limitsRefusals p l slot) 19 h) in
       let b = and-l (leb 2 count && allGiven l count) (allBelow (finiteAt p l slot) count) t in
       record {
         traced = traceable p slot count (answers-none (traceRefusals p slot count) tt .1 (none-front (traceRefusals p slot count)

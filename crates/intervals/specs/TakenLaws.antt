@@ -1,6 +1,6 @@
 -- The call refuses by 19 exactly the lack of what `Taken` lists: an end worked out on the way is finite where those answered are. Assumes nothing.
-use mathlib.Core.Path.{_≡_, refl, sym, ap, _∙_, subst}
-use mathlib.Core.Bool.{Bool, true, false, not, _&&_, true≢false, false≢true}
+use mathlib.Core.Path.{_≡_, refl, sym, _∙_, subst}
+use mathlib.Core.Bool.{Bool, true, false, not, _&&_, false≢true}
 use mathlib.Core.List.{[], _∷_}
 use mathlib.Core.Logic.{_↔_}
 use Prim.Native.Nat.{ℕ, zero, suc, _-_, _<_, _≤_}
@@ -8,14 +8,13 @@ use native.Mathlib.Omega.{arith}
 use lib.Dec.{T, leb, leb→le, le→leb}
 use borrow.Author.Tests.{leb-true, leb-false}
 use lib.Ieee.{Float, nan, inf, fin, binary64, neg, add, sub, div}
-use lib.Ieee.Bits.{is-true}
 use lib.Ieee.Fits.{and-i, and-l, and-r}
 use lib.ListN.{replicate, List·getD-append}
 use Rattle.floats.specs.Basic.{finiteOf}
 use Rattle.floatlaws.specs.Fractions.{Finite}
 use Rattle.floatlaws.specs.CallerLaws.{test-finite}
 use Rattle.lists.specs.All.{allBelow, all-at, all-from}
-use Rattle.lists.specs.Refusals.{refusal, NoneOf, none-of, none-front}
+use Rattle.lists.specs.Refusals.{refusal, NoneOf, none-of, none-front, none-both, let-through, not-refusing}
 use Rattle.lists.specs.Tab.{tab, length-tab, getD-tab}
 use Rattle.optics.specs.Types.{surfaceAt, slotIndex}
 use Rattle.optics.specs.declared.types.OpticalPrescription.{OpticalPrescription}
@@ -236,11 +235,9 @@ module _ (p : OpticalPrescription) (l : ThicknessLimits) (slot : ℕ) where
       to : NoneOf (limitsRefusals p l slot) → Taken p l slot × NoneOf (traceRefusals p slot count)
       to h =
           let rest = none-front (traceRefusals p slot count) (refusal 19 (not (limitsTaken p l slot)) ∷ []) h in
-          (taken (passed (limitsTaken p l slot) (none-of (limitsRefusals p l slot) 19 h)), rest)
-        where
-          passed : (b : Bool) → not b ≡ false → T b
-          passed true e = tt
-          passed false e = absurd (true≢false e)
+          (taken (let-through (limitsTaken p l slot) (none-of (limitsRefusals p l slot) 19 h)), rest)
 
       from : Taken p l slot × NoneOf (traceRefusals p slot count) → NoneOf (limitsRefusals p l slot)
-      from h = (h .1 .0, (h .1 .1 .0, (h .1 .1 .1 .0, (ap not (is-true (limitsTaken p l slot) (is-taken (h .0))), tt))))
+      from h =
+          let t = limitsTaken p l slot in
+          none-both (traceRefusals p slot count) (refusal 19 (not t) ∷ []) (h .1) (not-refusing t (is-taken (h .0)), tt)

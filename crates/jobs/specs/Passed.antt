@@ -1,11 +1,11 @@
 -- What a job that is taken has, by name: a fact for each number of the list. Assumes nothing.
-use mathlib.Core.Path.{_≡_, refl, sym, subst}
-use mathlib.Core.Bool.{Bool, true, false, not}
+use mathlib.Core.Path.{_≡_, refl}
+use mathlib.Core.Bool.{true, false}
 use Prim.Native.Nat.{ℕ, zero, suc, _<_}
 use native.Mathlib.Nat.{zero-lt-suc}
 use lib.Dec.{T, eqb}
 use borrow.Author.Tests.{not-false, eqb-true, eqb-false}
-use Rattle.lists.specs.Refusals.{none-of}
+use Rattle.lists.specs.Refusals.{none-of, let-through}
 use Rattle.optics.specs.Check.{lensTaken}
 use Rattle.variables.specs.Active.{numActive}
 use Rattle.variables.specs.Taken.{variablesTaken}
@@ -24,9 +24,6 @@ pub record Passed (j : Job) : Type 0 where
   pub enabled : 0 < numActive (j .variables)
   pub some-operand : 0 < j .«merit_function» .«operand_count»
 
-not-refusing : (b : Bool) → not b ≡ false → T b
-not-refusing b e = subst T (sym (not-false b e)) tt
-
 some : (n : ℕ) → eqb n 0 ≡ false → 0 < n
 some zero e = absurd (eqb-false 0 0 e refl)
 some (suc n) e = zero-lt-suc n
@@ -37,10 +34,10 @@ passed j taken =
     let rs = jobRefusals j in
     record {
       counted = counts j (not-false (countsTaken j) (none-of rs 1 none));
-      lens = not-refusing (lensTaken (j .prescription)) (none-of rs 3 none);
-      variables = not-refusing (variablesTaken (j .prescription .«surface_count») (j .variables)) (none-of rs 4 none);
-      operands = not-refusing (operandsTaken (j .prescription .«slot_count») (j .«merit_function»)) (none-of rs 5 none);
-      settings = not-refusing (settingsTaken (j .method)) (none-of rs 6 none);
+      lens = let-through (lensTaken (j .prescription)) (none-of rs 3 none);
+      variables = let-through (variablesTaken (j .prescription .«surface_count») (j .variables)) (none-of rs 4 none);
+      operands = let-through (operandsTaken (j .prescription .«slot_count») (j .«merit_function»)) (none-of rs 5 none);
+      settings = let-through (settingsTaken (j .method)) (none-of rs 6 none);
       enabled = some (numActive (j .variables)) (none-of rs 7 none);
       some-operand = some (j .«merit_function» .«operand_count») (none-of rs 8 none);
     }

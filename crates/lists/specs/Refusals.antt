@@ -1,7 +1,7 @@
 -- Refusals: "The lowest number that applies is returned". A call has a list of them, in the order of its checks; a refusal is spoken of by its number, never by
 -- its place in the list. Assumes nothing.
 use mathlib.Core.Path.{_≡_, refl, sym, _∙_}
-use mathlib.Core.Bool.{Bool, true, false, not, cond, _&&_, _||_, false≢true}
+use mathlib.Core.Bool.{Bool, true, false, not, cond, _&&_, _||_, true≢false, false≢true}
 use mathlib.Core.List.{List, [], _∷_, _++_}
 use mathlib.Core.Logic.{_↔_}
 use Prim.Native.Nat.{ℕ}
@@ -173,3 +173,16 @@ none-next (r ∷ rs) n h e = go (eqb (r .number) n) h e (none-next rs n)
         NoneOf (before (firstNumber (cond b rs (behind n rs))) (r ∷ rs))
     go true h e later = in-front (firstNumber rs) (eqb (r .number) (firstNumber rs)) e (none-first rs)
     go false h e later = in-front (nextTo n rs) (eqb (r .number) (nextTo n rs)) (h .0) (later (h .1) e)
+
+pub none-both : (rs more : List Refusal) → NoneOf rs → NoneOf more → NoneOf (rs ++ more)
+none-both [] more n m = m
+none-both (r ∷ rs) more n m = (n .0, none-both rs more (n .1) m)
+
+-- a cause that is a test turned round: where it does not hold the test does, and the other way round
+pub let-through : (test : Bool) → not test ≡ false → T test
+let-through true e = tt
+let-through false e = absurd (true≢false e)
+
+pub not-refusing : (test : Bool) → T test → not test ≡ false
+not-refusing true t = refl
+not-refusing false t = absurd t

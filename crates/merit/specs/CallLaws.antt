@@ -1,6 +1,6 @@
 -- What callers may use of the calls' refusals: each number is answered exactly when its cause holds and no cause in front of it does. Assumes nothing.
 use mathlib.Core.Path.{_≡_, refl, sym, _∙_, subst}
-use mathlib.Core.Bool.{Bool, true, false, not, cond, _&&_, true≢false}
+use mathlib.Core.Bool.{Bool, true, false, not, cond, _&&_}
 use mathlib.Core.Logic.{_↔_}
 use Prim.Native.Nat.{ℕ, zero, suc, _≤_, _<_}
 use native.Mathlib.Nat.{lt-irrefl, lt-of-le-of-lt}
@@ -8,7 +8,7 @@ use native.Mathlib.Omega.{arith}
 use borrow.Author.Tests.{ltb-true, ltb-false}
 use lib.Dec.{T, leb, ltb, eqb, leb→le, ltb→lt, eqb→eq}
 use lib.Ieee.Fits.{and-l, and-r}
-use Rattle.lists.specs.Refusals.{NoneOf, before, answers, answers-none, none-of}
+use Rattle.lists.specs.Refusals.{NoneOf, before, answers, answers-none, none-of, let-through}
 use Rattle.optics.specs.Kept.{lensCountsTaken}
 use Rattle.optics.specs.Check.{lensTaken}
 use Rattle.optics.specs.declared.types.OpticalPrescription.{OpticalPrescription}
@@ -19,10 +19,6 @@ use Rattle.merit.specs.declared.types.MeritEvaluation.{MeritEvaluation}
 use Rattle.merit.specs.declared.types.MeritFunction.{MeritFunction}
 use Rattle.merit.specs.declared.types.Traced.{Traced}
 use Rattle.merit.specs.declared.types.Traced.the-variants.{Done, Failed, Refused}
-
-passed : (b : Bool) → not b ≡ false → T b
-passed true e = tt
-passed false e = absurd (true≢false e)
 
 counts-parts : (surfaces slots : ℕ) → T (lensCountsTaken surfaces slots) → (surfaces ≤ 16) × (1 ≤ slots) × (slots ≤ 4)
 counts-parts surfaces slots t =
@@ -36,7 +32,7 @@ counts-parts surfaces slots t =
 pub counts-room : (p : OpticalPrescription) {b : Bool} → b ≡ lensCountsTaken (p .«surface_count») (p .«slot_count») → not b ≡ false
     → (p .«surface_count» ≤ 16) × (p .«slot_count» ≤ 4)
 counts-room p {b} e h =
-    let k = counts-parts (p .«surface_count») (p .«slot_count») (subst T e (passed b h)) in
+    let k = counts-parts (p .«surface_count») (p .«slot_count») (subst T e (let-through b h)) in
     (k .0, k .2)
 
 -- ---- what a refusal leaves
@@ -86,15 +82,15 @@ module _ (p : OpticalPrescription) (f : MeritFunction) where
   pub evaluable : evaluateNumber p f ≡ 0 → Evaluable
   evaluable e =
       let h = evaluate-0 .0 e in
-      let c = passed counted (none-of (evaluateRefusals p f) 1 h) in
+      let c = let-through counted (none-of (evaluateRefusals p f) 1 h) in
       let k = counts-parts (p .«surface_count») (p .«slot_count»)
       (and-l (lensCountsTaken (p .«surface_count») (p .«slot_count»)) (leb (f .«operand_count») 12) c) in
       record {
         surfaces = k .0;
         slots = k .2;
         operands = leb→le (f .«operand_count») 12 (and-r (lensCountsTaken (p .«surface_count») (p .«slot_count»)) (leb (f .«operand_count») 12) c);
-        lens = passed (lensTaken p) (none-of (evaluateRefusals p f) 3 h);
-        taken = passed (operandsTaken (p .«slot_count») f) (none-of (evaluateRefusals p f) 5 h);
+        lens = let-through (lensTaken p) (none-of (evaluateRefusals p f) 3 h);
+        taken = let-through (operandsTaken (p .«slot_count») f) (none-of (evaluateRefusals p f) 5 h);
       }
 
 -- ---- trace
@@ -191,14 +187,14 @@ module _ (p : OpticalPrescription) (slot rows : ℕ) where
   pub traceable : traceNumber p slot rows ≡ 0 → Traceable
   traceable e =
       let h = trace-0 .0 (traced-number ∙ e) in
-      let c = passed fitting (none-of (traceRefusals p slot rows) 1 h) in
+      let c = let-through fitting (none-of (traceRefusals p slot rows) 1 h) in
       let k = counts-parts (p .«surface_count») (p .«slot_count»)
       (and-l (lensCountsTaken (p .«surface_count») (p .«slot_count»)) (eqb rows (p .«surface_count»)) c) in
-      let l : slot < p .«slot_count» = ltb→lt slot (p .«slot_count») (passed (ltb slot (p .«slot_count»)) (none-of (traceRefusals p slot rows) 5 h)) in
+      let l : slot < p .«slot_count» = ltb→lt slot (p .«slot_count») (let-through (ltb slot (p .«slot_count»)) (none-of (traceRefusals p slot rows) 5 h)) in
       record {
         surfaces = k .0;
         row = eqb→eq rows (p .«surface_count») (and-r (lensCountsTaken (p .«surface_count») (p .«slot_count»)) (eqb rows (p .«surface_count»)) c);
-        lens = passed (lensTaken p) (none-of (traceRefusals p slot rows) 3 h);
+        lens = let-through (lensTaken p) (none-of (traceRefusals p slot rows) 3 h);
         there = l;
         below = omega (arith, k .2);
       }

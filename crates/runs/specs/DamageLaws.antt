@@ -1,13 +1,14 @@
 -- Law 5: "a turn of any undamaged unfinished row gives an undamaged row, unless that one is unfinished with its turns at the bound"; rows reached from
 -- admission are never damaged. Assumes nothing but what is named.
 use mathlib.Core.Path.{_≡_, refl, sym, _∙_, subst}
-use mathlib.Core.Bool.{Bool, true, false, not, _&&_, _||_, true≢false}
+use mathlib.Core.Bool.{Bool, true, false, _&&_, _||_}
 use Prim.Native.Nat.{ℕ, max, _<_}
 use native.Mathlib.Nat.{le-max-right}
 use native.Mathlib.Omega.{arith}
 use lib.Dec.{T, ltb, lt→ltb}
 use lib.Ieee.Bits.{is-true}
 use lib.Ieee.Fits.{and-i, and-l, and-r}
+use Rattle.lists.specs.Refusals.{let-through, not-refusing}
 use Rattle.merit.specs.declared.types.MeritEvaluation.{MeritEvaluation}
 use Rattle.jobs.specs.declared.types.Job.{Job}
 use Rattle.jobs.specs.declared.types.Method.{Method}
@@ -52,20 +53,12 @@ advance-sound r e u h =
     let job = jobOfRow r in
     (h .0, sound-to m job (advanceBy m job (stateOf r) e) (sound-by m job (undamaged-usable r h) (stateOf r) e u (sound-from m job (stateOf r) (h .1))))
 
-not-false : (b : Bool) → not b ≡ false → T b
-not-false true h = tt
-not-false false h = absurd (true≢false h)
-
-is-false : (b : Bool) → T b → not b ≡ false
-is-false true t = refl
-is-false false t = absurd t
-
 pub parts : (r : Row) → damaged r ≡ false → SoundRow r
 unfolding damaged
 parts r h =
     let j = jobSound r in
     let s = stateSound (jobOfRow r .method) (jobOfRow r) (stateOf r) in
-    let t = and-l (j && s) (turnsSound r) (not-false (j && s && turnsSound r) h) in
+    let t = and-l (j && s) (turnsSound r) (let-through (j && s && turnsSound r) h) in
     (and-l j s t, and-r j s t)
 
 pub turns-part : (r : Row) → damaged r ≡ false → T (turnsSound r)
@@ -73,14 +66,14 @@ unfolding damaged
 turns-part r h =
     let j = jobSound r in
     let s = stateSound (jobOfRow r .method) (jobOfRow r) (stateOf r) in
-    and-r (j && s) (turnsSound r) (not-false (j && s && turnsSound r) h)
+    and-r (j && s) (turnsSound r) (let-through (j && s && turnsSound r) h)
 
 pub whole : (r : Row) → SoundRow r → T (turnsSound r) → damaged r ≡ false
 unfolding damaged
 whole r h t =
     let j = jobSound r in
     let s = stateSound (jobOfRow r .method) (jobOfRow r) (stateOf r) in
-    is-false (j && s && turnsSound r) (and-i (j && s) (turnsSound r) (and-i j s (h .0) (h .1)) t)
+    not-refusing (j && s && turnsSound r) (and-i (j && s) (turnsSound r) (and-i j s (h .0) (h .1)) t)
 
 pub undamaged-advance : (r : Row) (e : MeritEvaluation) → damaged r ≡ false → isFinished r ≡ false → T (turnsSound (advance r e))
     → damaged (advance r e) ≡ false
