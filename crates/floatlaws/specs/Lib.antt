@@ -8,6 +8,7 @@ pub mod Examples
 pub mod CallerLaws
 pub mod Order
 pub mod Monotone
+pub mod Risen
 -- Steps of the proofs.
 pub mod NearestUnits
 pub mod Fractions

@@ -12,6 +12,7 @@ use Rattle.floats.specs.Constants.{zero64}
 use Rattle.floatlaws.specs.Fractions.{Finite}
 use Rattle.floatlaws.specs.Order.{Number, le-trans, lt→le, le-self, le-numbers, not-lt→le}
 use Rattle.floatlaws.specs.CallerLaws.{finite-test, finite-number}
+use Rattle.floatlaws.specs.Risen.{risen}
 use Rattle.xorshift.specs.Xorshift.{stepOf}
 use Rattle.xorshift.specs.Draws.{unitOf}
 use Rattle.merit.specs.declared.types.MeritEvaluation.{MeritEvaluation}
@@ -19,7 +20,6 @@ use Rattle.runs.specs.declared.types.OptimizationResult.{OptimizationRes
 use Rattle.runs.specs.Run.{Surfaces, Run, done, ask, evaluate, bind, _>>=_, afterMerit, afterMerits, isDone, after-first, value, value-bind}
 use Rattle.runs.specs.Ends.{Ends-value}
 use Rattle.runs.specs.Asked.{Asks, meritCount, asked, goes-on, Asks-bind, count-bind, asks-early}
-use Rattle.runs.specs.Risen.{risen}
 use Rattle.runs.specs.DampedRun.{Optimizer, Current, damped}
 use Rattle.runs.specs.DampedEnds.{ends-damped}
 use Rattle.runs.specs.RunEnds.{By, FiniteAnswer, damped-descends}

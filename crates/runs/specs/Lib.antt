@@ -36,7 +36,6 @@ pub mod MultiStartBase
 pub mod Prefix
 pub mod MultiStartBest
 pub mod Asked
-pub mod Risen
 pub mod AnnealingBest
 pub mod Moved
 pub mod TurnLaws

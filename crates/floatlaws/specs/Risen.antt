@@ -1,4 +1,4 @@
--- A merit whose difference from another is not at most zero is not below it, rounded as the difference is. Assumes nothing.
+-- A number whose difference from another is not at most zero is not below it, rounded as the difference is. Assumes nothing.
 use mathlib.Core.Path.{refl}
 use mathlib.Core.Logic.{inl, inr}
 use mathlib.Core.Bool.{Bool, true, false, not, _&&_, cond}
