@@ -1,5 +1,6 @@
 -- A job's result and the merits that its run works out, under the evaluation of its own lens: every one is finite. Assumes nothing.
 use mathlib.Core.Path.{_≡_, sym, subst}
+use mathlib.Core.Bool.{false}
 use Prim.Native.Nat.{ℕ, _*_, _≤_, _<_}
 use lib.Dec.{T}
 use lib.Ieee.{Float, le}
@@ -9,12 +10,12 @@ use Rattle.jobs.specs.declared.types.Method.{Method}
 use Rattle.jobs.specs.declared.types.Method.the-variants.{MultiStart, Annealing}
 use Rattle.jobs.specs.declared.types.MultiStartConfig.{MultiStartConfig}
 use Rattle.jobs.specs.declared.types.SimulatedAnnealingConfig.{SimulatedAnnealingConfig}
-use Rattle.runs.specs.Run.{Surfaces, Run, ask, afterMerits, value}
+use Rattle.runs.specs.Run.{Surfaces, Run, ask, afterMerits, isDone, value}
 use Rattle.runs.specs.JobRun.{Result, baseOf, optimizerOf, annealerOf, runBy, run}
 use Rattle.runs.specs.JobMerit.{evaluateOf}
 use Rattle.runs.specs.TurnLaws.{merit-finite}
 use Rattle.runs.specs.MultiStartBest.{trialResult, not-above-trial}
-use Rattle.runs.specs.AnnealingBest.{not-above-walk}
+use Rattle.runs.specs.AnnealingBest.{walk-whole, not-above-walk}
 
 module _ (job : Job) where
   abbrev finalBy : Method → Float
@@ -40,3 +41,11 @@ module _ (job : Job) where
       let f = evaluateOf job in
       subst (λ (m : Method). afterMerits f k (runBy m job) ≡ ask s next → T (le (finalBy m) (f s .«total_merit»))) (sym e)
       (λ q. not-above-walk f (annealerOf job config) (merit-finite job) (baseOf job) s k next l q) h
+
+  -- and it works out all of these: it is not over before
+  pub annealing-whole : (config : SimulatedAnnealingConfig) → job .method ≡ Annealing config → (k : ℕ)
+      → k ≤ config .«max_cooling_cycles» * config .«steps_per_temperature» → isDone (afterMerits (evaluateOf job) k (run job)) ≡ false
+  unfolding run runBy
+  annealing-whole config e k l =
+      subst (λ (m : Method). isDone (afterMerits (evaluateOf job) k (runBy m job)) ≡ false) (sym e)
+      (walk-whole (evaluateOf job) (annealerOf job config) (baseOf job) k l)
