@@ -50,11 +50,11 @@ unfoldable pub zeroRow : Row
 zeroRow = rowOf zeroJob 0 0 (alone (atFirst zeroSurfaces))
 
 abbrev pub emptyBench : Bench
-emptyBench = record { rows = replicate 4 (heldFrom zeroRow) }
+emptyBench = record { rows = replicate 4 (heldFrom zeroRow); «next_place» = 0 }
 
 -- ---- A bench holds each row as arrays of numbers: `rowFrom` reads one, `heldFrom` writes one (held)
 abbrev pub withHeld : Bench → (place : ℕ) → HeldRow → Bench
-withHeld b place h = record { rows = set (b .rows) place h }
+withHeld b place h = record { rows = set (b .rows) place h; «next_place» = b .«next_place» }
 
 abbrev pub withRow : Bench → (place : ℕ) → Row → Bench
 withRow b place r = withHeld b place (heldFrom r)

@@ -1,8 +1,8 @@
 -- 01's plain book: "four entries, each empty or a job with a count". It knows no row. Definitions only.
 use Prim.Native.Nat.{ℕ, zero, suc}
-use mathlib.Core.Bool.{Bool, true, false, not, cond}
+use mathlib.Core.Bool.{Bool, true, false, not, cond, _&&_}
 use mathlib.Core.List.{List, [], _∷_}
-use lib.ListN.{getD, set, replicate}
+use lib.ListN.{length, getD, set, replicate}
 use Rattle.lists.specs.Refusals.{Refusal, refusal, firstRefusal}
 use Rattle.merit.specs.Calls.{unlessRefused}
 use Rattle.jobs.specs.declared.types.Job.{Job}
@@ -14,6 +14,7 @@ use Rattle.runs.specs.Zeros.{zeroResult}
 use Rattle.runs.specs.JobMerit.{evaluateOf}
 use Rattle.bench.specs.Refusals.{noPlace, scratchShort, admitRefusals}
 use Rattle.bench.specs.Order.{ordered}
+use Rattle.bench.specs.Dealing.{placeAfter, Dealer, served}
 
 -- ---- Calls and answers
 -- "It is fed each call with its arguments, but not the bench, and of scratch only the length."
@@ -23,17 +24,19 @@ pub data Call : Type 0 where
   fetch : (place : ℕ) → Call
   release : (place : ℕ) → Call
   listing : Call
+  deal : (turns scratchLength : ℕ) → Call
 
--- a number, 0 where the call was done; the result, where a fetch was done; or the places listed
+-- a number, 0 where the call was done; the result, where a fetch was done; the places listed; or how many turns were dealt
 pub data Answer : Type 0 where
   number : ℕ → Answer
   fetched : Result → Answer
   listed : List ℕ → Answer
+  dealt : ℕ → Answer
 
--- a fetch's answer: the number where it is refused, else the result
-abbrev pub fetchedUnless : (refused : ℕ) → Result → Answer
-fetchedUnless zero r = fetched r
-fetchedUnless (suc n) r = number (suc n)
+-- the answer of a fetch or a dealing: the number where it is refused
+abbrev pub answerUnless : (refused : ℕ) → Answer → Answer
+answerUnless zero a = a
+answerUnless (suc n) a = number (suc n)
 
 -- those of a list of places that pass a test, and those of the four
 abbrev pub chosen : (ℕ → Bool) → List ℕ → List ℕ
@@ -48,18 +51,20 @@ pub data Entry : Type 0 where
   empty : Entry
   holds : Job → (count : ℕ) → Entry
 
+-- "the book keeps such a place": the one to go next (request 8)
 pub record Book : Type 0 where
   pub entries : List Entry
+  pub next : ℕ
 
 -- "all empty at first"
 abbrev pub emptyBook : Book
-emptyBook = record { entries = replicate 4 empty }
+emptyBook = record { entries = replicate 4 empty; next = 0 }
 
 abbrev pub entryAt : Book → (place : ℕ) → Entry
 entryAt b place = getD (b .entries) place empty
 
 abbrev pub withEntry : Book → (place : ℕ) → Entry → Book
-withEntry b place e = record { entries = set (b .entries) place e }
+withEntry b place e = record { entries = set (b .entries) place e; next = b .next }
 
 -- "Taken and empty are said of its entries"
 abbrev pub isEmpty : Entry → Bool
@@ -129,14 +134,44 @@ fetchNumber b place = firstRefusal (fetchRefusals b place)
 abbrev pub releaseNumber : Book → (place : ℕ) → ℕ
 releaseNumber b place = firstRefusal (releaseRefusals b place)
 
+-- "Before the first turn, with N of 0 too, a dealing checks 9" (request 8)
+abbrev pub dealNumber : (length : ℕ) → ℕ
+dealNumber length = firstRefusal (refusal 9 (scratchShort length) ∷ [])
+
+-- ---- "deals by this rule" (request 8)
+-- "skipping empty and finished ones"
+abbrev pub isLive : Entry → Bool
+isLive e = not (isEmpty e) && not (isFinished e)
+
+abbrev pub servedBook : Book → (place : ℕ) → Book
+servedBook b place = record { entries = set (b .entries) place (counted (entryAt b place)); next = placeAfter place }
+
+abbrev pub bookDealer : Dealer Book
+bookDealer = record { live = λ b place. isLive (entryAt b place); serve = servedBook; next = λ b. b .next }
+
+-- the places that a dealing serves, in order: none where it is refused
+abbrev pub servedIn : Book → (turns length : ℕ) → List ℕ
+servedIn b turns length = unlessRefused (dealNumber length) (served bookDealer turns b) []
+
+-- ---- Lists of calls, or of turns dealt, each on what the last one left
+unfoldable pub leftBy : {S C : Type 0} → (step : S → C → S) → S → List C → S
+leftBy step s [] = s
+leftBy step s (c ∷ cs) = leftBy step (step s c) cs
+
+unfoldable pub answersBy : {S C A : Type 0} → (answer : S → C → A) (step : S → C → S) → S → List C → List A
+answersBy answer step s [] = []
+answersBy answer step s (c ∷ cs) = answer s c ∷ answersBy answer step (step s c) cs
+
 -- ---- What a call answers, and what it makes of the book: "a refused call changes nothing"
 unfoldable pub bookAnswer : Book → Call → Answer
 bookAnswer b (admit place request) = number (admitNumber b place request)
 bookAnswer b (turn place length) = number (turnNumber b place length)
 -- "fetch answers the run's result"
-bookAnswer b (fetch place) = fetchedUnless (fetchNumber b place) (resultOf (entryAt b place))
+bookAnswer b (fetch place) = answerUnless (fetchNumber b place) (fetched (resultOf (entryAt b place)))
 bookAnswer b (release place) = number (releaseNumber b place)
 bookAnswer b listing = listed (finishedPlaces b)
+-- "answers how many were dealt"
+bookAnswer b (deal turns scratch) = answerUnless (dealNumber scratch) (dealt (length (servedIn b turns scratch)))
 
 unfoldable pub bookStep : Book → Call → Book
 -- "Else admit enters the job, defaults filled in, with count 0"
@@ -147,16 +182,9 @@ bookStep b (fetch place) = b
 -- "release empties the entry"
 bookStep b (release place) = unlessRefused (releaseNumber b place) (withEntry b place empty) b
 bookStep b listing = b
+bookStep b (deal turns scratch) = leftBy servedBook b (servedIn b turns scratch)
 
--- ---- Lists of calls, each on what the last one left
-unfoldable pub leftBy : {S C : Type 0} → (step : S → C → S) → S → List C → S
-leftBy step s [] = s
-leftBy step s (c ∷ cs) = leftBy step (step s c) cs
-
-unfoldable pub answersBy : {S C A : Type 0} → (answer : S → C → A) (step : S → C → S) → S → List C → List A
-answersBy answer step s [] = []
-answersBy answer step s (c ∷ cs) = answer s c ∷ answersBy answer step (step s c) cs
-
+-- from the empty book
 abbrev pub bookAfter : List Call → Book
 bookAfter calls = leftBy bookStep emptyBook calls
 

@@ -1,8 +1,8 @@
 -- For each number of each call a law: it is answered exactly when its cause holds and none in front of it in the call's list does. And what a refused call
 -- was lent stays. Assumes nothing.
 use mathlib.Core.Path.{_≡_, ap}
-use mathlib.Core.Bool.{true, false, not}
-use mathlib.Core.List.{List, _++_}
+use mathlib.Core.Bool.{true, false, not, _||_}
+use mathlib.Core.List.{List, [], _++_}
 use mathlib.Core.Logic.{_↔_}
 use Prim.Native.Nat.{ℕ, suc, _≤_, _<_}
 use native.Mathlib.Omega.{arith}
@@ -21,9 +21,10 @@ use Rattle.runs.specs.JobRun.{Result}
 use Rattle.runs.specs.Rows.{isFinished, resultOf}
 use Rattle.bench.specs.declared.types.Bench.{Bench}
 use Rattle.bench.specs.Refusals.{noPlace, scratchShort, admitRefusals}
+use Rattle.bench.specs.Dealing.{served}
 use Rattle.bench.specs.Benches.{rowAt}
 use Rattle.bench.specs.Calls.{isVacant, admitNumber, turnRefusals, turnNumber, scratchAfter, fetchRefusals, fetchNumber, fetchedResult, releaseRefusals}
-use Rattle.bench.specs.Calls.{releaseNumber}
+use Rattle.bench.specs.Calls.{releaseNumber, anyDamaged, dealRefusals, dealNumber, servedIn, dealtScratch, clearedBy, benchDealer}
 
 -- "Scratch from 128 upward is taken, and 9 is now given below 128." (request 11)
 pub short-below : (length : ℕ) → length < 128 → scratchShort length ≡ true
@@ -147,3 +148,23 @@ module _ (b : Bench) (place : ℕ) where
   pub release-11 : (releaseNumber b place ≡ 11) ↔ ((isVacant (rowAt b place) ≡ true) × NoneOf (before 11 (releaseRefusals b place)))
   unfolding releaseNumber
   release-11 = answers (releaseRefusals b place) 11 tt tt
+
+-- ---- dealing (request 8)
+module _ (b : Bench) (n : ℕ) where
+  pub deal-0 : (dealNumber b n ≡ 0) ↔ NoneOf (dealRefusals b n)
+  unfolding dealNumber
+  deal-0 = answers-none (dealRefusals b n) tt
+
+  pub deal-9 : (dealNumber b n ≡ 9) ↔ ((scratchShort n ≡ true) × NoneOf (before 9 (dealRefusals b n)))
+  unfolding dealNumber
+  deal-9 = answers (dealRefusals b n) 9 tt tt
+
+  pub deal-12 : (dealNumber b n ≡ 12) ↔ ((noPlace (b .«next_place») || anyDamaged b ≡ true) × NoneOf (before 12 (dealRefusals b n)))
+  unfolding dealNumber
+  deal-12 = answers (dealRefusals b n) 12 tt tt
+
+-- a refused dealing serves nobody, and scratch stays
+pub refused-dealing : (b : Bench) (turns : ℕ) (s : List Float) (n : ℕ) → dealNumber b (length s) ≡ suc n →
+    (servedIn b turns (length s) ≡ []) × (dealtScratch b turns s ≡ s)
+refused-dealing b turns s n e =
+    let none = stays (dealNumber b (length s)) n (served benchDealer turns b) [] e in (none, ap (λ (ps : List ℕ). clearedBy ps s) none)

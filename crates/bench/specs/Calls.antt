@@ -1,10 +1,11 @@
 -- What each call answers and what it leaves: the definitions that the calls' contracts cite, over any bench whatever. Definitions only.
 use Prim.Native.Nat.{ℕ, _-_}
-use mathlib.Core.Bool.{Bool, not, _&&_}
+use mathlib.Core.Bool.{Bool, not, _&&_, _||_}
 use mathlib.Core.List.{List, [], _∷_, _++_}
 use lib.Dec.{eqb}
 use lib.Ieee.{Float}
-use lib.ListN.{length, take, replicate}
+use lib.ListN.{length, take, set, replicate}
+use Rattle.lists.specs.All.{allBelow}
 use Rattle.lists.specs.Refusals.{Refusal, refusal, firstRefusal}
 use Rattle.merit.specs.Calls.{unlessRefused}
 use Rattle.jobs.specs.declared.types.JobRequest.{JobRequest}
@@ -15,11 +16,14 @@ use Rattle.runs.specs.Rows.{admitted, isFinished, resultOf}
 use Rattle.runs.specs.Damage.{damaged}
 use Rattle.runs.specs.declared.types.Row.{Row}
 use Rattle.runs.specs.Turn.{turned}
+use Rattle.held.specs.Written.{heldFrom}
 use Rattle.bench.specs.Refusals.{noPlace, scratchShort, admitRefusals}
 use Rattle.bench.specs.Order.{ordered}
-use Rattle.bench.specs.Book.{Call, admit, turn, fetch, release, listing, Answer, number, listed, fetchedUnless, placesWhere}
+use Rattle.bench.specs.Dealing.{placeAfter, Dealer, served}
+use Rattle.bench.specs.Book.{Call, admit, turn, fetch, release, listing, deal, Answer, number, fetched, listed, dealt, answerUnless, placesWhere, leftBy}
 use Rattle.bench.specs.Benches.{zeroRow, rowAt, withRow}
 use Rattle.bench.specs.declared.types.Bench.{Bench}
+use Rattle.bench.specs.declared.types.Dealt.{Dealt}
 use Rattle.bench.specs.declared.types.Finished.{Finished}
 
 -- "a place is empty exactly when its kind is 0, all else in the row disregarded"
@@ -108,13 +112,58 @@ listingOf b = record { places = finishedPlaces b ++ replicate (4 - length (finis
 abbrev pub placesIn : Finished → List ℕ
 placesIn f = take (f .count) (f .places)
 
+-- ---- dealing (request 8): "a dealing checks 9, then gives 12 for a next place above 3 or any taken row that is damaged"
+abbrev pub takenDamaged : Row → Bool
+takenDamaged r = not (isVacant r) && damaged r
+
+-- at one of the four places at least
+abbrev pub anyDamaged : Bench → Bool
+anyDamaged b = not (allBelow (λ (place : ℕ). not (takenDamaged (rowAt b place))) 4)
+
+abbrev pub dealRefusals : Bench → (length : ℕ) → List Refusal
+dealRefusals b length = refusal 9 (scratchShort length) ∷ refusal 12 (noPlace (b .«next_place») || anyDamaged b) ∷ []
+
+unfoldable pub dealNumber : Bench → (length : ℕ) → ℕ
+dealNumber b length = firstRefusal (dealRefusals b length)
+
+-- "skipping empty and finished ones"; "a row that comes to be damaged during the dealing is skipped from then on"
+abbrev pub isLive : Row → Bool
+isLive r = not (isVacant r) && not (damaged r) && not (isFinished r)
+
+-- one working turn; the place to go next is the one after it
+abbrev pub servedBench : Bench → (place : ℕ) → Bench
+servedBench b place = record { rows = set (b .rows) place (heldFrom (turned (rowAt b place))); «next_place» = placeAfter place }
+
+abbrev pub benchDealer : Dealer Bench
+benchDealer = record { live = λ b place. isLive (rowAt b place); serve = servedBench; next = λ b. b .«next_place» }
+
+-- the places that a dealing serves, in order: none where it is refused
+abbrev pub servedIn : Bench → (turns length : ℕ) → List ℕ
+servedIn b turns length = unlessRefused (dealNumber b length) (served benchDealer turns b) []
+
+abbrev pub dealtBench : Bench → (turns length : ℕ) → Bench
+dealtBench b turns length = leftBy servedBench b (servedIn b turns length)
+
+-- "answers how many were dealt"
+abbrev pub dealtOf : Bench → (turns length : ℕ) → Dealt
+dealtOf b turns scratch = record { dealt = length (servedIn b turns scratch); number = dealNumber b scratch }
+
+-- each turn clears it
+abbrev pub clearedBy : (served : List ℕ) → List Float → List Float
+clearedBy [] s = s
+clearedBy (p ∷ ps) s = cleared s
+
+abbrev pub dealtScratch : Bench → (turns : ℕ) → List Float → List Float
+dealtScratch b turns s = clearedBy (servedIn b turns (length s)) s
+
 -- ---- A call on a bench, as the book is fed it
 unfoldable pub benchAnswer : Bench → Call → Answer
 benchAnswer b (admit place request) = number (admitNumber b place request)
 benchAnswer b (turn place length) = number (turnNumber b place length)
-benchAnswer b (fetch place) = fetchedUnless (fetchNumber b place) (resultOf (rowAt b place))
+benchAnswer b (fetch place) = answerUnless (fetchNumber b place) (fetched (resultOf (rowAt b place)))
 benchAnswer b (release place) = number (releaseNumber b place)
 benchAnswer b listing = listed (placesIn (listingOf b))
+benchAnswer b (deal turns scratch) = answerUnless (dealNumber b scratch) (dealt (length (servedIn b turns scratch)))
 
 unfoldable pub benchStep : Bench → Call → Bench
 benchStep b (admit place request) = admittedBench b place request
@@ -122,3 +171,4 @@ benchStep b (turn place length) = turnedBench b place length
 benchStep b (fetch place) = b
 benchStep b (release place) = releasedBench b place
 benchStep b listing = b
+benchStep b (deal turns scratch) = dealtBench b turns scratch

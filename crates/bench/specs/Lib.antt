@@ -1,9 +1,13 @@
 -- The bench: 01's plain book (`Book`), what each call does to a bench (`Calls`), the statement that the two agree (`Theorem`), and its proof (`Proved`).
 pub mod Refusals
 pub mod Order
+pub mod Dealing
 pub mod Book
 pub mod Benches
 pub mod Calls
+pub mod Rounds
+pub mod Fair
+pub mod DealLaws
 pub mod Limits
 pub mod Accepted
 pub mod CallLaws
@@ -15,4 +19,5 @@ pub mod Admission
 pub mod Results
 pub mod Places
 pub mod Agreement
+pub mod Dealings
 pub mod Proved

@@ -5,7 +5,8 @@ use mathlib.Core.List.{List, [], _∷_}
 use mathlib.Core.Logic.{_↔_, _≢_}
 use Prim.Native.Nat.{ℕ, zero, suc, _≤_, _<_, zero-le}
 use lib.Dec.{T}
-use lib.ListN.{getD}
+use native.Mathlib.Omega.{arith}
+use lib.ListN.{length, getD}
 use lib.Seq.{getD-set-other, ext-getD}
 use borrow.Author.Tests.{not-false}
 use Rattle.lists.specs.Refusals.{firstRefusal, answers-none, none-of}
@@ -46,12 +47,13 @@ use Rattle.held.specs.declared.types.HeldRow.{HeldRow}
 use Rattle.bench.specs.declared.types.Bench.{Bench}
 use Rattle.runs.specs.JobMerit.{lensWith, evaluateOf}
 use Rattle.runs.specs.Turn.{turned}
-use Rattle.bench.specs.Book.{Call, admit, turn, fetch, release, listing, Answer, number, fetched, listed, fetchedUnless, Entry, empty, holds, Book}
+use Rattle.bench.specs.Dealing.{served}
+use Rattle.bench.specs.Book.{Call, admit, turn, fetch, release, listing, deal, Answer, number, fetched, listed, dealt, answerUnless, Entry, empty, holds, Book}
 use Rattle.bench.specs.Book.{emptyBook, entryAt, isEmpty, isFinished, resultOf, countOf, placesWhere}
 use Rattle.bench.specs.Book.{runAfter, leftBy, answersBy, bookAnswer, bookStep, bookAfter}
 use Rattle.bench.specs.Book as Book
 use Rattle.bench.specs.Benches.{zeroRow, noRow, emptyBench, heldAt, rowAt, withRow}
-use Rattle.bench.specs.Calls.{isVacant, turnNumber, benchAnswer, benchStep}
+use Rattle.bench.specs.Calls.{isVacant, turnNumber, benchDealer, servedBench, benchAnswer, benchStep}
 use Rattle.bench.specs.Calls as Calls
 use Rattle.bench.specs.CallLaws.{stays}
 use Rattle.bench.specs.Pairs.{none, both, pair-getD, pair-map}
@@ -60,11 +62,12 @@ use Rattle.bench.specs.Places.{KeptRow, not-vacant, undamaged, zero-vaca
 use Rattle.bench.specs.OrderLaws.{ordered-perm, rising-ordered}
 use Rattle.bench.specs.Agreement.{Agree, kept-at, same-answer, agree-step}
 use Rattle.bench.specs.Results.{evaluable, returned}
+use Rattle.bench.specs.Dealings.{dealt-turns, dealt-rows, next-place, fair-run, within-run}
 use Rattle.bench.specs.Theorem.{benchAfter, SameBench, RowHolds, SamePlace, Returned, ReturnedBy, Demand3}
 
 -- ---- lists of calls
 agree-empty : Agree emptyBench emptyBook
-agree-empty = let z = held-kept zeroRow empty refl in record { places = both z (both z (both z (both z none))); four = refl }
+agree-empty = let z = held-kept zeroRow empty refl in record { places = both z (both z (both z (both z none))); four = refl; next = refl; below = omega arith }
 
 agree-left : (calls : List Call) (b : Bench) (k : Book) → Agree b k → Agree (leftBy benchStep b calls) (leftBy bookStep k calls)
 unfolding leftBy
@@ -173,14 +176,24 @@ numberIn : Answer → ℕ
 numberIn (number n) = n
 numberIn (fetched r) = 0
 numberIn (listed l) = 0
+numberIn (dealt n) = 0
 
 refused-changes-nothing : (b : Bench) (c : Call) (n : ℕ) → benchAnswer b c ≡ number (suc n) → benchStep b c ≡ b
-unfolding benchAnswer benchStep numberIn
+unfolding benchAnswer benchStep numberIn leftBy
 refused-changes-nothing b (admit place r) n e = stays (Calls.admitNumber b place r) n (withRow b place (Rows.admitted (jobFrom r))) b (ap numberIn e)
 refused-changes-nothing b (turn place l) n e = stays (turnNumber b place l) n (withRow b place (turned (rowAt b place))) b (ap numberIn e)
 refused-changes-nothing b (fetch place) n e = refl
 refused-changes-nothing b (release place) n e = stays (Calls.releaseNumber b place) n (withRow b place zeroRow) b (ap numberIn e)
 refused-changes-nothing b listing n e = refl
+refused-changes-nothing b (deal t l) n e = go (Calls.dealNumber b l) e
+  where
+    go : (m : ℕ) → answerUnless m (dealt (length (unlessRefused m (served benchDealer t b) []))) ≡ number (suc n)
+        → leftBy servedBench b (unlessRefused m (served benchDealer t b) []) ≡ b
+    go zero e = absurd (none n (ap numberIn e))
+      where
+        none : (n : ℕ) → 0 ≡ suc n → ⊥
+        none n h = omega arith
+    go (suc m) e = refl
 
 -- ---- the bound
 turns-bounded : (f : Surfaces → MeritEvaluation) (job : Job) → ReadBack job → (k : ℕ) → rowAfter f k job .turns ≤ bound job
@@ -224,13 +237,15 @@ resultIn : Answer → Result
 resultIn (number n) = zeroResult
 resultIn (fetched r) = r
 resultIn (listed l) = zeroResult
+resultIn (dealt n) = zeroResult
 
 isFetched : Answer → Bool
 isFetched (number n) = false
 isFetched (fetched r) = true
 isFetched (listed l) = false
+isFetched (dealt n) = false
 
-fetched-is : (n : ℕ) (r s : Result) → fetchedUnless n r ≡ fetched s → (n ≡ 0) × (s ≡ r)
+fetched-is : (n : ℕ) (r s : Result) → answerUnless n (fetched r) ≡ fetched s → (n ≡ 0) × (s ≡ r)
 unfolding resultIn isFetched
 fetched-is zero r s e = (refl, sym (ap resultIn e))
 fetched-is (suc n) r s e = absurd (false≢true (ap isFetched e))
@@ -271,4 +286,10 @@ demand3 = record {
   multiStartBound = λ job c e. bound-is job _ e;
   annealingBound = λ job c e. bound-is job _ e;
   results = fetched-returned;
+  nextPlaces = λ calls. agree-after calls .next;
+  nextPlace = next-place;
+  dealtTurns = dealt-turns;
+  dealtRows = dealt-rows;
+  fair = fair-run;
+  withinFour = within-run;
 }

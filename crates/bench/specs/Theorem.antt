@@ -1,12 +1,13 @@
--- Demand 3: "For every list of admit, turn, fetch, release and listing calls, refused ones included, from the empty bench, each on the bench that the last one
+-- Demand 3: "For every list of admit, turn, fetch, release and listing calls", and dealings (request 8), "refused ones included, from the empty bench, each on the bench that the last one
 -- left". What is stated of a call on the bench is the definition that its contract cites (`Calls`); the book is `Book`. Nothing is assumed of the calls.
 -- Definitions only; the proof is `demand3` in `Proved`.
 use mathlib.Core.Path.{_≡_}
 use mathlib.Core.Bool.{true, false}
-use mathlib.Core.List.{List, List·Permᴰ}
+use mathlib.Core.List.{List, [], _∷_, _++_, map, List·Permᴰ}
 use mathlib.Core.Logic.{_↔_, _≢_}
 use Prim.Native.Nat.{ℕ, suc, _+_, _*_, _≤_, _<_}
 use lib.Dec.{T}
+use lib.ListN.{length, take, replicate}
 use Rattle.lists.specs.Refusals.{firstRefusal}
 use Rattle.optics.specs.Check.{surfacesTaken}
 use Rattle.variables.specs.Active.{numActive}
@@ -34,12 +35,13 @@ use Rattle.runs.specs.Turned.{rowAfter}
 use Rattle.runs.specs.declared.types.Row.{Row}
 use Rattle.bench.specs.declared.types.Bench.{Bench}
 use Rattle.runs.specs.JobMerit.{lensWith, evaluateOf}
-use Rattle.bench.specs.Book.{Call, turn, fetch, Answer, number, fetched, Entry, empty, holds, countOf, Book, entryAt, placesWhere}
-use Rattle.bench.specs.Book.{runAfter, leftBy, answersBy, bookAfter, bookAnswers}
+use Rattle.bench.specs.Dealing.{Throughout, nextAfter, times}
+use Rattle.bench.specs.Book.{Call, admit, turn, fetch, release, listing, deal, Answer, number, fetched, Entry, empty, holds, countOf, Book, entryAt}
+use Rattle.bench.specs.Book.{placesWhere, runAfter, leftBy, answersBy, bookAfter, bookAnswers}
 use Rattle.bench.specs.Book as Book
 use Rattle.bench.specs.Benches.{zeroRow, emptyBench, rowAt, withRow}
 use Rattle.bench.specs.Order.{Rising}
-use Rattle.bench.specs.Calls.{isVacant, turnNumber, benchAnswer, benchStep}
+use Rattle.bench.specs.Calls.{isVacant, isLive, turnNumber, benchDealer, servedBench, servedIn, benchAnswer, benchStep}
 
 -- what a list of calls leaves, and what its calls answer
 abbrev pub benchAfter : List Call → Bench
@@ -69,7 +71,7 @@ abbrev pub SamePlace : Row → Entry → Type 0
 SamePlace r empty = r ≡ zeroRow
 SamePlace r (holds job count) = RowHolds r job count
 
--- equal benches: the rows are all that a bench has
+-- equal benches: "from now on read apart from" the place to go next (request 8)
 abbrev pub SameBench : Bench → Bench → Type 0
 SameBench a b = a .rows ≡ b .rows
 
@@ -91,6 +93,25 @@ pub record Returned (job : Job) (r : Result) : Type 0 where
 abbrev pub ReturnedBy : Entry → Result → Type 0
 ReturnedBy empty r = ⊥
 ReturnedBy (holds job count) r = Returned job r
+
+-- ---- Dealings (request 8)
+-- the places that a call deals turns to, in order
+abbrev pub dealtTo : Bench → Call → List ℕ
+dealtTo b (admit place request) = []
+dealtTo b (turn place scratch) = []
+dealtTo b (fetch place) = []
+dealtTo b (release place) = []
+dealtTo b listing = []
+dealtTo b (deal turns scratch) = servedIn b turns scratch
+
+-- "In any run of dealings, each on the bench that the last left", each of so many turns with so much scratch: the places served, in order
+abbrev pub servedBy : Bench → List (ℕ × ℕ) → List ℕ
+servedBy b [] = []
+servedBy b (d ∷ ds) = servedIn b (d .0) (d .1) ++ servedBy (benchStep b (deal (d .0) (d .1))) ds
+
+-- single turns at these places
+abbrev pub turnsAt : (scratch : ℕ) → List ℕ → List Call
+turnsAt scratch places = map (λ (place : ℕ). turn place scratch) places
 
 pub record Demand3 : Type 0 where
   -- ---- "the calls refused, their numbers, the results fetched and the places listed are those of 01's plain book"
@@ -132,3 +153,18 @@ pub record Demand3 : Type 0 where
   -- ---- "its final merit finite, not above its first, and the merit of the surfaces returned"
   pub results : (calls : List Call) (place : ℕ) (r : Result) → benchAnswer (benchAfter calls) (fetch place) ≡ fetched r
       → ReturnedBy (entryAt (bookAfter calls) place) r
+  -- ---- "Turns dealt fairly" (request 8), but for `answers` and `nextPlaces` on any bench whatever
+  -- "the book keeps such a place .. and must agree in refusals, numbers dealt" (`answers`) "and that place"
+  pub nextPlaces : (calls : List Call) → benchAfter calls .«next_place» ≡ bookAfter calls .next
+  -- "the one after the last served by a dealing, 0 after 3, unchanged where none is served and by every other call"
+  pub nextPlace : (b : Bench) (c : Call) → benchStep b c .«next_place» ≡ nextAfter (b .«next_place») (dealtTo b c)
+  -- "dealings are orders of single turns": none of these turns is refused, and they leave its rows
+  pub dealtTurns : (b : Bench) (n scratch : ℕ) →
+      answersBy benchAnswer benchStep b (turnsAt scratch (servedIn b n scratch)) ≡ replicate (length (servedIn b n scratch)) (number 0)
+  pub dealtRows : (b : Bench) (n scratch : ℕ) → SameBench (benchStep b (deal n scratch)) (leftBy benchStep b (turnsAt scratch (servedIn b n scratch)))
+  -- "two jobs unfinished and undamaged throughout differ by at most one in the turns dealt to them"
+  pub fair : (b : Bench) (ds : List (ℕ × ℕ)) (i j : ℕ) → i < 4 → j < 4 → Throughout benchDealer i b (servedBy b ds) → Throughout benchDealer j b (servedBy b ds)
+      → times i (servedBy b ds) ≤ times j (servedBy b ds) + 1
+  -- "an unfinished, undamaged job is served within four turns dealt": whichever turns come before, it is among the next four
+  pub withinFour : (b : Bench) (ds : List (ℕ × ℕ)) (before after : List ℕ) (i : ℕ) → i < 4 → servedBy b ds ≡ before ++ after
+      → isLive (rowAt (leftBy servedBench b before) i) ≡ true → 4 ≤ length after → 0 < times i (take 4 after)
