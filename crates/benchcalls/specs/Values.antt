@@ -4,8 +4,9 @@ use Rattle.jobs.specs.declared.types.JobRequest.{JobRequest}
 use Rattle.runs.specs.JobRun.{Result}
 use Rattle.rows.specs.declared.types.Fetched.{Fetched}
 use Rattle.bench.specs.declared.types.Bench.{Bench}
-use Rattle.bench.specs.Calls.{admitNumber, admittedBench, turnNumber, turnedBench, fetchNumber, fetchedResult, releaseNumber, releasedBench}
+use Rattle.bench.specs.Calls.{admitNumber, admittedBench, turnNumber, turnedBench, fetchNumber, fetchedResult, releaseNumber, releasedBench, dealtOf, dealtBench}
 use Rattle.benchcalls.specs.declared.types.BenchAnswer.{BenchAnswer}
+use Rattle.benchcalls.specs.declared.types.Dealing.{Dealing}
 
 abbrev pub admittedOf : Bench → (place : ℕ) → JobRequest → BenchAnswer
 admittedOf b place request = record { bench = admittedBench b place request; number = admitNumber b place request }
@@ -18,3 +19,7 @@ fetchedOf b place old = record { result = fetchedResult b place old; number = fe
 
 abbrev pub releasedOf : Bench → (place : ℕ) → BenchAnswer
 releasedOf b place = record { bench = releasedBench b place; number = releaseNumber b place }
+
+abbrev pub dealingOf : Bench → (turns length : ℕ) → Dealing
+dealingOf b turns length =
+    record { bench = dealtBench b turns length; dealt = dealtOf b turns length .dealt; number = dealtOf b turns length .number }

@@ -1,4 +1,4 @@
-// The five calls, on a bench that is lent. No call asks anything of what it is handed: any bench whatever may be.
+// Admission, turn, fetch, release and listing, on a bench that is lent. No call asks anything of what it is handed: any bench whatever may be.
 ghost use mathlib.Core.Path.{_≡_};
 ghost use lib.ListN.{length};
 ghost use Rattle.bench.specs.Calls.{admitNumber, admittedBench, turnNumber, turnedBench, scratchAfter, fetchNumber, fetchedResult, releaseNumber};

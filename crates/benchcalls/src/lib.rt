@@ -1,11 +1,14 @@
-// The calls on a bench (01): admit, turn, fetch, release and listing. Lent, and by value for programs.
-// Stands on `rows`, `finished` and `records`; called by programs, and from C or Rust as it is exported.
+// The calls on a bench (01): admit, turn, fetch, release, listing and dealing. Lent, and by value for programs.
+// Stands on `rows`, `finished`, `dealing` and `records`; called by programs, and from C or Rust as it is exported.
 mod admission;
+mod deal;
 mod lent;
 mod play;
 mod types;
 mod values;
 
+pub use deal::deal;
+pub use deal::dealt;
 pub use lent::admit;
 pub use lent::admit_record;
 pub use lent::fetch;
@@ -14,6 +17,7 @@ pub use lent::release;
 pub use lent::turn;
 pub use play::play_turns;
 pub use types::BenchAnswer;
+pub use types::Dealing;
 pub use types::Played;
 pub use values::admitted;
 pub use values::empty_bench;

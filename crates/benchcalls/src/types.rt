@@ -13,3 +13,10 @@ pub struct Played {
     pub taken: u64,
     pub number: u32,
 }
+
+// The bench after a dealing, how many turns were dealt, and 01's number, 0 where the dealing was done.
+pub struct Dealing {
+    pub bench: Bench,
+    pub dealt: u32,
+    pub number: u32,
+}

@@ -17,7 +17,10 @@ pub fn empty_bench() -> Bench
 {
     let zero = rows::zero_row();
     let places = [zero; 4];
-    Bench { rows: places }
+    Bench {
+        rows: places,
+        next_place: 0,
+    }
 }
 
 pub fn admitted(bench: Bench, place: usize, request: JobRequest) -> BenchAnswer

@@ -1,4 +1,5 @@
 // The lines of calls: each is one call, or turns of one place, and has a name of one letter.
+use crate::deals;
 use crate::listing;
 use crate::turning;
 use crate::types::Answered;
@@ -26,6 +27,7 @@ pub(crate) fn answer_call(
         b'A' => admit(out, waiting, bench, line, at, number),
         b'T' => turning::turn(out, waiting, bench, line, at, number),
         b'D' => release(out, waiting, bench, line, at, number),
+        b'N' => deals::deal(out, waiting, bench, line, at, number),
         b'F' => Answered {
             bench: bench,
             waiting: fetch(out, waiting, bench, line, at, number),

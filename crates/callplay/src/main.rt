@@ -3,6 +3,7 @@
 // is wrong there. A line of blanks alone counts and has no answer, as there. The last line counts the lines.
 // Stands on `benchcalls`, `joblines` and `answers`; a program that only tests.
 mod call;
+mod deals;
 mod lines;
 mod listing;
 mod turning;

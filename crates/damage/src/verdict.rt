@@ -22,7 +22,7 @@ fn row_of(bench: Bench, place: usize) -> Row {
 fn bench_with(case: Case, changed: Row) -> Bench {
     let finished = case.finished;
     let rows = [finished; 4];
-    with_row(Bench { rows: rows }, case.place, changed)
+    with_row(Bench { rows: rows, next_place: 0 }, case.place, changed)
 }
 
 pub(crate) fn is_right(case: Case, changed: Row, e: usize) -> bool {

@@ -86,3 +86,9 @@ listed true h f = refl
 listed false true f = refl
 listed false false true = refl
 listed false false false = refl
+
+pub harmed : (vacant harmed finished : Bool) → eqb (cond vacant 11 (cond harmed 12 (cond (not finished) 14 0))) 12 ≡ not vacant && harmed
+harmed true h f = refl
+harmed false true f = refl
+harmed false false true = refl
+harmed false false false = refl

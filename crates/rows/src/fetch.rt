@@ -1,7 +1,7 @@
-// A fetch from the place that holds a row, and whether the listing has that place.
+// A fetch from the place that holds a row, whether the listing has that place, and whether its row is damaged.
 ghost use mathlib.Core.Path.{_≡_};
 ghost use Rattle.held.specs.RowFrom.{rowFrom};
-ghost use Rattle.bench.specs.Calls.{isListed};
+ghost use Rattle.bench.specs.Calls.{isListed, takenDamaged};
 ghost use Rattle.rows.specs.Calls.{fetchRowNumber, fetchRowOf};
 use crate::numbers::fetch_number;
 use crate::results::result_of;
@@ -43,4 +43,11 @@ pub fn is_listed(held: HeldRow) -> bool
     ensures { λ r. ⌜ r ≡ isListed (rowFrom held) ⌝ }
 {
     number_of(held) == 0
+}
+
+// Whether the place is taken and its row damaged.
+pub fn is_damaged(held: HeldRow) -> bool
+    ensures { λ r. ⌜ r ≡ takenDamaged (rowFrom held) ⌝ }
+{
+    number_of(held) == 12
 }

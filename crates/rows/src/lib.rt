@@ -1,5 +1,5 @@
 // The calls on one row: admission, a turn, fetch, release, listing, and what a turn would work out (01's bench).
-// Stands on `turns`, `helddamage` and `bench`; called by `benchcalls` and `finished`.
+// Stands on `turns`, `helddamage` and `bench`; called by `benchcalls`, `finished` and `dealing`.
 mod began;
 mod calls;
 mod fetch;
@@ -15,6 +15,7 @@ pub use calls::admit_number;
 pub use calls::admit_row;
 pub use calls::release_row;
 pub use fetch::fetch_row;
+pub use fetch::is_damaged;
 pub use fetch::is_listed;
 pub use parts::turn_parts;
 pub use pending::pending_of;
