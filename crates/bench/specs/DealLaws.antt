@@ -2,8 +2,10 @@
 use mathlib.Core.Path.{_≡_, refl, sym, ap, _∙_, subst}
 use mathlib.Core.Bool.{Bool, true, false, true≢false}
 use mathlib.Core.List.{List, [], _∷_, _++_}
+use mathlib.Core.Logic.{_⊎_, inl, inr}
 use Prim.Native.Nat.{ℕ, zero, suc, _+_, _<_}
 use native.Mathlib.Nat.{zero-add, suc-add}
+use lib.ListN.{length}
 use Rattle.bench.specs.Dealing.{placeAfter, Found, at, nowhere, Dealer, nextServed, servedIf, served, nextAfter}
 use Rattle.bench.specs.Book.{leftBy}
 use Rattle.bench.specs.Rounds.{Says, found, after-small}
@@ -46,6 +48,18 @@ module _ {S : Type 0} (d : Dealer S) where
           → Both m n s (nextServed d s)
       go nowhere e more = subst (Both m n s) (sym e) (none-left n s e)
       go (at k) e more = subst (Both m n s) (sym e) (ap (λ (ps : List ℕ). k ∷ ps) (more (d .serve s k)))
+
+  -- "until N are spent or no job is left"
+  pub until : (n : ℕ) (s : S) → (length (served d n s) ≡ n) ⊎ (nextServed d (leftBy (d .serve) s (served d n s)) ≡ nowhere)
+  unfolding served leftBy
+  until zero s = inl refl
+  until (suc n) s = go (nextServed d s) refl (until n)
+    where
+      go : (f : Found) → nextServed d s ≡ f → ((s : S) → (length (served d n s) ≡ n) ⊎ (nextServed d (leftBy (d .serve) s (served d n s)) ≡ nowhere))
+          → (length (servedIf d f (λ place. served d n (d .serve s place))) ≡ suc n)
+          ⊎ (nextServed d (leftBy (d .serve) s (servedIf d f (λ place. served d n (d .serve s place)))) ≡ nowhere)
+      go nowhere e more = inr e
+      go (at k) e more = elim (more (d .serve s k)) [ inl h ↦ inl (ap suc h) | inr h ↦ inr h ]
 
   -- the turns behind some of them are those of a dealing on what these leave
   pub behind : (ps : List ℕ) (n : ℕ) (s : S) (qs : List ℕ) → served d n s ≡ ps ++ qs → (m : ℕ) × (qs ≡ served d m (leftBy (d .serve) s ps))

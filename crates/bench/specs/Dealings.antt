@@ -2,7 +2,7 @@
 use mathlib.Core.Path.{_≡_, refl, sym, ap, _∙_, subst}
 use mathlib.Core.Bool.{Bool, true, false, not, cond, _&&_, _||_, false≢true}
 use mathlib.Core.List.{List, [], _∷_, _++_}
-use mathlib.Core.Logic.{_≢_, inl, inr}
+use mathlib.Core.Logic.{_⊎_, _≢_, inl, inr}
 use Prim.Native.Nat.{ℕ, zero, suc, _+_, _≤_, _<_}
 use native.Mathlib.Omega.{arith}
 use lib.Dec.{ltb}
@@ -20,14 +20,14 @@ use Rattle.held.specs.Written.{heldFrom}
 use Rattle.held.specs.declared.types.HeldRow.{HeldRow}
 use Rattle.bench.specs.declared.types.Bench.{Bench}
 use Rattle.bench.specs.Refusals.{noPlace, scratchShort}
-use Rattle.bench.specs.Dealing.{placeAfter, served, Throughout, nextAfter, times}
+use Rattle.bench.specs.Dealing.{placeAfter, nowhere, nextServed, served, Throughout, nextAfter, times}
 use Rattle.bench.specs.Book.{Call, admit, turn, fetch, release, listing, deal, Answer, number, leftBy, answersBy}
 use Rattle.bench.specs.Benches.{noRow, rowAt, withRow}
-use Rattle.bench.specs.Calls.{isVacant, isLive, turnNumber, dealRefusals, dealNumber, benchDealer, servedBench, servedIn, benchAnswer, benchStep}
+use Rattle.bench.specs.Calls.{isVacant, isLive, turnRefusals, turnNumber, dealRefusals, dealNumber, benchDealer, servedBench, servedIn, benchAnswer, benchStep}
 use Rattle.bench.specs.Calls.{admitNumber, releaseNumber}
-use Rattle.bench.specs.Rounds.{split}
+use Rattle.bench.specs.Rounds.{split, Says, found}
 use Rattle.bench.specs.Fair.{fair, within-four}
-use Rattle.bench.specs.DealLaws.{some-are, EachLive, each-live, one-after-another, behind, next-after, next-below}
+use Rattle.bench.specs.DealLaws.{some-are, EachLive, each-live, one-after-another, until, behind, next-after, next-below}
 use Rattle.bench.specs.Theorem.{dealtTo, servedBy, turnsAt}
 
 moves : (b : Bench) (place : ℕ) → servedBench b place .«next_place» ≡ placeAfter place
@@ -42,10 +42,10 @@ module _ (b : Bench) (m : ℕ) (e : dealNumber b m ≡ 0) where
   unfolding dealNumber
   nothing = answers-none (dealRefusals b m) tt .0 e
 
-  long : scratchShort m ≡ false
+  pub long : scratchShort m ≡ false
   long = none-of (dealRefusals b m) 9 nothing
 
-  starts-below : b .«next_place» < 4
+  pub starts-below : b .«next_place» < 4
   starts-below = ltb-true (b .«next_place») 4 (not-false (ltb (b .«next_place») 4) (first (noPlace (b .«next_place»)) _ (none-of (dealRefusals b m) 12 nothing)))
     where
       first : (p q : Bool) → p || q ≡ false → p ≡ false
@@ -54,7 +54,7 @@ module _ (b : Bench) (m : ℕ) (e : dealNumber b m ≡ 0) where
 
 -- ---- "dealings are orders of single turns"
 -- a turn at a place that has a job to serve is not refused, whatever the place to go next
-turn-taken : (b : Bench) (place m : ℕ) → place < 4 → scratchShort m ≡ false → isLive (rowAt b place) ≡ true → turnNumber b place m ≡ 0
+pub turn-taken : (b : Bench) (place m : ℕ) → place < 4 → scratchShort m ≡ false → isLive (rowAt b place) ≡ true → turnNumber b place m ≡ 0
 unfolding turnNumber
 turn-taken b place m h l t = rw (lt-ltb place 4 h, l) (go (isVacant (rowAt b place)) (damaged (rowAt b place)) (isFinished (rowAt b place)) t)
   where
@@ -64,7 +64,15 @@ turn-taken b place m h l t = rw (lt-ltb place 4 h, l) (go (isVacant (rowAt b pla
     go false true f h = absurd (false≢true h)
     go false false true h = absurd (false≢true h)
 
-abbrev withNext : Bench → ℕ → Bench
+-- and where it is not refused the place has one
+pub turn-live : (b : Bench) (place m : ℕ) → turnNumber b place m ≡ 0 → isLive (rowAt b place) ≡ true
+unfolding turnNumber
+turn-live b place m e =
+    let n = answers-none (turnRefusals b place m) tt .0 e in
+    rw (none-of (turnRefusals b place m) 11 n, none-of (turnRefusals b place m) 12 n, none-of (turnRefusals b place m) 13 n) refl
+
+-- the bench with another place to go next
+abbrev pub withNext : Bench → ℕ → Bench
 withNext b n = record { rows = b .rows; «next_place» = n }
 
 module _ (m : ℕ) (l : scratchShort m ≡ false) where
@@ -109,6 +117,22 @@ module _ (b : Bench) (n m : ℕ) where
   pub dealt-rows : benchStep b (deal n m) .rows ≡ leftBy benchStep b (turnsAt m (servedIn b n m)) .rows
   unfolding benchStep
   dealt-rows = by-number (dealNumber b m) refl .1
+
+  pub spent : dealNumber b m ≡ 0 → (length (servedIn b n m) ≡ n) ⊎ ((i : ℕ) → i < 4 → isLive (rowAt (benchStep b (deal n m)) i) ≡ false)
+  unfolding benchStep
+  spent e = subst Spent (sym e) (elim (until benchDealer n b) [ inl h ↦ inl h | inr h ↦ inr (none-live h) ])
+    where
+      Spent : ℕ → Type 0
+      Spent k = (length (unlessRefused k (served benchDealer n b) []) ≡ n) ⊎ ((i : ℕ) → i < 4
+          → isLive (rowAt (leftBy servedBench b (unlessRefused k (served benchDealer n b) [])) i) ≡ false)
+
+      left : Bench
+      left = leftBy servedBench b (served benchDealer n b)
+
+      none-live : nextServed benchDealer left ≡ nowhere → (i : ℕ) → i < 4 → isLive (rowAt left i) ≡ false
+      none-live h =
+          subst (Says (benchDealer .live left) (left .«next_place»)) h
+          (found (benchDealer .live left) (left .«next_place») (next-below benchDealer moves b (served benchDealer n b) (starts-below b m e)))
 
 -- ---- "the place to go next"
 kept-next : (n : ℕ) (b : Bench) (place : ℕ) (r : Row) → unlessRefused n (withRow b place r) b .«next_place» ≡ b .«next_place»

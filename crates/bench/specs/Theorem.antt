@@ -4,7 +4,7 @@
 use mathlib.Core.Path.{_≡_}
 use mathlib.Core.Bool.{true, false}
 use mathlib.Core.List.{List, [], _∷_, _++_, map, List·Permᴰ}
-use mathlib.Core.Logic.{_↔_, _≢_}
+use mathlib.Core.Logic.{_⊎_, _↔_, _≢_}
 use Prim.Native.Nat.{ℕ, suc, _+_, _*_, _≤_, _<_}
 use lib.Dec.{T}
 use lib.ListN.{length, take, replicate}
@@ -41,7 +41,7 @@ use Rattle.bench.specs.Book.{placesWhere, runAfter, leftBy, answersBy, b
 use Rattle.bench.specs.Book as Book
 use Rattle.bench.specs.Benches.{zeroRow, emptyBench, rowAt, withRow}
 use Rattle.bench.specs.Order.{Rising}
-use Rattle.bench.specs.Calls.{isVacant, isLive, turnNumber, benchDealer, servedBench, servedIn, benchAnswer, benchStep}
+use Rattle.bench.specs.Calls.{isVacant, isLive, turnNumber, dealNumber, benchDealer, servedBench, servedIn, benchAnswer, benchStep}
 
 -- what a list of calls leaves, and what its calls answer
 abbrev pub benchAfter : List Call → Bench
@@ -162,6 +162,9 @@ pub record Demand3 : Type 0 where
   pub dealtTurns : (b : Bench) (n scratch : ℕ) →
       answersBy benchAnswer benchStep b (turnsAt scratch (servedIn b n scratch)) ≡ replicate (length (servedIn b n scratch)) (number 0)
   pub dealtRows : (b : Bench) (n scratch : ℕ) → SameBench (benchStep b (deal n scratch)) (leftBy benchStep b (turnsAt scratch (servedIn b n scratch)))
+  -- "until N are spent or no job is left"
+  pub spent : (b : Bench) (n scratch : ℕ) → dealNumber b scratch ≡ 0
+      → (length (servedIn b n scratch) ≡ n) ⊎ ((i : ℕ) → i < 4 → isLive (rowAt (benchStep b (deal n scratch)) i) ≡ false)
   -- "two jobs unfinished and undamaged throughout differ by at most one in the turns dealt to them"
   pub fair : (b : Bench) (ds : List (ℕ × ℕ)) (i j : ℕ) → i < 4 → j < 4 → Throughout benchDealer i b (servedBy b ds) → Throughout benchDealer j b (servedBy b ds)
       → times i (servedBy b ds) ≤ times j (servedBy b ds) + 1

@@ -39,7 +39,7 @@ put-back (r ∷ rs) (suc i) = ap (λ (l : List HeldRow). r ∷ l) (put-back rs i
 
 module _ (b : Bench) (place : ℕ) where
   pub same-row : withHeld b place (heldAt b place) ≡ b
-  same-row = ap {B = Bench} (λ (rs : List HeldRow). record { rows = rs }) (put-back (b .rows) place)
+  same-row = ap {B = Bench} (λ (rs : List HeldRow). record { rows = rs; «next_place» = b .«next_place» }) (put-back (b .rows) place)
 
   -- the row as a refused call leaves it, stored, is the bench as it was
   stored : (n : ℕ) (new : Row) → withHeld b place (unlessRefused n (heldFrom new) (heldAt b place)) ≡ unlessRefused n (withRow b place new) b

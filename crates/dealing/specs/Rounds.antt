@@ -1,6 +1,6 @@
 -- A dealing from one place to the next. Definitions only.
 use mathlib.Core.Bool.{cond, not, _||_}
-use Prim.Native.Nat.{ℕ, suc}
+use Prim.Native.Nat.{ℕ, _+_}
 use lib.Dec.{ltb}
 use Rattle.merit.specs.Calls.{unlessRefused}
 use Rattle.bench.specs.declared.types.Bench.{Bench}
@@ -21,14 +21,14 @@ begunOf b turns room = record {
 
 -- the place was served
 abbrev pub servedOf : Round → Round
-servedOf r = record { at = placeAfter (r .at); next = placeAfter (r .at); missed = 0; dealt = suc (r .dealt); limit = r .limit; number = r .number }
+servedOf r = record { at = placeAfter (r .at); next = placeAfter (r .at); missed = 0; dealt = r .dealt + 1; limit = r .limit; number = r .number }
 
 -- it was passed over; after four such in a row "no job is left"
 abbrev pub passedOf : Round → Round
 passedOf r = record {
   at = placeAfter (r .at);
   next = r .next;
-  missed = cond (ltb 2 (r .missed)) (r .missed) (suc (r .missed));
+  missed = cond (ltb 2 (r .missed)) (r .missed) (r .missed + 1);
   dealt = r .dealt;
   limit = cond (ltb 2 (r .missed)) (r .dealt) (r .limit);
   number = r .number;

@@ -32,6 +32,7 @@ pub data ExportedCall : Type 0 where
   fetch : (place : ℕ) → ExportedCall
   release : (place : ℕ) → ExportedCall
   listing : ExportedCall
+  deal : (turns scratchLength : ℕ) → ExportedCall
 
 unfoldable pub exportedAnswer : Bench → ExportedCall → Answer
 exportedAnswer b (admitRecord place q) = number (admitRecordNumber b place q)
@@ -39,6 +40,7 @@ exportedAnswer b (turn place length) = benchAnswer b (Book.turn place length)
 exportedAnswer b (fetch place) = benchAnswer b (Book.fetch place)
 exportedAnswer b (release place) = benchAnswer b (Book.release place)
 exportedAnswer b listing = benchAnswer b Book.listing
+exportedAnswer b (deal turns length) = benchAnswer b (Book.deal turns length)
 
 unfoldable pub exportedStep : Bench → ExportedCall → Bench
 exportedStep b (admitRecord place q) = admittedRecordBench b place q
@@ -46,6 +48,7 @@ exportedStep b (turn place length) = benchStep b (Book.turn place length)
 exportedStep b (fetch place) = benchStep b (Book.fetch place)
 exportedStep b (release place) = benchStep b (Book.release place)
 exportedStep b listing = benchStep b Book.listing
+exportedStep b (deal turns length) = benchStep b (Book.deal turns length)
 
 -- lists of them from the empty bench, each on what the last one left
 abbrev pub exportedAfter : List ExportedCall → Bench
@@ -61,6 +64,7 @@ asCalls (turn place length) = Book.turn place length ∷ []
 asCalls (fetch place) = Book.fetch place ∷ []
 asCalls (release place) = Book.release place ∷ []
 asCalls listing = Book.listing ∷ []
+asCalls (deal turns length) = Book.deal turns length ∷ []
 
 unfoldable pub allAsCalls : List ExportedCall → List Call
 allAsCalls [] = []
@@ -73,6 +77,7 @@ isCall (turn place length) = true
 isCall (fetch place) = true
 isCall (release place) = true
 isCall listing = true
+isCall (deal turns length) = true
 
 unfoldable pub toCalls : List ExportedCall → List Answer → List Answer
 toCalls [] answers = []

@@ -16,7 +16,7 @@ use Rattle.bench.specs.Book as Book
 use Rattle.bench.specs.Calls.{isVacant, admitNumber, admittedBench, benchAnswer, benchStep}
 use Rattle.records.specs.declared.types.RequestRecord.{RequestRecord}
 use Rattle.records.specs.Requests.{requestOf, isRequest}
-use Rattle.records.specs.Exported.{admitRecordNumber, admittedRecordBench, ExportedCall, admitRecord, turn, fetch, release, listing, recordFor}
+use Rattle.records.specs.Exported.{admitRecordNumber, admittedRecordBench, ExportedCall, admitRecord, turn, fetch, release, listing, deal, recordFor}
 use Rattle.records.specs.Exported.{exportedAnswer, exportedStep, asCalls, allAsCalls, isCall, toCalls}
 use Rattle.records.specs.Exported.{ExportedAreCalls}
 use Rattle.records.specs.Asked.{same-job-asked, is-asked, answered-alike}
@@ -44,6 +44,7 @@ step-as (turn place length) b rest = refl
 step-as (fetch place) b rest = refl
 step-as (release place) b rest = refl
 step-as listing b rest = refl
+step-as (deal turns length) b rest = refl
 
 answer-as : (c : ExportedCall) (b : Bench) (rest : List Call) → SameAnswers c b rest
 unfolding exportedStep exportedAnswer asCalls answersBy benchStep benchAnswer
@@ -56,6 +57,7 @@ answer-as (turn place length) b rest = refl
 answer-as (fetch place) b rest = refl
 answer-as (release place) b rest = refl
 answer-as listing b rest = refl
+answer-as (deal turns length) b rest = refl
 
 -- ---- lists of them
 benches-from : (calls : List ExportedCall) (b : Bench) → leftBy exportedStep b calls ≡ leftBy benchStep b (allAsCalls calls)

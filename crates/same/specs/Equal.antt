@@ -136,9 +136,10 @@ module _ (a b : HeldRow) (f : RowFits a) (g : RowFits b) where
 
 pub one-bench : (a b : Bench) → BenchFits a → BenchFits b → sameBench a b ≡ true → a ≡ b
 one-bench a b f g e =
-    let rows =
-    one-list (a .rows) (b .rows) noRow _ 4 (f .four) (g .four) (λ place. one-row (heldAt a place) (heldAt b place) (f .rows place) (g .rows place)) e in
-    λ i. record { rows = rows i }
+    let parts = both _ _
+    (one-list (a .rows) (b .rows) noRow _ 4 (f .four) (g .four) (λ place. one-row (heldAt a place) (heldAt b place) (f .rows place) (g .rows place)))
+    (eqb-true (a .«next_place») (b .«next_place»)) e in
+    λ i. record { rows = parts .0 i; «next_place» = parts .1 i }
 
 -- ---- results
 one-surface : (a b : OpticalSurface) → SurfaceFits a → SurfaceFits b → sameSurface a b ≡ true → a ≡ b

@@ -42,7 +42,7 @@ row a =
     (and _ _ (floats (a .«best_surfaces»)) (and _ _ (floats (a .«best_values»)) (floats (a .«best_residuals»)))))))
 
 pub bench-alike : (a : Bench) → sameBench a a ≡ true
-bench-alike a = all _ 4 (λ place. row (heldAt a place))
+bench-alike a = and _ _ (all _ 4 (λ place. row (heldAt a place))) (eq-eqb (a .«next_place») (a .«next_place») refl)
 
 surface : (s : OpticalSurface) → sameSurface s s ≡ true
 surface s =

@@ -47,8 +47,11 @@ sameBest a b =
 abbrev pub sameRow : HeldRow → HeldRow → Bool
 sameRow a b = sameJob a b && (sameHead a b && (sameLens a b && (sameStep a b && sameBest a b)))
 
+abbrev pub sameRows : Bench → Bench → Bool
+sameRows a b = allBelow (λ (place : ℕ). sameRow (heldAt a place) (heldAt b place)) 4
+
 abbrev pub sameBench : Bench → Bench → Bool
-sameBench a b = allBelow (λ (place : ℕ). sameRow (heldAt a place) (heldAt b place)) 4
+sameBench a b = sameRows a b && eqb (a .«next_place») (b .«next_place»)
 
 -- ---- results
 abbrev pub sameSurface : OpticalSurface → OpticalSurface → Bool

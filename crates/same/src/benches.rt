@@ -1,6 +1,6 @@
 // Held rows array by array, and benches row by row.
 ghost use mathlib.Core.Path.{_≡_};
-ghost use Rattle.same.specs.Same.{sameJob, sameHead, sameLens, sameStep, sameBest, sameRow, sameBench};
+ghost use Rattle.same.specs.Same.{sameJob, sameHead, sameLens, sameStep, sameBest, sameRow, sameRows, sameBench};
 use crate::arrays::both;
 use crate::arrays::same_eight;
 use crate::arrays::same_flat;
@@ -94,8 +94,8 @@ fn same_row(a: HeldRow, b: HeldRow) -> bool
     )
 }
 
-pub fn same_benches(a: Bench, b: Bench) -> bool
-    ensures { λ r. ⌜ r ≡ sameBench a b ⌝ }
+fn same_rows(a: Bench, b: Bench) -> bool
+    ensures { λ r. ⌜ r ≡ sameRows a b ⌝ }
 {
     let mut i = 0;
     while i < 4 {
@@ -107,4 +107,10 @@ pub fn same_benches(a: Bench, b: Bench) -> bool
         i += 1;
     }
     true
+}
+
+pub fn same_benches(a: Bench, b: Bench) -> bool
+    ensures { λ r. ⌜ r ≡ sameBench a b ⌝ }
+{
+    both(same_rows(a, b), a.next_place == b.next_place)
 }

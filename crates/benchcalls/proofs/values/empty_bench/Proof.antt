@@ -11,7 +11,7 @@ zero-row-requires : tie.Need-zero-row-requires
 zero-row-requires c κs = search needs
 
 returns : tie.Need-returns
-returns c = ap {B = Bench} (λ (r : HeldRow). record { rows = replicate 4 r }) (c .zero-row .ensures)
+returns c = ap {B = Bench} (λ (r : HeldRow). record { rows = replicate 4 r; «next_place» = 0 }) (c .zero-row .ensures)
 
 pub empty-bench-spec : {M : Type 1} → statement M
 empty-bench-spec = tie.close (tie.spec zero-row-requires returns)

@@ -1,4 +1,4 @@
--- `same::benches::same_benches` meets its contract. The loop's invariant: every pair of rows passed is alike. Assumes nothing.
+-- `same::benches::same_rows` meets its contract. The loop's invariant: every pair of rows passed is alike. Assumes nothing.
 use mathlib.Core.Path.{_≡_, sym, _∙_}
 use mathlib.Core.Bool.{Bool, true}
 use Prim.Native.Nat.{ℕ, _-_, _≤_}
@@ -9,8 +9,8 @@ use Rattle.lists.specs.All.{allBelow, all-more, not-all}
 use Rattle.bench.specs.declared.types.Bench.{Bench}
 use Rattle.bench.specs.Benches.{heldAt}
 use Rattle.same.specs.Same.{sameRow}
-use Rattle.same.proofs.benches.same_benches.Statement.{statement}
-use Rattle.same.proofs.benches.same_benches.Tie as tie
+use Rattle.same.proofs.benches.same_rows.Statement.{statement}
+use Rattle.same.proofs.benches.same_rows.Tie as tie
 
 abbrev alike : Bench → Bench → ℕ → Bool
 alike a b n = sameRow (heldAt a n) (heldAt b n)
@@ -63,8 +63,8 @@ returns-2 c =
     let e : c .before .loop .i ≡ 4 = omega arith in
     sym (rw e at (c .before .loop .inv .1))
 
-pub same-benches-spec : {M : Type 1} → statement M
-same-benches-spec =
+pub same-rows-spec : {M : Type 1} → statement M
+same-rows-spec =
     tie.close
     (tie.spec
     Inv-loop
