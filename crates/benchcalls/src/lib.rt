@@ -1,14 +1,14 @@
 // The calls on a bench (01): admit, turn, fetch, release, listing and dealing. Lent, and by value for programs.
 // Stands on `rows`, `finished`, `dealing` and `records`; called by programs, and from C or Rust as it is exported.
 mod admission;
-mod deal;
+mod dealings;
 mod lent;
 mod play;
 mod types;
 mod values;
 
-pub use deal::deal;
-pub use deal::dealt;
+pub use dealings::deal;
+pub use dealings::dealt;
 pub use lent::admit;
 pub use lent::admit_record;
 pub use lent::fetch;
