@@ -3,6 +3,7 @@
 // done but releasing. Prints for each entry how many rows were tried and how many were answered right. A line that is no such
 // job is answered as the other programs do.
 // Stands on `benchcalls`, `joblines`, `answers` and `same`; a program that only tests.
+mod deals;
 mod examine;
 mod lines;
 mod number;

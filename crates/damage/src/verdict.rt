@@ -1,4 +1,5 @@
 // What the calls must answer on a bench that holds a changed row, and what they must leave alone.
+use crate::deals;
 use crate::examine::Case;
 use bench::Bench;
 use jobs::JobRequest;
@@ -18,11 +19,15 @@ fn row_of(bench: Bench, place: usize) -> Row {
     held::row_of(held)
 }
 
-// The changed row at its place, finished ones at the others.
+// The changed row at its place, finished ones at the others; the place to go next is two further.
 fn bench_with(case: Case, changed: Row) -> Bench {
     let finished = case.finished;
     let rows = [finished; 4];
-    with_row(Bench { rows: rows, next_place: 0 }, case.place, changed)
+    let bench = Bench {
+        rows: rows,
+        next_place: (case.place % 4 + 2) % 4,
+    };
+    with_row(bench, case.place, changed)
 }
 
 pub(crate) fn is_right(case: Case, changed: Row, e: usize) -> bool {
@@ -30,9 +35,9 @@ pub(crate) fn is_right(case: Case, changed: Row, e: usize) -> bool {
     let request = case.request;
     let answers = answers_of(bench, case.place);
     match e {
-        50 => is_taken(answers),
-        51 => is_empty(bench, case.place, request, answers),
-        _ => is_refused(bench, case.place, request, answers),
+        50 => is_taken(answers) && deals::serves(bench, case.place, answers.turn),
+        51 => is_empty(bench, case.place, request, answers) && deals::deals_none(bench),
+        _ => is_refused(bench, case.place, request, answers) && deals::refuses(bench),
     }
 }
 
@@ -48,7 +53,7 @@ fn is_refused(bench: Bench, place: usize, request: JobRequest, a: Answers) -> bo
     all(all(refused, kept, damaged), unlisted, released)
 }
 
-fn all(a: bool, b: bool, c: bool) -> bool {
+pub(crate) fn all(a: bool, b: bool, c: bool) -> bool {
     a && b && c
 }
 
@@ -76,7 +81,7 @@ struct Answers {
 }
 
 // The first 128 are +0.0, and the others what they were (request 11).
-fn is_cleared(scratch: [f64; 256], before: [f64; 256]) -> bool {
+pub(crate) fn is_cleared(scratch: [f64; 256], before: [f64; 256]) -> bool {
     let zeros = [0.0; 128];
     same::same_floats(&scratch[0..128], &zeros)
         && same::same_floats(&scratch[128..256], &before[128..256])
