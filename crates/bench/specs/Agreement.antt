@@ -187,7 +187,8 @@ served-alike (suc n) b k a =
   where
     go : (f : Found) → Says (bookDealer .live k) (k .next) f
         → ((b : Bench) (k : Book) → Agree b k → served benchDealer n b ≡ served bookDealer n k)
-        → servedIf benchDealer f (λ place. served benchDealer n (servedBench b place)) ≡ servedIf bookDealer f (λ place. served bookDealer n (servedBook k place))
+        → servedIf benchDealer f (λ place. served benchDealer n (servedBench b place))
+        ≡ servedIf bookDealer f (λ place. served bookDealer n (servedBook k place))
     go nowhere w more = refl
     go (at place) w more =
         ap (λ (ps : List ℕ). place ∷ ps) (more (servedBench b place) (servedBook k place) (agree-serve b k a place (w .place) (w .passes)))
@@ -219,7 +220,12 @@ module _ (b : Bench) (k : Book) (a : Agree b k) where
   same-answer (deal n m) = same-unless b k a _ _ _ _ (deal-number b k a m) λ e. ap (λ (ps : List ℕ). dealt (length ps)) (served-in n m)
 
   agree-set : (place : ℕ) (r : Row) (e : Entry) → KeptRow r e → Agree (withRow b place r) (withEntry k place e)
-  agree-set place r e h = record { places = pair-set (a .places) place (held-kept r e h); four = length-set (b .rows) place (heldFrom r) ∙ a .four; next = a .next; below = a .below }
+  agree-set place r e h = record {
+    places = pair-set (a .places) place (held-kept r e h);
+    four = length-set (b .rows) place (heldFrom r) ∙ a .four;
+    next = a .next;
+    below = a .below;
+  }
 
   unless : (m n : ℕ) (b′ : Bench) (k′ : Book) → m ≡ n → (n ≡ 0 → Agree b′ k′) → Agree (unlessRefused m b′ b) (unlessRefused n k′ k)
   unless m zero b′ k′ e h = subst (λ (m : ℕ). Agree (unlessRefused m b′ b) k′) (sym e) (h refl)

@@ -112,11 +112,12 @@ listingOf b = record { places = finishedPlaces b ++ replicate (4 - length (finis
 abbrev pub placesIn : Finished → List ℕ
 placesIn f = take (f .count) (f .places)
 
--- ---- dealing (request 8): "a dealing checks 9, then gives 12 for a next place above 3 or any taken row that is damaged"
+-- ---- dealing (request 8): "Before the first turn, with N of 0 too, a dealing checks 9, then gives 12 for a next place above 3 or any taken row that is
+-- damaged"
 abbrev pub takenDamaged : Row → Bool
 takenDamaged r = not (isVacant r) && damaged r
 
--- at one of the four places at least
+-- there is one at some place
 abbrev pub anyDamaged : Bench → Bool
 anyDamaged b = not (allBelow (λ (place : ℕ). not (takenDamaged (rowAt b place))) 4)
 
@@ -130,7 +131,7 @@ dealNumber b length = firstRefusal (dealRefusals b length)
 abbrev pub isLive : Row → Bool
 isLive r = not (isVacant r) && not (damaged r) && not (isFinished r)
 
--- one working turn; the place to go next is the one after it
+-- one working turn, and "the place to go next" is the one after
 abbrev pub servedBench : Bench → (place : ℕ) → Bench
 servedBench b place = record { rows = set (b .rows) place (heldFrom (turned (rowAt b place))); «next_place» = placeAfter place }
 
@@ -148,7 +149,7 @@ dealtBench b turns length = leftBy servedBench b (servedIn b turns length)
 abbrev pub dealtOf : Bench → (turns length : ℕ) → Dealt
 dealtOf b turns scratch = record { dealt = length (servedIn b turns scratch); number = dealNumber b scratch }
 
--- each turn clears it
+-- scratch, which each turn dealt clears: with none dealt it is what it was
 abbrev pub clearedBy : (served : List ℕ) → List Float → List Float
 clearedBy [] s = s
 clearedBy (p ∷ ps) s = cleared s

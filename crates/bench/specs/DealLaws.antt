@@ -35,7 +35,8 @@ module _ {S : Type 0} (d : Dealer S) where
 
   -- of m turns and then n, where the first of them is this one
   abbrev Both : (m n : ℕ) → S → Found → Type 0
-  Both m n s f = servedIf d f (λ place. served d m (d .serve s place)) ++ served d n (leftBy (d .serve) s (servedIf d f (λ place. served d m (d .serve s place))))
+  Both m n s f =
+      servedIf d f (λ place. served d m (d .serve s place)) ++ served d n (leftBy (d .serve) s (servedIf d f (λ place. served d m (d .serve s place))))
       ≡ servedIf d f (λ place. served d (m + n) (d .serve s place))
 
   -- dealings one after the other are one dealing of all their turns
@@ -78,7 +79,7 @@ module _ {S : Type 0} (d : Dealer S) where
   abbrev pub EachLive : S → List ℕ → Type 0
   EachLive s [] = Unit
   EachLive s (p ∷ ps) = (p < 4) × (d .live s p ≡ true) × EachLive (d .serve s p) ps
-  
+
   module _ (moves : (s : S) (k : ℕ) → d .next (d .serve s k) ≡ placeAfter k) where
     -- "the place to go next .. the one after the last served"
     pub next-after : (s : S) (ps : List ℕ) → d .next (leftBy (d .serve) s ps) ≡ nextAfter (d .next s) ps

@@ -23,8 +23,8 @@ use Rattle.bench.specs.Refusals.{noPlace, scratchShort}
 use Rattle.bench.specs.Dealing.{placeAfter, nowhere, nextServed, served, Throughout, nextAfter, times}
 use Rattle.bench.specs.Book.{Call, admit, turn, fetch, release, listing, deal, Answer, number, leftBy, answersBy}
 use Rattle.bench.specs.Benches.{noRow, rowAt, withRow}
-use Rattle.bench.specs.Calls.{isVacant, isLive, turnRefusals, turnNumber, dealRefusals, dealNumber, benchDealer, servedBench, servedIn, benchAnswer, benchStep}
-use Rattle.bench.specs.Calls.{admitNumber, releaseNumber}
+use Rattle.bench.specs.Calls.{isVacant, isLive, admitNumber, turnRefusals, turnNumber, releaseNumber, dealRefusals, dealNumber, benchDealer, servedBench}
+use Rattle.bench.specs.Calls.{servedIn, benchAnswer, benchStep}
 use Rattle.bench.specs.Rounds.{split, Says, found}
 use Rattle.bench.specs.Fair.{fair, within-four}
 use Rattle.bench.specs.DealLaws.{some-are, EachLive, each-live, one-after-another, until, behind, next-after, next-below}
@@ -46,7 +46,8 @@ module _ (b : Bench) (m : ℕ) (e : dealNumber b m ≡ 0) where
   long = none-of (dealRefusals b m) 9 nothing
 
   pub starts-below : b .«next_place» < 4
-  starts-below = ltb-true (b .«next_place») 4 (not-false (ltb (b .«next_place») 4) (first (noPlace (b .«next_place»)) _ (none-of (dealRefusals b m) 12 nothing)))
+  starts-below =
+      ltb-true (b .«next_place») 4 (not-false (ltb (b .«next_place») 4) (first (noPlace (b .«next_place»)) _ (none-of (dealRefusals b m) 12 nothing)))
     where
       first : (p q : Bool) → p || q ≡ false → p ≡ false
       first false q h = refl
@@ -108,7 +109,8 @@ module _ (b : Bench) (n m : ℕ) where
   unfolding answersBy leftBy
   by-number zero e =
       let live = each-live benchDealer moves n b (starts-below b m e) in
-      (turns-taken m (long b m e) (served benchDealer n b) b (b .«next_place») live, turns-leave m (long b m e) (served benchDealer n b) b (b .«next_place») live)
+      let ps = served benchDealer n b in
+      (turns-taken m (long b m e) ps b (b .«next_place») live, turns-leave m (long b m e) ps b (b .«next_place») live)
   by-number (suc k) e = (refl, refl)
 
   pub dealt-turns : answersBy benchAnswer benchStep b (turnsAt m (servedIn b n m)) ≡ replicate (length (servedIn b n m)) (number 0)

@@ -56,8 +56,9 @@ module _ {S : Type 0} (d : Dealer S) (moves : (s : S) (k : ℕ) → d .next (d .
 
           later : eqb k i ≡ false → 0 < 0 + times i (take m (served d n (d .serve s k)))
           later e =
-              let h′ = more (d .serve s k) (next-small s k) (apart s k i (λ p. eqb-false k i e (sym p)) ∙ t) (comes-nearer s h k w i m l t e g) (omega (arith, r)) in
-              omega (arith, h′)
+              let stays = apart s k i (λ p. eqb-false k i e (sym p)) ∙ t in
+              let once = more (d .serve s k) (next-small s k) stays (comes-nearer s h k w i m l t e g) (omega (arith, r)) in
+              omega (arith, once)
 
   pub within-four : (n : ℕ) (s : S) (i : ℕ) → i < 4 → d .next s < 4 → d .live s i ≡ true → 4 ≤ length (served d n s) → 0 < times i (take 4 (served d n s))
   within-four n s i l h t q = within n 4 i l s h t (omega arith) q

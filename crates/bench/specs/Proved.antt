@@ -48,8 +48,8 @@ use Rattle.bench.specs.declared.types.Bench.{Bench}
 use Rattle.runs.specs.JobMerit.{lensWith, evaluateOf}
 use Rattle.runs.specs.Turn.{turned}
 use Rattle.bench.specs.Dealing.{served}
-use Rattle.bench.specs.Book.{Call, admit, turn, fetch, release, listing, deal, Answer, number, fetched, listed, dealt, answerUnless, Entry, empty, holds, Book}
-use Rattle.bench.specs.Book.{emptyBook, entryAt, isEmpty, isFinished, resultOf, countOf, placesWhere}
+use Rattle.bench.specs.Book.{Call, admit, turn, fetch, release, listing, deal, Answer, number, fetched, listed, dealt, answerUnless, Entry, empty, holds}
+use Rattle.bench.specs.Book.{Book, emptyBook, entryAt, isEmpty, isFinished, resultOf, countOf, placesWhere}
 use Rattle.bench.specs.Book.{runAfter, leftBy, answersBy, bookAnswer, bookStep, bookAfter}
 use Rattle.bench.specs.Book as Book
 use Rattle.bench.specs.Benches.{zeroRow, noRow, emptyBench, heldAt, rowAt, withRow}

@@ -1,6 +1,6 @@
--- Demand 3: "For every list of admit, turn, fetch, release and listing calls", and dealings (request 8), "refused ones included, from the empty bench, each on the bench that the last one
--- left". What is stated of a call on the bench is the definition that its contract cites (`Calls`); the book is `Book`. Nothing is assumed of the calls.
--- Definitions only; the proof is `demand3` in `Proved`.
+-- Demand 3: "For every list of admit, turn, fetch, release and listing calls", and of dealings (request 8: "demand 3's lists hold dealings too"), "refused ones
+-- included, from the empty bench, each on the bench that the last one left". What is stated of a call on the bench is the definition that its contract cites
+-- (`Calls`); the book is `Book`. Nothing is assumed of the calls. Definitions only; the proof is `demand3` in `Proved`.
 use mathlib.Core.Path.{_≡_}
 use mathlib.Core.Bool.{true, false}
 use mathlib.Core.List.{List, [], _∷_, _++_, map, List·Permᴰ}

@@ -4,7 +4,8 @@ use Rattle.jobs.specs.declared.types.JobRequest.{JobRequest}
 use Rattle.runs.specs.JobRun.{Result}
 use Rattle.rows.specs.declared.types.Fetched.{Fetched}
 use Rattle.bench.specs.declared.types.Bench.{Bench}
-use Rattle.bench.specs.Calls.{admitNumber, admittedBench, turnNumber, turnedBench, fetchNumber, fetchedResult, releaseNumber, releasedBench, dealtOf, dealtBench}
+use Rattle.bench.specs.Calls.{admitNumber, admittedBench, turnNumber, turnedBench, fetchNumber, fetchedResult, releaseNumber, releasedBench, dealtOf}
+use Rattle.bench.specs.Calls.{dealtBench}
 use Rattle.benchcalls.specs.declared.types.BenchAnswer.{BenchAnswer}
 use Rattle.benchcalls.specs.declared.types.Dealing.{Dealing}
 

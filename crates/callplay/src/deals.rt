@@ -27,13 +27,7 @@ pub(crate) fn deal(
 }
 
 // Scratch past the most that there is here would change nothing.
-fn deal_turns(
-    out: &mut [u8],
-    waiting: Waiting,
-    bench: Bench,
-    turns: u64,
-    room: usize,
-) -> Answered {
+fn deal_turns(out: &mut [u8], waiting: Waiting, bench: Bench, turns: u64, room: usize) -> Answered {
     let mut scratch = [0.0; 1024];
     let dealing = dealt_within(bench, (turns % 65536) as u16, &mut scratch, room);
     let left = dealing.bench;

@@ -67,7 +67,8 @@ other-next f (suc n) b next = refl
 -- clearing twice is clearing once
 cleared-again : (ps : List ℕ) (s : List Float) → clearedBy ps (cleared s) ≡ cleared s
 cleared-again [] s = refl
-cleared-again (p ∷ ps) s = ap (λ (l : List Float). replicate scratchLength zero64 ++ l) (drop-append-seam (replicate scratchLength zero64) (drop scratchLength s))
+cleared-again (p ∷ ps) s =
+    ap (λ (l : List Float). replicate scratchLength zero64 ++ l) (drop-append-seam (replicate scratchLength zero64) (drop scratchLength s))
 
 module _ (b₀ : Bench) (turns : ℕ) (s₀ : List Float) where
   -- ---- before the first place
@@ -247,7 +248,8 @@ module _ (b₀ : Bench) (turns : ℕ) (s₀ : List Float) where
             go (suc t) et ek eb es =
                 let none = dead t et (isLive (rowAt b (r .at))) refl in
                 let same : movedOf r k ≡ passedAs none (ltb 2 (r .missed)) =
-                ap (movedOf r) ek ∙ ap (λ (t : Bool). cond (t || not (ltb (r .dealt) (r .limit))) (passedOf r) (servedOf r)) (lt-ltb 0 (suc t) (zero-lt-suc t)) in (
+                ap (movedOf r) ek
+                ∙ ap (λ (t : Bool). cond (t || not (ltb (r .dealt) (r .limit))) (passedOf r) (servedOf r)) (lt-ltb 0 (suc t) (zero-lt-suc t)) in (
                   subst (λ (x : Round). Standing b₀ turns s₀ x b′ s′) (sym same)
                       (subst (λ (z : Bench). Standing b₀ turns s₀ (passedAs none (ltb 2 (r .missed))) z s′) (sym eb)
                       (subst (λ (z : List Float). Standing b₀ turns s₀ (passedAs none (ltb 2 (r .missed))) b z) (sym es)

@@ -1,6 +1,6 @@
--- `deal` meets its contract: a walk of its MIR, by hand, with a loop. The bench is copied for `begun`; in each turn the borrow of the bench and scratch are lent
--- again to `turn` for lifetimes that are made for the call, and both come back at the last values that `turn`'s contract says; at the end the place to go next is
--- stored. All that the proof knows of `begun`, `turn` and `moved` is that they meet their contracts. Assumes nothing.
+-- `deal` meets its contract: a walk of its MIR, by hand, with a loop. The bench is copied for `begun`; in each turn of the loop bench and scratch are lent
+-- again to `turn` for lifetimes that are made for the call, and both come back at the last values that `turn`'s contract says; at the end the place to go next
+-- is stored. All that the proof knows of `begun`, `turn` and `moved` is that they meet their contracts. Assumes nothing.
 use mathlib.Core.Path.{_≡_, refl, sym, _∙_, ap, subst}
 use mathlib.Core.Bool.{Bool, true, false}
 use Prim.Native.Nat.{ℕ, _+_, _<_, _≤_, _^_}
@@ -26,8 +26,8 @@ use sound.Loop.{loop-rule}
 use sound.WpLaws.{fmOf, WpFn-mono}
 use types.Kit.{Given, Item, Sq, runs, ‵, raw, _⊛_, some, later, ⋆, anyQ, atRet, _$_, _∵_, !, qed, by, move, keep, drop, use1, use2, use3, split, join, pick}
 use types.Kit.{rewrite, fsplit, fsplit3, fjoin, fjoin3, feqL, feqI, suffices, frame, await, done}
-use types.Run.{look, look-raw, init, store, forget, stop, hop, fld, from, load, addr, of-opd, bin, and-then, no-more, assigns, stays, leaves-loop, land, land-last}
-use types.Run.{returns, enter, alloc1, alloc0, params1, pass1, pass0, free1, free0, exec}
+use types.Run.{look, look-raw, init, store, forget, stop, hop, fld, from, load, addr, of-opd, bin, and-then, no-more, assigns, stays, leaves-loop, land}
+use types.Run.{land-last, returns, enter, alloc1, alloc0, params1, pass1, pass0, free1, free0, exec}
 use types.Part.{whole, sub, look-in, store-in, agg}
 use types.SemTy.{Body}
 use types.Tokens.{lft-new, lft-end}
@@ -276,7 +276,8 @@ module _ {M : Type 1} (𝓤 : URA M) (H : Heap 𝓤) (A : Atoms 𝓤) (W : Given
         move ! (1 ∷ []) $ peeks ! Bn (Is Bn) (shows 𝓤 H A Bn) bk (valsBn bk) (λ was. drop ! $
         use1 W (‵ (fat fullShare B′.mir b o (only (valsBn bk)))) (W .laws .raw-at fullShare B′.mir b o (only (valsBn bk))) $
         -- [the bench; the open borrow; obs; auth; scratch; its token; _11; …; _0; …]
-        assigns ! (of-opd ! (load ! (from ! (fld ! refl (stop !))) (look-in ! 18 (sub ! 1 refl (whole !))))) (from ! (hop ! (look ! 26 refl) (fld ! refl (stop !))))
+        assigns ! (of-opd ! (load ! (from ! (fld ! refl (stop !))) (look-in ! 18 (sub ! 1 refl (whole !)))))
+        (from ! (hop ! (look ! 26 refl) (fld ! refl (stop !))))
         (store-in ! 0 (sub ! 1 refl (whole !)) (tt, record { fits = LL.owed R.the-type R′.the-laws r _ isr .1 .0 .1 })) $
         use1 W (‵ (cellAt fullShare (Bn .mir) (valsBn (withNext bk (r .next))) b o))
         (W .laws .at-raw fullShare B′.mir b o (only (valsBn (withNext bk (r .next))))) $
