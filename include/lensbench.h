@@ -1,9 +1,11 @@
 /* lensbench.h: the lens bench for C and C++ on x86-64 Linux. Link liblensbench.a, which front/lib builds; it needs memcpy, memmove and memset, and nothing else.
  *
  * A bench has four places, 0 to 3. A job is admitted to an empty place and takes turns, one merit each, until a turn answers LENS_FINISHED; then its result
- * is fetched and its place released. Each job's number of turns is bounded beforehand. lens_evaluate, lens_trace and lens_trace_limits need no bench.
+ * is fetched and its place released. Each job's number of turns is bounded beforehand. lens_deal hands out many turns in one call, fairly to all jobs.
+ * lens_evaluate, lens_trace and lens_trace_limits need no bench.
  *
- * A call answers 0 where it is done. Else it answers the lowest number that applies of those it refuses with, and no byte of what it was lent has changed.
+ * A call answers 0 where it is done (lens_deal in its record). Else it answers the lowest number that applies of those it refuses with, and no byte of what it
+ * was lent has changed.
  * Any bench, place, record and length may be handed in: no value makes a call misbehave. What the caller owes, and nothing can check:
  *   - pointers are not null, are aligned to 8 bytes and reach the whole record, or as many entries as the length says;
  *   - what a call is lent does not overlap, unless the call writes to none of it;
@@ -34,7 +36,7 @@ extern "C" {
 #endif
 
 /* goes up with every change of a record: lens_abi() of the library that is linked must answer the same */
-#define LENS_ABI 3
+#define LENS_ABI 4
 
 enum LensLimits { LENS_PLACES = 4, LENS_SURFACES = 16, LENS_SLOTS = 4, LENS_VARIABLES = 8, LENS_OPERANDS = 12, LENS_SCRATCH = 128 };
 
@@ -52,7 +54,7 @@ enum LensNumbers {
     LENS_SHORT_SCRATCH = 9,  /* fewer than LENS_SCRATCH numbers */
     LENS_TAKEN = 10,         /* the place has a job */
     LENS_EMPTY = 11,         /* the place has none */
-    LENS_DAMAGED = 12,       /* the place's bytes are none that the calls leave: release it */
+    LENS_DAMAGED = 12,       /* the place's bytes are none that the calls leave: release it. lens_deal: those of any place, or a next_place above 3 */
     LENS_FINISHED = 13,      /* the job is at its end: fetch it */
     LENS_UNFINISHED = 14,    /* the job is not at its end */
     LENS_BAD_LIMITS = 19,    /* lens_trace_limits: fewer than two surfaces, limits crossed, or an end given or worked out that is not finite */
@@ -170,9 +172,15 @@ typedef struct LensFinished {
     size_t places[4], count;
 } LensFinished;
 
-/* to be read by the calls alone */
+/* number is what the call answers; where it is not LENS_DONE, dealt is 0 */
+typedef struct LensDealt {
+    uint32_t dealt, number;
+} LensDealt;
+
+/* to be read by the calls alone, but for the place at which the next dealing begins, 0 to 3: lens_deal alone reads and writes that one */
 typedef struct LensBench {
     uint64_t opaque[2288];
+    size_t next_place;
 } LensBench;
 
 LENS_ASSERT(sizeof(size_t) == 8 && sizeof(double) == 8, "lensbench.h is for x86-64");
@@ -180,7 +188,7 @@ LENS_ASSERT(sizeof(LensSurface) == 32 && sizeof(LensVariable) == 48 && sizeof(Le
 LENS_ASSERT(sizeof(LensSettings) == 88 && sizeof(LensJob) == 2016 && sizeof(LensRequest) == 2032, "lensbench.h: a record has padding");
 LENS_ASSERT(sizeof(LensResult) == 736 && sizeof(LensEvaluation) == 200 && sizeof(LensRay) == 16, "lensbench.h: a record has padding");
 LENS_ASSERT(sizeof(LensInterval) == 16 && sizeof(LensThicknessLimits) == 256 && sizeof(LensTraceLimits) == 528, "lensbench.h: a record has padding");
-LENS_ASSERT(sizeof(LensFinished) == 40 && sizeof(LensBench) == 18304, "lensbench.h: a record has padding");
+LENS_ASSERT(sizeof(LensFinished) == 40 && sizeof(LensDealt) == 8 && sizeof(LensBench) == 18312, "lensbench.h: a record has padding");
 
 /* LENS_ABI of the library that is linked */
 uint32_t lens_abi(void);
@@ -190,6 +198,13 @@ LENS_CALL uint32_t lens_admit(LensBench *bench, size_t place, const LensRequest 
 
 /* one merit of the job at the place. The first LENS_SCRATCH numbers of scratch are +0.0 afterwards, the others are not touched. 2, 9, 11, 12 and 13 */
 LENS_CALL uint32_t lens_turn(LensBench *bench, size_t place, double *scratch, size_t scratch_length);
+
+/* hands out so many turns, one each, round the places in rising order from next_place on, until all are spent or no job is left. Empty and finished places are
+ * skipped, and one that its turn leaves damaged is so from then on. next_place becomes the place after the last served, 0 after 3, and scratch is left as by a
+ * turn; where none is served, neither changes. In a run of dealings two jobs that are neither finished nor damaged differ by at most one in the turns dealt to
+ * them, and each is served within four. 9; then 12, with 0 turns too, for a next_place above 3 or a damaged row at any place, finished or not.
+ * A number above 65535 does not arrive: C keeps its low 16 bits. */
+LENS_CALL LensDealt lens_deal(LensBench *bench, uint16_t turns, double *scratch, size_t scratch_length);
 
 /* the result of a finished job, which stays at its place. 2, 11, 12 and 14 */
 LENS_CALL uint32_t lens_fetch(const LensBench *bench, size_t place, LensResult *result);

@@ -1,5 +1,5 @@
 //! Four places for jobs.
-use crate::ffi::{self, BenchRecord, ResultRecord, BENCH_WORDS, OPERANDS, PLACES, SCRATCH, SURFACES};
+use crate::ffi::{self, BenchRecord, DealtRecord, ResultRecord, BENCH_WORDS, OPERANDS, PLACES, SCRATCH, SURFACES};
 use crate::job::Job;
 use crate::outcome::Outcome;
 use crate::record::request;
@@ -71,7 +71,7 @@ impl Bench {
     pub fn new() -> Bench {
         let linked = ffi::abi();
         assert!(linked == ffi::ABI, "liblensbench.a has records of layout {linked}, this crate of layout {}", ffi::ABI);
-        Bench::of(BenchRecord { words: [0; BENCH_WORDS] }, [None; PLACES])
+        Bench::of(BenchRecord { words: [0; BENCH_WORDS], next_place: 0 }, [None; PLACES])
     }
 
     fn of(bench: BenchRecord, jobs: [Option<Counts>; PLACES]) -> Bench {
@@ -94,6 +94,25 @@ impl Bench {
     /// A turn with a scratch of the caller's, of which the first 128 numbers are used and left +0.0; a shorter one is refused with 9.
     pub fn turn_with(&mut self, place: Place, scratch: &mut [f64]) -> Result<(), Refusal> {
         Refusal::answer(ffi::turn(&mut self.bench, place.0, scratch))
+    }
+
+    /// Hands out so many turns, one each, round the places in rising order from [`Bench::next_place`] on, until all are spent or no job is left; empty and
+    /// finished places are skipped. Answers how many were dealt. Refuses with 12, also for 0 turns, where any place is damaged.
+    ///
+    /// In a run of dealings two jobs that are not finished differ by at most one in the turns dealt to them, and each is served within four.
+    pub fn deal(&mut self, turns: u16) -> Result<u32, Refusal> {
+        dealt(ffi::deal(&mut self.bench, turns, &mut self.scratch[..]))
+    }
+
+    /// A dealing with a scratch of the caller's, which is left as by [`Bench::turn_with`], or as it was where nothing is dealt; one shorter than 128 is
+    /// refused with 9.
+    pub fn deal_with(&mut self, turns: u16, scratch: &mut [f64]) -> Result<u32, Refusal> {
+        dealt(ffi::deal(&mut self.bench, turns, scratch))
+    }
+
+    /// Where the next dealing begins: the place after the last that a dealing served, place 0 at first.
+    pub fn next_place(&self) -> Place {
+        Place(self.bench.next_place)
     }
 
     /// Takes turns until the job is at its end, and answers how many. Refuses with 2, 11 and 12.
@@ -147,27 +166,32 @@ impl Bench {
             bytes.extend(job.map_or([u8::MAX; 2], |counts| [counts.surfaces as u8, counts.operands as u8]));
         }
         bytes.extend(self.bench.words.iter().flat_map(|word| word.to_le_bytes()));
+        bytes.extend(self.bench.next_place.to_le_bytes());
         bytes
     }
 
     /// A bench out of what [`Bench::saved`] gave, or `None` where the bytes are not of its form or of another version of the records.
-    /// Bytes that were changed in between can do no harm: the place they belong to is refused with 12, or holds another job.
+    /// Bytes that were changed in between can do no harm: the place they belong to is refused with 12, or holds another job; dealings are refused with 12 where
+    /// a place is damaged or [`Bench::next_place`] is none of the four.
     pub fn restored(bytes: &[u8]) -> Option<Bench> {
         let bytes = bytes.strip_prefix(&header())?;
-        let (counts, words) = bytes.split_at_checked(2 * PLACES)?;
-        if words.len() != 8 * BENCH_WORDS {
-            return None;
-        }
+        let (counts, bytes) = bytes.split_at_checked(2 * PLACES)?;
+        let (words, next_place) = bytes.split_at_checked(8 * BENCH_WORDS)?;
         let mut jobs = [None; PLACES];
         for (job, pair) in jobs.iter_mut().zip(counts.chunks_exact(2)) {
             *job = counts_of(pair)?;
         }
-        let mut bench = BenchRecord { words: [0; BENCH_WORDS] };
+        let mut bench = BenchRecord { words: [0; BENCH_WORDS], next_place: usize::from_le_bytes(next_place.try_into().ok()?) };
         for (word, bytes) in bench.words.iter_mut().zip(words.chunks_exact(8)) {
             *word = u64::from_le_bytes(bytes.try_into().ok()?);
         }
         Some(Bench::of(bench, jobs))
     }
+}
+
+fn dealt(record: DealtRecord) -> Result<u32, Refusal> {
+    Refusal::answer(record.number)?;
+    Ok(record.dealt)
 }
 
 /// What saved bytes begin with.

@@ -5,7 +5,7 @@
 use std::mem::{offset_of, size_of};
 
 /// `LENS_ABI` of the header that the records below were written from.
-pub const ABI: u32 = 3;
+pub const ABI: u32 = 4;
 /// Places of a bench.
 pub const PLACES: usize = 4;
 /// Surfaces of a job at most.
@@ -16,7 +16,7 @@ pub const SLOTS: usize = 4;
 pub const VARIABLES: usize = 8;
 /// Operands of a job at most.
 pub const OPERANDS: usize = 12;
-/// Numbers of scratch that a turn takes.
+/// Numbers of scratch that a turn or a dealing takes.
 pub const SCRATCH: usize = 128;
 pub const BENCH_WORDS: usize = 2288;
 /// `lens_trace` answers it where nothing is refused and there is no trace.
@@ -175,9 +175,16 @@ pub struct FinishedRecord {
 }
 
 #[repr(C)]
+pub struct DealtRecord {
+    pub dealt: u32,
+    pub number: u32,
+}
+
+#[repr(C)]
 #[derive(Clone)]
 pub struct BenchRecord {
     pub words: [u64; BENCH_WORDS],
+    pub next_place: usize,
 }
 
 // the header's own assertions, in its order
@@ -186,7 +193,7 @@ const _: () = assert!(size_of::<Surface>() == 32 && size_of::<VariableRecord>() 
 const _: () = assert!(size_of::<SettingsRecord>() == 88 && size_of::<JobRecord>() == 2016 && size_of::<RequestRecord>() == 2032);
 const _: () = assert!(size_of::<ResultRecord>() == 736 && size_of::<EvaluationRecord>() == 200 && size_of::<Ray>() == 16);
 const _: () = assert!(size_of::<Interval>() == 16 && size_of::<ThicknessLimitsRecord>() == 256 && size_of::<TraceLimitsRecord>() == 528);
-const _: () = assert!(size_of::<FinishedRecord>() == 40 && size_of::<BenchRecord>() == 18304);
+const _: () = assert!(size_of::<FinishedRecord>() == 40 && size_of::<DealtRecord>() == 8 && size_of::<BenchRecord>() == 18312);
 // and where the parts of the larger records begin
 const _: () = assert!(offset_of!(JobRecord, indices) == 512 && offset_of!(JobRecord, variables) == 1024 && offset_of!(JobRecord, operands) == 1408);
 const _: () =
@@ -198,6 +205,7 @@ extern "C" {
     fn lens_abi() -> u32;
     fn lens_admit(bench: *mut BenchRecord, place: usize, request: *const RequestRecord) -> u32;
     fn lens_turn(bench: *mut BenchRecord, place: usize, scratch: *mut f64, scratch_length: usize) -> u32;
+    fn lens_deal(bench: *mut BenchRecord, turns: u16, scratch: *mut f64, scratch_length: usize) -> DealtRecord;
     fn lens_fetch(bench: *const BenchRecord, place: usize, result: *mut ResultRecord) -> u32;
     fn lens_release(bench: *mut BenchRecord, place: usize) -> u32;
     fn lens_finished_places(bench: *const BenchRecord) -> FinishedRecord;
@@ -219,6 +227,11 @@ pub fn admit(bench: &mut BenchRecord, place: usize, request: &RequestRecord) -> 
 pub fn turn(bench: &mut BenchRecord, place: usize, scratch: &mut [f64]) -> u32 {
     // SAFETY: by the types, see above.
     unsafe { lens_turn(bench, place, scratch.as_mut_ptr(), scratch.len()) }
+}
+
+pub fn deal(bench: &mut BenchRecord, turns: u16, scratch: &mut [f64]) -> DealtRecord {
+    // SAFETY: by the types, see above.
+    unsafe { lens_deal(bench, turns, scratch.as_mut_ptr(), scratch.len()) }
 }
 
 pub fn fetch(bench: &BenchRecord, place: usize, result: &mut ResultRecord) -> u32 {

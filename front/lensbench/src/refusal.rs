@@ -27,7 +27,7 @@ pub enum Refusal {
     Taken,
     /// 11: the place has no job.
     Empty,
-    /// 12: what the place holds was not left there by these calls.
+    /// 12: what the place holds was not left there by these calls; of a dealing, what some place holds, or the place to go next.
     Damaged,
     /// 13: the job is at its end.
     Finished,
@@ -102,10 +102,10 @@ impl Refusal {
             }
             Refusal::NoVariable => "a job has at least one variable that is enabled",
             Refusal::NoOperand => "a job has at least one operand",
-            Refusal::ShortScratch => "a turn needs a scratch of 128 numbers",
+            Refusal::ShortScratch => "a turn or a dealing needs a scratch of 128 numbers",
             Refusal::Taken => "the place has a job already",
             Refusal::Empty => "the place has no job",
-            Refusal::Damaged => "what the place holds was not left there by the bench's calls; it can be released",
+            Refusal::Damaged => "what the place, or for a dealing some place, holds was not left there by the bench's calls; it can be released",
             Refusal::Finished => "the job is at its end and can be fetched",
             Refusal::Unfinished => "the job is not at its end yet",
             Refusal::ThicknessLimits => "a trace within limits has two surfaces or more, limits that are finite and not crossed, and no end that overflows",

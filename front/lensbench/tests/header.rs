@@ -66,7 +66,7 @@ fn sizes() {
     for (name, size) in [("Surface", 32), ("Variable", 48), ("Operand", 40), ("Settings", 88), ("Job", 2016), ("Request", 2032), ("Result", 736)] {
         assert!(text.contains(&format!("sizeof(Lens{name}) == {size}")), "{name}");
     }
-    for (name, size) in [("Evaluation", 200), ("Ray", 16), ("Finished", 40), ("Bench", 18304)] {
+    for (name, size) in [("Evaluation", 200), ("Ray", 16), ("Finished", 40), ("Dealt", 8), ("Bench", 18312)] {
         assert!(text.contains(&format!("sizeof(Lens{name}) == {size}")), "{name}");
     }
 }
