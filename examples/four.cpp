@@ -15,6 +15,13 @@ class Bench {
 public:
     void admit(std::size_t place, const LensRequest &request) { check("admit", lens_admit(&bench_, place, &request)); }
 
+    // turns for all jobs alike, 0 where all are at their end
+    std::uint32_t deal(std::uint16_t turns) {
+        const LensDealt answer = lens_deal(&bench_, turns, scratch_.data(), scratch_.size());
+        check("deal", answer.number);
+        return answer.dealt;
+    }
+
     // false at the job's end
     bool turn(std::size_t place) {
         const std::uint32_t number = lens_turn(&bench_, place, scratch_.data(), scratch_.size());
@@ -28,8 +35,6 @@ public:
         check("release", lens_release(&bench_, place));
         return result;
     }
-
-    std::size_t finished() const { return lens_finished_places(&bench_).count; }
 
 private:
     static void check(const char *what, std::uint32_t number) {
@@ -69,8 +74,7 @@ int main() try {
 
     Bench together;
     for (std::size_t i = 0; i < requests.size(); i++) together.admit(i, requests[i]);
-    while (together.finished() < requests.size())
-        for (std::size_t i = 0; i < requests.size(); i++) together.turn(i);
+    while (together.deal(100) > 0) continue;
     for (std::size_t i = 0; i < requests.size(); i++) {
         Bench alone;
         alone.admit(0, requests[i]);

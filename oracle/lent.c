@@ -1,9 +1,8 @@
 /* The exported calls from C, against the oracle's answers to the same job lines (oracle/README.md): each result bit for bit, each refusal's number; and
    after every refused call, and every listing, every byte of bench, result, evaluation, rays, limits and scratch as it was, with a NaN of another payload in each
    f64 of theirs. Usage: lent ANSWERS < lines. Prints how many calls of each sort were tried; ends with status 1 at the first that is wrong. */
-#include "lines.h"
-#include "rows.h"
-#include <stdarg.h>
+#define PROGRAM "lent"
+#include "tries.h"
 
 enum { LONG = 300 };
 static struct Lent {
@@ -15,21 +14,16 @@ static struct Lent {
     double scratch[LONG];
 } now, before, safe;
 
-static Line line;
-static size_t lines, skipped, admits, turns, fetches, releases, listings, evaluations, traces, within, results;
+static size_t skipped, admits, turns, fetches, releases, listings, evaluations, traces, within, results;
 static int finished[4]; /* the places whose jobs are at their end */
 static uint64_t used[4]; /* and the turns that each took */
 
-static void fail(const char *what, ...) {
-    va_list rest;
-    va_start(rest, what);
-    printf("lent: line %zu (%s): ", lines, line.name);
-    vprintf(what, rest);
-    printf("\n");
-    va_end(rest);
-    exit(1);
+static void mark_entries(LensJob *j, size_t surfaces, size_t variables, size_t operands) {
+    MARK_FROM(j->surfaces, surfaces);
+    MARK_FROM(j->indices, 4 * surfaces);
+    for (size_t i = variables; i < 8; i++) MARK(j->variables[i].min_value), MARK(j->variables[i].max_value), MARK(j->variables[i].step_size);
+    for (size_t i = operands; i < 12; i++) MARK(j->operands[i].limit_mm), MARK(j->operands[i].target), MARK(j->operands[i].weight);
 }
-
 static void mark_lent(void) {
     MARK(now.result.surfaces), MARK(now.result.values), MARK(now.result.residuals), MARK(now.result.initial_merit), MARK(now.result.final_merit);
     MARK(now.evaluation), MARK(now.rays), MARK(now.limits), MARK(now.scratch);
@@ -200,6 +194,8 @@ static void clear(size_t place) {
 static void job(uint32_t wanted, const char *answer) {
     size_t place = lines & 3;
     LensRequest *asked = &line.request;
+    uint64_t next_place = lines % 8 == 7 ? UINT64_MAX : lines % 8;
+    now.bench.next_place = next_place; /* whatever it is, none of these calls looks at it or changes it */
     clear(place);
     lists();
     if (wanted != 0) { admit(place, asked, wanted, "admit"); return; }
@@ -246,6 +242,7 @@ static void job(uint32_t wanted, const char *answer) {
     now.bench.rows[place].iteration = iteration;
     turns += 2, fetches += 1, admits += 1;
     fetch(place, taken, answer);
+    if (now.bench.next_place != next_place) fail("the next place has changed without a dealing");
 }
 
 /* ---- a lens by itself */

@@ -13,9 +13,12 @@ typedef struct {
 } Row;
 typedef union {
     LensBench lent;
-    Row rows[4];
+    struct {
+        Row rows[4];
+        size_t next_place;
+    };
 } Bench;
-LENS_ASSERT(sizeof(Bench) == sizeof(LensBench), "the rows are all that a bench has");
+LENS_ASSERT(sizeof(Bench) == sizeof(LensBench), "the rows and the next place are all that a bench has");
 
 /* ---- NaN of any sign and payload, quiet and signalling */
 static uint64_t state = 0x9e3779b97f4a7c15;
@@ -30,12 +33,6 @@ static void mark(void *at, size_t bytes) {
 #define MARK(object) mark(&(object), sizeof(object))
 #define MARK_FROM(array, n) mark((array) + (n), sizeof(array) - (n) * sizeof *(array))
 
-static void mark_entries(LensJob *j, size_t surfaces, size_t variables, size_t operands) {
-    MARK_FROM(j->surfaces, surfaces);
-    MARK_FROM(j->indices, 4 * surfaces);
-    for (size_t i = variables; i < 8; i++) MARK(j->variables[i].min_value), MARK(j->variables[i].max_value), MARK(j->variables[i].step_size);
-    for (size_t i = operands; i < 12; i++) MARK(j->operands[i].limit_mm), MARK(j->operands[i].target), MARK(j->operands[i].weight);
-}
 /* what a row works with, which refusal 12 does not look at */
 static void mark_work(Row *r) {
     MARK(r->jacobian), MARK(r->values), MARK(r->residuals), MARK(r->plus_residuals), MARK(r->params), MARK(r->candidate);

@@ -14,6 +14,7 @@ uint32_t fetch(void) { return 2; }
 uint32_t release(void) { return 3; }
 uint32_t admit_record(void) { return 4; }
 uint32_t finished_places(void) { return 5; }
+uint32_t deal(void) { return 6; }
 
 static void must(int holds, const char *what) {
     if (!holds) { printf("caller: %s\n", what); exit(1); }
@@ -57,6 +58,23 @@ static void zeroed(void) {
     must(lens_admit(&one, 0, &zero) == LENS_BAD_COUNT, "a request of kind 0 is taken");
 }
 
+/* the same job at all four places, dealt its turns from the next place on; refused, nothing is dealt */
+static void dealt_to_the_end(LensBench *bench, const LensRequest *request, double *scratch) {
+    size_t first = bench->next_place;
+    for (size_t place = 0; place < LENS_PLACES; place++) must(lens_admit(bench, place, request) == LENS_DONE, "admit");
+    LensDealt answer = lens_deal(bench, 3, scratch, LENS_SCRATCH - 1);
+    must(answer.number == LENS_SHORT_SCRATCH && answer.dealt == 0 && bench->next_place == first, "a dealing with little scratch");
+    answer = lens_deal(bench, 3, scratch, LENS_SCRATCH);
+    must(answer.number == LENS_DONE && answer.dealt == 3 && bench->next_place == (first + 3) % LENS_PLACES, "a dealing of three turns");
+    do answer = lens_deal(bench, UINT16_MAX, scratch, LENS_SCRATCH);
+    while (answer.number == LENS_DONE && answer.dealt > 0);
+    must(answer.number == LENS_DONE && lens_finished_places(bench).count == LENS_PLACES, "dealt to the end");
+    bench->next_place = LENS_PLACES;
+    must(lens_deal(bench, 0, scratch, LENS_SCRATCH).number == LENS_DAMAGED, "a next place above 3");
+    bench->next_place = first;
+    for (size_t place = 0; place < LENS_PLACES; place++) must(lens_release(bench, place) == LENS_DONE, "release");
+}
+
 /* a run of each kind, and a lens by itself, as big as they come */
 static void run_all(void) {
     static LensBench bench;
@@ -77,6 +95,7 @@ static void run_all(void) {
         must(lens_admit(&bench, 0, &request) == LENS_DONE, "admit");
         while (lens_turn(&bench, 0, scratch, LENS_SCRATCH) == LENS_DONE) continue;
         must(lens_finished_places(&bench).count == 1 && lens_fetch(&bench, 0, &result) == LENS_DONE && lens_release(&bench, 0) == LENS_DONE, "a run");
+        bench.next_place = kind, dealt_to_the_end(&bench, &request, scratch);
         must(lens_evaluate(job, &evaluation) == LENS_DONE && lens_trace(job, 3, rays, 16) == LENS_DONE, "a lens by itself");
         for (size_t i = 0; i < 16; i++) limits.thicknesses[i] = (LensInterval){job->surfaces[i].thickness_mm, job->surfaces[i].thickness_mm};
         must(lens_trace_limits(job, &limits, 3, &traced) == LENS_DONE, "limits");
@@ -118,7 +137,7 @@ static void stack_taken(void) {
 
 int main(void) {
     must(lens_abi() == LENS_ABI, "the library is of another ABI than the header");
-    must(turn() == 1 && fetch() == 2 && release() == 3 && admit_record() == 4 && finished_places() == 5, "a name of the caller's is taken");
+    must(turn() == 1 && fetch() == 2 && release() == 3 && admit_record() == 4 && finished_places() == 5 && deal() == 6, "a name of the caller's is taken");
     zeroed();
     stack_taken();
     printf("caller: names, defaults and ABI are as the header says; %zu bytes of stack taken, %d promised\n", used, PROMISED);
