@@ -2,7 +2,8 @@
 //!
 //! A [`Job`] is a lens, what may vary of it, what is wanted of it, and a run: damped least squares, multi-start or simulated annealing. It is admitted to an
 //! empty place of a [`Bench`], takes turns until one is refused with [`Refusal::Finished`], is fetched and released. The number of its turns is bounded
-//! beforehand ([`Job::turn_bound`]). A call that is turned down answers a [`Refusal`], and nothing has changed.
+//! beforehand ([`Job::turn_bound`]). [`Bench::deal`] hands out turns to all jobs alike. A call that is turned down answers a [`Refusal`], and nothing has
+//! changed.
 //!
 //! ```
 //! use lensbench::{Aim, Bench, Job, Lens, Operand, Place, Quantity, Refusal, Surface, Variable};

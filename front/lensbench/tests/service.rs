@@ -41,6 +41,16 @@ impl Service {
         }
     }
 
+    /// Turns for all jobs; those that are finished by them are handed out.
+    fn deal(&mut self, turns: u16) {
+        let jobs = self.at.iter().flatten().count();
+        let dealt = self.bench.deal(turns).unwrap();
+        assert!(if jobs == 0 { dealt == 0 } else { dealt <= turns.into() });
+        for place in self.bench.finished_places() {
+            self.hand_out(place);
+        }
+    }
+
     fn hand_out(&mut self, place: Place) {
         assert!(self.bench.finished_places().contains(&place));
         let id = self.at[place.0].take().unwrap();
@@ -68,6 +78,10 @@ fn work(service: &Mutex<Service>, jobs: &[Job], seed: u64) {
             return;
         }
         service.admit(jobs);
+        if dice.chance(3) {
+            service.deal(dice.below(100) as u16);
+            continue;
+        }
         for _ in 0..1 + dice.below(50) {
             service.turn(Place(dice.below(4)));
         }
