@@ -70,7 +70,10 @@ static size_t deal(size_t turns, size_t length) {
 static void run_of_dealings(void) {
     uint64_t began[4], least = UINT64_MAX, most = 0;
     for (size_t p = 0; p < 4; p++) began[p] = is_live(p) ? now.bench.rows[p].turns : UINT64_MAX;
-    for (size_t many = 1 + below(6); many > 0; many--) deal(some_turns() % 97, LENS_SCRATCH + below(LONG - LENS_SCRATCH + 1));
+    for (size_t many = 1 + below(6); many > 0; many--) {
+        size_t turns = below(4) == 0 ? some_turns() : below(12), length = LENS_SCRATCH + below(LONG - LENS_SCRATCH + 1);
+        deal(turns, length);
+    }
     for (size_t p = 0; p < 4; p++) {
         if (began[p] == UINT64_MAX || !is_live(p)) continue;
         uint64_t had = now.bench.rows[p].turns - began[p];
