@@ -2,4 +2,4 @@
 use Prim.Native.Nat.{ℕ}
 
 abbrev pub abiNumber : ℕ
-abiNumber = 3
+abiNumber = 4
