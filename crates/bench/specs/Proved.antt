@@ -287,6 +287,7 @@ demand3 = record {
   annealingBound = λ job c e. bound-is job _ e;
   results = fetched-returned;
   nextPlaces = λ calls. agree-after calls .next;
+  nextBelow = λ calls. agree-after calls .below;
   nextPlace = next-place;
   dealtTurns = dealt-turns;
   dealtRows = dealt-rows;

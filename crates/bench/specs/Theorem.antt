@@ -153,9 +153,11 @@ pub record Demand3 : Type 0 where
   -- ---- "its final merit finite, not above its first, and the merit of the surfaces returned"
   pub results : (calls : List Call) (place : ℕ) (r : Result) → benchAnswer (benchAfter calls) (fetch place) ≡ fetched r
       → ReturnedBy (entryAt (bookAfter calls) place) r
-  -- ---- "Turns dealt fairly" (request 8), but for `answers` and `nextPlaces` on any bench whatever
+  -- ---- "Turns dealt fairly" (request 8), but for `answers`, `nextPlaces` and `nextBelow` on any bench whatever
   -- "the book keeps such a place .. and must agree in refusals, numbers dealt" (`answers`) "and that place"
   pub nextPlaces : (calls : List Call) → benchAfter calls .«next_place» ≡ bookAfter calls .next
+  -- "the place to go next, 0 to 3"
+  pub nextBelow : (calls : List Call) → bookAfter calls .next < 4
   -- "the one after the last served by a dealing, 0 after 3, unchanged where none is served and by every other call"
   pub nextPlace : (b : Bench) (c : Call) → benchStep b c .«next_place» ≡ nextAfter (b .«next_place») (dealtTo b c)
   -- "dealings are orders of single turns": none of these turns is refused, and they leave its rows
