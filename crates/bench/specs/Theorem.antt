@@ -157,7 +157,7 @@ pub record Demand3 : Type 0 where
   -- "the book keeps such a place .. and must agree in refusals, numbers dealt" (`answers`) "and that place"
   pub nextPlaces : (calls : List Call) → benchAfter calls .«next_place» ≡ bookAfter calls .next
   -- "the place to go next, 0 to 3"
-  pub nextBelow : (calls : List Call) → bookAfter calls .next < 4
+  pub nextBelow : (calls : List Call) → benchAfter calls .«next_place» < 4
   -- "the one after the last served by a dealing, 0 after 3, unchanged where none is served and by every other call"
   pub nextPlace : (b : Bench) (c : Call) → benchStep b c .«next_place» ≡ nextAfter (b .«next_place») (dealtTo b c)
   -- "dealings are orders of single turns": none of these turns is refused, and they leave its rows
