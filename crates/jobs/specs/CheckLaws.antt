@@ -13,7 +13,8 @@ use Rattle.lists.specs.Kept.{below, kept-used}
 use Rattle.lists.specs.Refusals.{refusal, firstRefusal}
 use Rattle.optics.specs.KeptLaws.{lens-kept}
 use Rattle.variables.specs.Active.{noVariable, variableAt, ifEnabled, enabledOf, numActive}
-use Rattle.variables.specs.Taken.{variableTaken, variablesTaken}
+use Rattle.variables.specs.Taken.{variableTaken, variablesTaken, followerTaken, followersTaken}
+use Rattle.variables.specs.declared.types.VariableDef.{VariableDef}
 use Rattle.variables.specs.declared.types.VariableSet.{VariableSet}
 use Rattle.merit.specs.Check.{operandTaken, operandsTaken}
 use Rattle.merit.specs.OperandTable.{noOperand as pastOperand, operandAt}
@@ -43,12 +44,13 @@ active-kept v m = ap length (enabled-kept v (v .«variable_count») m (le-refl _
 -- ---- the answer
 module _ (j : Job) where
   kept-causes : Counts j → firstRefusal (jobRefusals (keptJob j)) ≡ firstRefusal (jobRefusals j)
-  unfolding variablesTaken
+  unfolding variablesTaken followersTaken
   kept-causes n = λ i.
       firstRefusal
       (refusal 1 (countsWrong j)
       ∷ refusal 3 (not (lens-kept (j .prescription) (n .surfaces) (n .slots) i))
       ∷ refusal 4 (not (variables i))
+      ∷ refusal 17 (not (followers i))
       ∷ refusal 5 (not (operands i))
       ∷ refusal 6 (settingsRefused j)
       ∷ refusal 7 (eqb (active-kept (j .variables) (n .variables) i) 0)
@@ -59,6 +61,12 @@ module _ (j : Job) where
           ≡ variablesTaken (j .prescription .«surface_count») (j .variables)
       variables =
           all-same _ _ (j .variables .«variable_count») (λ k h. ap (variableTaken (j .prescription .«surface_count»))
+          (variable-kept (j .variables) k (n .variables) h))
+
+      followers : followersTaken (j .prescription .«surface_count») (keptVariables (j .variables))
+          ≡ followersTaken (j .prescription .«surface_count») (j .variables)
+      followers =
+          all-same _ _ (j .variables .«variable_count») (λ k h. ap (λ (d : VariableDef). followerTaken (j .prescription .«surface_count») (d .«var_type») (d .follower))
           (variable-kept (j .variables) k (n .variables) h))
 
       operands : operandsTaken (j .prescription .«slot_count») (keptOperands (j .«merit_function»))

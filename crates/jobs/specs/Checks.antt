@@ -10,7 +10,7 @@ use Rattle.lists.specs.Refusals.{Refusal, refusal, firstRefusal}
 use Rattle.optics.specs.Check.{lensTaken}
 use Rattle.optics.specs.Kept.{lensCountsTaken}
 use Rattle.variables.specs.Active.{numActive}
-use Rattle.variables.specs.Taken.{variablesTaken}
+use Rattle.variables.specs.Taken.{variablesTaken, followersTaken}
 use Rattle.merit.specs.Check.{operandsTaken}
 use Rattle.jobs.specs.declared.types.DlsConfig.{DlsConfig}
 use Rattle.jobs.specs.declared.types.Job.{Job}
@@ -75,6 +75,9 @@ lensRefused j = not (lensTaken (j .prescription))
 abbrev pub variablesRefused : Job → Bool
 variablesRefused j = not (variablesTaken (j .prescription .«surface_count») (j .variables))
 
+abbrev pub followersRefused : Job → Bool
+followersRefused j = not (followersTaken (j .prescription .«surface_count») (j .variables))
+
 abbrev pub operandsRefused : Job → Bool
 operandsRefused j = not (operandsTaken (j .prescription .«slot_count») (j .«merit_function»))
 
@@ -95,6 +98,8 @@ jobRefusals j =
     ∷ refusal 3 (lensRefused j)
     -- "Any variable, enabled or not, with an absent surface, bounds .. step .."
     ∷ refusal 4 (variablesRefused j)
+    -- "an absent follower surface, or a follower with minus of a semi-diameter or thickness, gives 17, after 4 and before 5"
+    ∷ refusal 17 (followersRefused j)
     -- "Operand with an absent slot, target or limit .. weight .."
     ∷ refusal 5 (operandsRefused j)
     -- "Settings: initial damping .. relative step or cooling rate .. tolerance or temperature .. a count .."
@@ -113,6 +118,6 @@ admissionRefusals r = jobRefusals (filled r)
 abbrev pub jobTaken : Job → Bool
 jobTaken j = eqb (firstRefusal (jobRefusals j)) 0
 
--- a row's job: "would be refused on admission to an empty place", or holds a number that is no kind
+-- a row's job: "would be refused on admission to an empty place", or holds a number that is no kind, mark or sign
 abbrev pub recordTaken : (kind : ℕ) → JobRecord → Bool
 recordTaken kind r = jobTaken (jobOf kind r) && knownKinds r

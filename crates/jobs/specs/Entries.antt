@@ -4,6 +4,8 @@ use mathlib.Core.Bool.{Bool, cond, _&&_}
 use lib.Dec.{ltb, eqb}
 use lib.Ieee.{Float, nan}
 use Rattle.floats.specs.Constants.{zero64}
+use Rattle.variables.specs.declared.types.Follower.{Follower}
+use Rattle.variables.specs.declared.types.Follower.the-variants.{None, Plus, Minus}
 use Rattle.variables.specs.declared.types.VariableDef.{VariableDef}
 use Rattle.variables.specs.declared.types.VariableType.{VariableType}
 use Rattle.variables.specs.declared.types.VariableType.the-variants.{Curvature, Thickness, Conic, SemiDiameter}
@@ -28,6 +30,20 @@ variableType kind i = cond (eqb kind 0) (Curvature i) (cond (eqb kind 1) (Thickn
 abbrev pub oneIf : Bool → ℕ
 oneIf b = cond b 1 0
 
+-- ---- followers: 0 none, 1 plus, 2 minus, and the surface; 0 where there is none
+abbrev pub followsOf : Follower → ℕ
+followsOf None = 0
+followsOf (Plus i) = 1
+followsOf (Minus i) = 2
+
+abbrev pub followerSurface : Follower → ℕ
+followerSurface None = 0
+followerSurface (Plus i) = i
+followerSurface (Minus i) = i
+
+unfoldable pub followerOf : (follows i : ℕ) → Follower
+followerOf follows i = cond (eqb follows 0) None (cond (eqb follows 1) (Plus i) (Minus i))
+
 abbrev pub variableRecord : VariableDef → VariableRecord
 variableRecord d = record {
   kind = variableKind (d .«var_type»);
@@ -36,6 +52,8 @@ variableRecord d = record {
   «min_value» = d .«min_value»;
   «max_value» = d .«max_value»;
   «step_size» = d .«step_size»;
+  follows = followsOf (d .follower);
+  follower = followerSurface (d .follower);
 }
 
 abbrev pub variableOf : VariableRecord → VariableDef
@@ -45,6 +63,7 @@ variableOf r = record {
   «max_value» = r .«max_value»;
   «step_size» = r .«step_size»;
   enabled = eqb (r .enabled) 1;
+  follower = followerOf (r .follows) (r .follower);
 }
 
 -- ---- operands: kinds 0 to 7, each with a slot or a surface, and a limit; 0 where it has none
@@ -105,21 +124,39 @@ operandOf r = record { «operand_type» = operandType (r .kind) (r .at) (r .«li
 
 -- the checker's defaults for a read past the end
 abbrev pub noVariableRecord : VariableRecord
-noVariableRecord = record { kind = 0; «surface_index» = 0; enabled = 0; «min_value» = nan; «max_value» = nan; «step_size» = nan }
+noVariableRecord = record {
+  kind = 0;
+  «surface_index» = 0;
+  enabled = 0;
+  «min_value» = nan;
+  «max_value» = nan;
+  «step_size» = nan;
+  follows = 0;
+  follower = 0;
+}
 
 abbrev pub noOperandRecord : OperandRecord
 noOperandRecord = record { kind = 0; at = 0; «limit_mm» = nan; target = nan; weight = nan }
 
 -- all its numbers zero
 abbrev pub zeroVariableRecord : VariableRecord
-zeroVariableRecord = record { kind = 0; «surface_index» = 0; enabled = 0; «min_value» = zero64; «max_value» = zero64; «step_size» = zero64 }
+zeroVariableRecord = record {
+  kind = 0;
+  «surface_index» = 0;
+  enabled = 0;
+  «min_value» = zero64;
+  «max_value» = zero64;
+  «step_size» = zero64;
+  follows = 0;
+  follower = 0;
+}
 
 abbrev pub zeroOperandRecord : OperandRecord
 zeroOperandRecord = record { kind = 0; at = 0; «limit_mm» = zero64; target = zero64; weight = zero64 }
 
--- a number that is no kind, or an enabled mark other than 0 and 1, is damage
+-- a number that is no kind or no sign, or an enabled mark other than 0 and 1, is damage
 abbrev pub variableKnown : VariableRecord → Bool
-variableKnown v = ltb (v .kind) 4 && ltb (v .enabled) 2
+variableKnown v = ltb (v .kind) 4 && ltb (v .enabled) 2 && ltb (v .follows) 3
 
 abbrev pub operandKnown : OperandRecord → Bool
 operandKnown o = ltb (o .kind) 8

@@ -6,6 +6,7 @@ use lib.ListN.{getD}
 use Rattle.floats.specs.Constants.{zero64}
 use Rattle.lists.specs.Kept.{kept, below}
 use Rattle.optics.specs.Kept.{keptPrescription}
+use Rattle.variables.specs.declared.types.Follower.the-variants.{None}
 use Rattle.variables.specs.declared.types.VariableDef.{VariableDef}
 use Rattle.variables.specs.declared.types.VariableSet.{VariableSet}
 use Rattle.variables.specs.declared.types.VariableType.the-variants.{Curvature}
@@ -20,7 +21,7 @@ use Rattle.jobs.specs.Filled.{filled}
 
 -- the variable and the operand whose numbers are all zero
 abbrev pub zeroVariable : VariableDef
-zeroVariable = record { «var_type» = Curvature 0; «min_value» = zero64; «max_value» = zero64; «step_size» = zero64; enabled = false }
+zeroVariable = record { «var_type» = Curvature 0; «min_value» = zero64; «max_value» = zero64; «step_size» = zero64; enabled = false; follower = None }
 
 abbrev pub zeroOperand : MeritOperand
 zeroOperand = record { «operand_type» = EffectiveFocalLength 0; target = zero64; weight = zero64 }

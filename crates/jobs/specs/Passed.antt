@@ -8,7 +8,7 @@ use borrow.Author.Tests.{not-false, eqb-true, eqb-false}
 use Rattle.lists.specs.Refusals.{none-of, let-through}
 use Rattle.optics.specs.Check.{lensTaken}
 use Rattle.variables.specs.Active.{numActive}
-use Rattle.variables.specs.Taken.{variablesTaken}
+use Rattle.variables.specs.Taken.{variablesTaken, followersTaken}
 use Rattle.merit.specs.Check.{operandsTaken}
 use Rattle.jobs.specs.declared.types.Job.{Job}
 use Rattle.jobs.specs.Checks.{settingsTaken, countsTaken, jobRefusals, jobTaken}
@@ -19,6 +19,7 @@ pub record Passed (j : Job) : Type 0 where
   pub counted : Counts j
   pub lens : T (lensTaken (j .prescription))
   pub variables : T (variablesTaken (j .prescription .«surface_count») (j .variables))
+  pub followers : T (followersTaken (j .prescription .«surface_count») (j .variables))
   pub operands : T (operandsTaken (j .prescription .«slot_count») (j .«merit_function»))
   pub settings : T (settingsTaken (j .method))
   pub enabled : 0 < numActive (j .variables)
@@ -36,6 +37,7 @@ passed j taken =
       counted = counts j (not-false (countsTaken j) (none-of rs 1 none));
       lens = let-through (lensTaken (j .prescription)) (none-of rs 3 none);
       variables = let-through (variablesTaken (j .prescription .«surface_count») (j .variables)) (none-of rs 4 none);
+      followers = let-through (followersTaken (j .prescription .«surface_count») (j .variables)) (none-of rs 17 none);
       operands = let-through (operandsTaken (j .prescription .«slot_count») (j .«merit_function»)) (none-of rs 5 none);
       settings = let-through (settingsTaken (j .method)) (none-of rs 6 none);
       enabled = some (numActive (j .variables)) (none-of rs 7 none);

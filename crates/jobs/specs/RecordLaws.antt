@@ -1,6 +1,6 @@
 -- A job and its record are one to one, and a job's record holds known kinds only. Assumes nothing.
 use mathlib.Core.Path.{_≡_, refl, sym, ap, _∙_}
-use mathlib.Core.Bool.{Bool, true, false}
+use mathlib.Core.Bool.{Bool, true, false, _&&_}
 use mathlib.Core.List.{List}
 use Prim.Native.Nat.{ℕ, _≤_, _<_}
 use native.Mathlib.Omega.{arith}
@@ -9,6 +9,8 @@ use lib.Ieee.Fits.{and-i}
 use lib.ListN.{length, getD}
 use Rattle.lists.specs.Tab.{tab, length-tab, getD-tab, tab-same, tab-self}
 use Rattle.lists.specs.All.{allBelow, all-from}
+use Rattle.variables.specs.declared.types.Follower.{Follower}
+use Rattle.variables.specs.declared.types.Follower.the-variants.{None, Plus, Minus}
 use Rattle.variables.specs.declared.types.VariableDef.{VariableDef}
 use Rattle.variables.specs.declared.types.VariableType.{VariableType}
 use Rattle.variables.specs.declared.types.VariableType.the-variants.{Curvature, Thickness, Conic, SemiDiameter}
@@ -26,6 +28,7 @@ use Rattle.jobs.specs.declared.types.Method.the-variants.{Damped, MultiS
 use Rattle.jobs.specs.Filled.{filled}
 use Rattle.jobs.specs.Kept.{keptJob, jobFrom}
 use Rattle.jobs.specs.Entries.{variableKind, variableType, oneIf, variableRecord, variableOf, operandKind, slotOrSurface, limitOf, slotType, surfaceType}
+use Rattle.jobs.specs.Entries.{followsOf, followerSurface, followerOf}
 use Rattle.jobs.specs.Entries.{operandType, operandRecord, operandOf, noVariableRecord, noOperandRecord, variableKnown, operandKnown}
 use Rattle.jobs.specs.Records.{methodKind, settingsRecord, method, kindOf, recordOf, variableRecordAt, operandRecordAt, jobOf, knownKinds}
 
@@ -41,6 +44,12 @@ mark-back : (b : Bool) → eqb (oneIf b) 1 ≡ b
 mark-back true = refl
 mark-back false = refl
 
+follower-back : (f : Follower) → followerOf (followsOf f) (followerSurface f) ≡ f
+unfolding followerOf
+follower-back None = refl
+follower-back (Plus i) = refl
+follower-back (Minus i) = refl
+
 variable-back : (d : VariableDef) → variableOf (variableRecord d) ≡ d
 variable-back d = λ i. record {
   «var_type» = type-back (d .«var_type») i;
@@ -48,6 +57,7 @@ variable-back d = λ i. record {
   «max_value» = d .«max_value»;
   «step_size» = d .«step_size»;
   enabled = mark-back (d .enabled) i;
+  follower = follower-back (d .follower) i;
 }
 
 operand-type-back : (t : OperandType) → operandType (operandKind t) (slotOrSurface t) (limitOf t) ≡ t
@@ -112,7 +122,10 @@ one-record a b f g k e = sym (job-back a f) ∙ (λ i. jobOf (k i) (e i)) ∙ jo
 
 -- ---- known kinds
 variable-known : (d : VariableDef) → T (variableKnown (variableRecord d))
-variable-known d = and-i (ltb (variableKind (d .«var_type»)) 4) (ltb (oneIf (d .enabled)) 2) (kind (d .«var_type»)) (mark (d .enabled))
+variable-known d =
+    let k = ltb (variableKind (d .«var_type»)) 4 in
+    let m = ltb (oneIf (d .enabled)) 2 in
+    and-i (k && m) (ltb (followsOf (d .follower)) 3) (and-i k m (kind (d .«var_type»)) (mark (d .enabled))) (sign (d .follower))
   where
     kind : (t : VariableType) → T (ltb (variableKind t) 4)
     kind (Curvature i) = tt
@@ -123,6 +136,11 @@ variable-known d = and-i (ltb (variableKind (d .«var_type»)) 4) (ltb (oneIf (d
     mark : (b : Bool) → T (ltb (oneIf b) 2)
     mark true = tt
     mark false = tt
+
+    sign : (f : Follower) → T (ltb (followsOf f) 3)
+    sign None = tt
+    sign (Plus i) = tt
+    sign (Minus i) = tt
 
 operand-known : (t : OperandType) → T (ltb (operandKind t) 8)
 operand-known (EffectiveFocalLength w) = tt

@@ -4,7 +4,8 @@ use mathlib.Core.Bool.{true}
 use mathlib.Core.Logic.{_↔_}
 use Rattle.lists.specs.Refusals.{firstRefusal, NoneOf, before, answers, answers-none}
 use Rattle.jobs.specs.declared.types.Job.{Job}
-use Rattle.jobs.specs.Checks.{countsWrong, lensRefused, variablesRefused, operandsRefused, settingsRefused, noActiveVariable, noOperand, jobRefusals}
+use Rattle.jobs.specs.Checks.{countsWrong, lensRefused, variablesRefused, followersRefused, operandsRefused, settingsRefused, noActiveVariable}
+use Rattle.jobs.specs.Checks.{noOperand, jobRefusals}
 
 module _ (j : Job) where
   pub not-refused : (firstRefusal (jobRefusals j) ≡ 0) ↔ NoneOf (jobRefusals j)
@@ -18,6 +19,9 @@ module _ (j : Job) where
 
   pub refused-4 : (firstRefusal (jobRefusals j) ≡ 4) ↔ ((variablesRefused j ≡ true) × NoneOf (before 4 (jobRefusals j)))
   refused-4 = answers (jobRefusals j) 4 tt tt
+
+  pub refused-17 : (firstRefusal (jobRefusals j) ≡ 17) ↔ ((followersRefused j ≡ true) × NoneOf (before 17 (jobRefusals j)))
+  refused-17 = answers (jobRefusals j) 17 tt tt
 
   pub refused-5 : (firstRefusal (jobRefusals j) ≡ 5) ↔ ((operandsRefused j ≡ true) × NoneOf (before 5 (jobRefusals j)))
   refused-5 = answers (jobRefusals j) 5 tt tt

@@ -5,6 +5,7 @@ use lib.Ieee.{Float, inf, binary64, ofBits}
 use Rattle.floats.specs.Constants.{zero64}
 use Rattle.optics.specs.declared.types.OpticalPrescription.{OpticalPrescription}
 use Rattle.optics.specs.declared.types.OpticalSurface.{OpticalSurface}
+use Rattle.variables.specs.declared.types.Follower.the-variants.{None}
 use Rattle.variables.specs.declared.types.VariableDef.{VariableDef}
 use Rattle.variables.specs.declared.types.VariableSet.{VariableSet}
 use Rattle.variables.specs.declared.types.VariableType.the-variants.{Thickness}
@@ -71,7 +72,7 @@ module _ (u : Unused) where
   -- its first thickness, from 8 to 64
   abbrev pub thickness : VariableSet
   thickness = record {
-    variables = record { «var_type» = Thickness 0; «min_value» = n8; «max_value» = n64; «step_size» = n1; enabled = true } ∷ u .variables;
+    variables = record { «var_type» = Thickness 0; «min_value» = n8; «max_value» = n64; «step_size» = n1; enabled = true; follower = None } ∷ u .variables;
     «variable_count» = 1;
   }
 

@@ -7,6 +7,7 @@ use Rattle.optics.specs.Types.{surfaceAt, zeroSurface, slotIndex}
 use Rattle.jobs.specs.declared.types.JobRecord.{JobRecord}
 use Rattle.jobs.specs.declared.types.OperandRecord.{OperandRecord}
 use Rattle.jobs.specs.declared.types.SettingsRecord.{SettingsRecord}
+use Rattle.jobs.specs.declared.types.VariableRecord.{VariableRecord}
 use Rattle.jobs.specs.Entries.{zeroVariableRecord, zeroOperandRecord}
 use Rattle.jobs.specs.Records.{variableRecordAt, operandRecordAt}
 
@@ -14,6 +15,10 @@ use Rattle.jobs.specs.Records.{variableRecordAt, operandRecordAt}
 pub record CleanOperand (o : OperandRecord) : Type 0 where
   pub noLimit : o .kind < 5 → o .«limit_mm» ≡ zero64
   pub noSlot : o .kind ≡ 2 → o .at ≡ 0
+
+-- a variable without a follower names no surface for it
+pub record CleanVariable (v : VariableRecord) : Type 0 where
+  pub noFollower : v .follows ≡ 0 → v .follower ≡ 0
 
 -- "A job is of one kind and gives that kind's settings alone": kind 1 damped, 2 multi-start, 3 annealing
 pub record CleanSettings (kind : ℕ) (s : SettingsRecord) : Type 0 where
@@ -36,5 +41,6 @@ pub record CleanRecord (kind : ℕ) (r : JobRecord) : Type 0 where
   pub indices : (i w : ℕ) → i < 16 → w < 4 → (r .«surface_count» ≤ i) ⊎ (r .«slot_count» ≤ w) → slotIndex (r .indices) w i ≡ zero64
   pub variables : (i : ℕ) → r .«variable_count» ≤ i → i < 8 → variableRecordAt r i ≡ zeroVariableRecord
   pub operands : (i : ℕ) → r .«operand_count» ≤ i → i < 12 → operandRecordAt r i ≡ zeroOperandRecord
+  pub variableParts : (i : ℕ) → i < 8 → CleanVariable (variableRecordAt r i)
   pub operandParts : (i : ℕ) → i < 12 → CleanOperand (operandRecordAt r i)
   pub settings : CleanSettings kind (r .settings)

@@ -12,7 +12,10 @@ use Rattle.lists.specs.Tab.{getD-tab}
 use Rattle.optics.specs.Kept.{indexUsed}
 use Rattle.optics.specs.KeptLaws.{index-unused}
 use Rattle.optics.specs.Types.{noSurface, zeroSurface}
-use Rattle.variables.specs.Active.{noVariable}
+use Rattle.variables.specs.Active.{noVariable, variableAt}
+use Rattle.variables.specs.declared.types.Follower.{Follower}
+use Rattle.variables.specs.declared.types.Follower.the-variants.{None, Plus, Minus}
+use Rattle.variables.specs.declared.types.VariableDef.{VariableDef}
 use Rattle.merit.specs.OperandTable.{noOperand, operandAt}
 use Rattle.merit.specs.declared.types.MeritOperand.{MeritOperand}
 use Rattle.merit.specs.declared.types.OperandType.{OperandType}
@@ -21,10 +24,10 @@ use Rattle.merit.specs.declared.types.OperandType.the-variants.{MinCenterThickn
 use Rattle.jobs.specs.declared.types.Job.{Job}
 use Rattle.jobs.specs.declared.types.Method.{Method}
 use Rattle.jobs.specs.declared.types.Method.the-variants.{Damped, MultiStart, Annealing}
-use Rattle.jobs.specs.Entries.{variableRecord, operandRecord, operandKind, slotOrSurface, limitOf, noVariableRecord, noOperandRecord}
+use Rattle.jobs.specs.Entries.{followsOf, followerSurface, variableRecord, operandRecord, operandKind, slotOrSurface, limitOf, noVariableRecord, noOperandRecord}
 use Rattle.jobs.specs.Kept.{zeroVariable, zeroOperand, keptJob}
 use Rattle.jobs.specs.Records.{methodKind, settingsRecord, kindOf, recordOf}
-use Rattle.jobs.specs.Unused.{CleanOperand, CleanSettings, CleanRecord}
+use Rattle.jobs.specs.Unused.{CleanVariable, CleanOperand, CleanSettings, CleanRecord}
 
 no-limit : (t : OperandType) → operandKind t < 5 → limitOf t ≡ zero64
 no-limit (EffectiveFocalLength w) h = refl
@@ -48,6 +51,14 @@ no-slot (ParaxialMagnification w) e = unlike 4 2 refl e
 no-slot (MinCenterThickness i limit) e = unlike 5 2 refl e
 no-slot (MaxCenterThickness i limit) e = unlike 6 2 refl e
 no-slot (MinEdgeThickness i limit) e = unlike 7 2 refl e
+
+no-follower : (f : Follower) → followsOf f ≡ 0 → followerSurface f ≡ 0
+no-follower None e = refl
+no-follower (Plus i) e = unlike 1 0 refl e
+no-follower (Minus i) e = unlike 2 0 refl e
+
+variable-clean : (d : VariableDef) → CleanVariable (variableRecord d)
+variable-clean d = record { noFollower = no-follower (d .follower) }
 
 operand-clean : (o : MeritOperand) → CleanOperand (operandRecord o)
 operand-clean o = record { noLimit = no-limit (o .«operand_type»); noSlot = no-slot (o .«operand_type») }
@@ -105,6 +116,9 @@ record-clean j = record {
   operands =
       λ i l b. getD-tab _ 12 i noOperandRecord b ∙ ap operandRecord
       (kept-unused (below (j .«merit_function» .«operand_count»)) _ zeroOperand 12 i noOperand b (le-ltb i _ l));
+  variableParts =
+      λ i b. subst CleanVariable (sym (getD-tab (λ (i : ℕ). variableRecord (variableAt (keptJob j .variables) i)) 8 i noVariableRecord b))
+      (variable-clean (variableAt (keptJob j .variables) i));
   operandParts =
       λ i b. subst CleanOperand (sym (getD-tab (λ (i : ℕ). operandRecord (operandAt (keptJob j .«merit_function») i)) 12 i noOperandRecord b))
       (operand-clean (operandAt (keptJob j .«merit_function») i));

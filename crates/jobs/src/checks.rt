@@ -100,6 +100,9 @@ pub fn job_refusal(job: Job) -> u32
     if !variables::variables_taken(variables, prescription.surface_count) {
         return 4;
     }
+    if !variables::followers_taken(variables, prescription.surface_count) {
+        return 17;
+    }
     if !meritcalls::operands_taken(prescription.slot_count, merit_function) {
         return 5;
     }

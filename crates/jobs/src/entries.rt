@@ -2,11 +2,12 @@
 ghost use mathlib.Core.Path.{_≡_};
 ghost use Rattle.jobs.specs.Entries.{variableKind, variableType, oneIf, variableRecord, variableOf, operandKind, slotOrSurface, limitOf, slotType};
 ghost use Rattle.jobs.specs.Entries.{surfaceType, operandType, operandRecord, operandOf, zeroVariableRecord, zeroOperandRecord, variableKnown};
-ghost use Rattle.jobs.specs.Entries.{operandKnown};
+ghost use Rattle.jobs.specs.Entries.{operandKnown, followsOf, followerSurface, followerOf};
 use crate::types::OperandRecord;
 use crate::types::VariableRecord;
 use merit::MeritOperand;
 use merit::OperandType;
+use variables::Follower;
 use variables::VariableDef;
 use variables::VariableType;
 
@@ -20,6 +21,8 @@ pub fn zero_variable_record() -> VariableRecord
         min_value: 0.0,
         max_value: 0.0,
         step_size: 0.0,
+        follows: 0,
+        follower: 0,
     }
 }
 
@@ -63,10 +66,41 @@ fn one_if(b: bool) -> u64
     if b { 1 } else { 0 }
 }
 
+fn follows_of(f: Follower) -> u64
+    ensures { λ r. ⌜ r ≡ followsOf f ⌝ }
+{
+    match f {
+        Follower::None => 0,
+        Follower::Plus(_) => 1,
+        Follower::Minus(_) => 2,
+    }
+}
+
+fn follower_surface(f: Follower) -> usize
+    ensures { λ r. ⌜ r ≡ followerSurface f ⌝ }
+{
+    match f {
+        Follower::None => 0,
+        Follower::Plus(i) => i,
+        Follower::Minus(i) => i,
+    }
+}
+
+pub fn follower_of(follows: u64, i: usize) -> Follower
+    ensures { λ r. ⌜ r ≡ followerOf follows i ⌝ }
+{
+    match follows {
+        0 => Follower::None,
+        1 => Follower::Plus(i),
+        _ => Follower::Minus(i),
+    }
+}
+
 pub(crate) fn variable_record(d: VariableDef) -> VariableRecord
     ensures { λ r. ⌜ r ≡ variableRecord d ⌝ }
 {
     let t = d.var_type;
+    let f = d.follower;
     VariableRecord {
         kind: variable_kind(t),
         surface_index: variables::surface_index(t) as u64,
@@ -74,6 +108,8 @@ pub(crate) fn variable_record(d: VariableDef) -> VariableRecord
         min_value: d.min_value,
         max_value: d.max_value,
         step_size: d.step_size,
+        follows: follows_of(f),
+        follower: follower_surface(f) as u64,
     }
 }
 
@@ -81,12 +117,14 @@ pub(crate) fn variable_of(v: VariableRecord) -> VariableDef
     ensures { λ r. ⌜ r ≡ variableOf v ⌝ }
 {
     let t = variable_type(v.kind, v.surface_index as usize);
+    let f = follower_of(v.follows, v.follower as usize);
     VariableDef {
         var_type: t,
         min_value: v.min_value,
         max_value: v.max_value,
         step_size: v.step_size,
         enabled: v.enabled == 1,
+        follower: f,
     }
 }
 
@@ -229,11 +267,17 @@ pub(crate) fn operand_of(o: OperandRecord) -> MeritOperand
     }
 }
 
-// An enabled mark other than 0 and 1 is damage, as is a number that is no kind.
+// An enabled mark other than 0 and 1 is damage, as is a number that is no kind or no sign.
 pub fn variable_known(v: VariableRecord) -> bool
     ensures { λ r. ⌜ r ≡ variableKnown v ⌝ }
 {
-    v.kind < 4 && v.enabled < 2
+    if v.kind >= 4 {
+        return false;
+    }
+    if v.enabled >= 2 {
+        return false;
+    }
+    v.follows < 3
 }
 
 pub fn operand_known(o: OperandRecord) -> bool

@@ -5,6 +5,7 @@ use crate::types::Job;
 use merit::MeritFunction;
 use merit::MeritOperand;
 use merit::OperandType;
+use variables::Follower;
 use variables::VariableDef;
 use variables::VariableSet;
 use variables::VariableType;
@@ -18,6 +19,7 @@ pub(crate) fn zero_variable() -> VariableDef
         max_value: 0.0,
         step_size: 0.0,
         enabled: false,
+        follower: Follower::None,
     }
 }
 

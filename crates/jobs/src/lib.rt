@@ -10,6 +10,7 @@ pub use checks::annealing_taken;
 pub use checks::dls_taken;
 pub use checks::job_refusal;
 pub use entries::OPERAND_KINDS;
+pub use entries::follower_of;
 pub use entries::operand_type;
 pub use entries::variable_type;
 pub use entries::zero_operand_record;

@@ -89,6 +89,7 @@ pub struct Job {
 }
 
 // The same in numbers alone, as a row holds it; the row's kind says which settings are used.
+// `follows` is 0 for no follower, 1 for plus, 2 for minus.
 #[repr(C)]
 pub struct VariableRecord {
     pub kind: u64,
@@ -97,6 +98,8 @@ pub struct VariableRecord {
     pub min_value: f64,
     pub max_value: f64,
     pub step_size: f64,
+    pub follows: u64,
+    pub follower: u64,
 }
 
 #[repr(C)]

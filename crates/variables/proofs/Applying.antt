@@ -1,4 +1,4 @@
--- A loop over the variables of a set that stores the value of each enabled one in its surface. Assumes nothing.
+-- A loop over the variables of a set that stores the value of each enabled one in its surface and in its follower. Assumes nothing.
 use Prim.Native.Nat.{ℕ, _+_, _≤_, _<_}
 use mathlib.Core.Path.{_≡_, sym, _∙_}
 use mathlib.Core.Bool.{true, false}
@@ -10,10 +10,10 @@ use lib.Ieee.{Float, nan}
 use Rattle.optics.specs.declared.types.OpticalSurface.{OpticalSurface}
 use Rattle.variables.specs.declared.types.VariableDef.{VariableDef}
 use Rattle.variables.specs.declared.types.VariableSet.{VariableSet}
-use Rattle.variables.specs.Kinds.{applyClamp, put}
+use Rattle.variables.specs.Kinds.{applyClamp}
 use Rattle.variables.specs.Active.{variableAt}
 use Rattle.variables.specs.ActiveLaws.{enabledCount, count-le, count-more, count-past, active-here}
-use Rattle.variables.specs.Values.{appliedTo}
+use Rattle.variables.specs.Values.{storedIn, appliedTo}
 
 -- i variables are passed, of which q were enabled, and the values of those are stored
 pub record Applying (v : VariableSet) (values : List Float) (start s : List OpticalSurface) (q i : ℕ) : Type 0 where
@@ -23,7 +23,7 @@ pub record Applying (v : VariableSet) (values : List Float) (start s : List Opti
 
 -- one value, as the variable that is passed has it
 abbrev pub one : VariableDef → List Float → ℕ → List OpticalSurface → List OpticalSurface
-one d values q s = put s (d .«var_type») (applyClamp (getD values q nan) (d .«min_value») (d .«max_value»))
+one d values q s = storedIn s d (applyClamp (getD values q nan) (d .«min_value») (d .«max_value»))
 
 module _ {v : VariableSet} {values : List Float} {start s : List OpticalSurface} {q i : ℕ} (a : Applying v values start s q i) where
   pub counted-le : q ≤ i

@@ -4,13 +4,14 @@ use mathlib.Core.Bool.{false, cond}
 use mathlib.Core.List.{List, [], _∷_, _++_}
 use lib.ListN.{length, getD}
 use lib.Ieee.{nan}
+use Rattle.variables.specs.declared.types.Follower.the-variants.{None}
 use Rattle.variables.specs.declared.types.VariableType.the-variants.{Curvature}
 use Rattle.variables.specs.declared.types.VariableDef.{VariableDef}
 use Rattle.variables.specs.declared.types.VariableSet.{VariableSet}
 
 -- the checker's default for a read past the end
 abbrev pub noVariable : VariableDef
-noVariable = record { «var_type» = Curvature 0; «min_value» = nan; «max_value» = nan; «step_size» = nan; enabled = false }
+noVariable = record { «var_type» = Curvature 0; «min_value» = nan; «max_value» = nan; «step_size» = nan; enabled = false; follower = None }
 
 abbrev pub variableAt : VariableSet → ℕ → VariableDef
 variableAt v i = getD (v .variables) i noVariable

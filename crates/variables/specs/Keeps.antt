@@ -4,11 +4,11 @@ use mathlib.Core.Bool.{Bool, true, false, not, cond, true≢false}
 use mathlib.Core.List.{List, [], _∷_}
 use Prim.Native.Nat.{ℕ, zero, suc, _*_, _≤_, _<_}
 use native.Mathlib.Omega.{arith}
-use lib.Dec.{T, lt→ltb, not-T}
+use lib.Dec.{T, ltb, lt→ltb, not-T}
 use lib.IntN.{ℤ, pos}
 use lib.ListN.{getD, set}
 use lib.Ieee.{Float, nan, inf, fin, binary64, neg, div, lt, le, eq, isNan, ofBits, up, down}
-use lib.Ieee.Fits.{down-pos}
+use lib.Ieee.Fits.{down-pos, and-r}
 use lib.Ieee.Bits.{is-true}
 use Rattle.floats.specs.Basic.{magnitude, clampOf, finiteOf}
 use Rattle.floats.specs.BasicLaws.{not-zero}
@@ -20,15 +20,17 @@ use Rattle.optics.specs.declared.types.OpticalSurface.{OpticalSurface}
 use Rattle.optics.specs.Types.{noSurface, surfaceAt}
 use Rattle.optics.specs.Check.{billion, within, aboveZeroUpTo, surfaceTaken}
 use Rattle.optics.specs.CheckLaws.{within-parts, within-from, above-from, surface-parts, surface-from}
+use Rattle.variables.specs.declared.types.Follower.{Follower}
+use Rattle.variables.specs.declared.types.Follower.the-variants.{None, Plus, Minus}
 use Rattle.variables.specs.declared.types.VariableType.{VariableType}
 use Rattle.variables.specs.declared.types.VariableType.the-variants.{Curvature, Thickness, Conic, SemiDiameter}
 use Rattle.variables.specs.declared.types.VariableDef.{VariableDef}
 use Rattle.variables.specs.declared.types.VariableSet.{VariableSet}
-use Rattle.variables.specs.Kinds.{surfaceIndex, applyClamp, leastCurvature, radiusOf, withValue, put}
+use Rattle.variables.specs.Kinds.{surfaceIndex, applyClamp, leastCurvature, radiusOf, withValue, putAt, put, followed}
 use Rattle.variables.specs.Active.{numActive, activeAt}
 use Rattle.variables.specs.Values.{storedAt, appliedTo, applied}
-use Rattle.variables.specs.Taken.{lowerBoundTaken, variablesTaken}
-use Rattle.variables.specs.TakenLaws.{VariableTaken, active-taken}
+use Rattle.variables.specs.Taken.{lowerBoundTaken, variablesTaken, minusTaken, followerTaken, followersTaken}
+use Rattle.variables.specs.TakenLaws.{VariableTaken, active-taken, active-follower}
 use Rattle.floatlaws.specs.Order.{lt-le-trans}
 
 -- a value of that kind of which check 3 has nothing to say: of a curvature, any finite one
@@ -88,11 +90,30 @@ set-keeps P (x ∷ xs) (suc j) zero a d k h = h
 set-keeps P (x ∷ xs) (suc j) (suc i) a d k h = set-keeps P xs j i a d k h
 
 -- any surface, after a value was stored in one of them
-put-taken : (s : List OpticalSurface) (kind : VariableType) (x : Float) (i : ℕ) → T (allowed kind x) → T (surfaceTaken (surfaceAt s i))
-    → T (surfaceTaken (surfaceAt (put s kind x) i))
-put-taken s kind x i a t =
-    set-keeps (λ (u : OpticalSurface). T (surfaceTaken u)) s (surfaceIndex kind) i (withValue (surfaceAt s (surfaceIndex kind)) kind x) noSurface
-    (λ h. with-value-taken _ kind x a h) t
+put-taken : (s : List OpticalSurface) (j : ℕ) (kind : VariableType) (x : Float) (i : ℕ) → T (allowed kind x) → T (surfaceTaken (surfaceAt s i))
+    → T (surfaceTaken (surfaceAt (putAt s j kind x) i))
+put-taken s j kind x i a t =
+    set-keeps (λ (u : OpticalSurface). T (surfaceTaken u)) s j i (withValue (surfaceAt s j) kind x) noSurface (λ h. with-value-taken _ kind x a h) t
+
+-- what refusal 17 lets be negated is allowed negated
+negated-finite : (x : Float) → T (finiteOf x) → T (finiteOf (neg x))
+unfolding neg finiteOf
+negated-finite nan t = t
+negated-finite (inf s) t = t
+negated-finite (fin s m e) t = tt
+
+negated-allowed : (kind : VariableType) (x : Float) → T (minusTaken kind) → T (allowed kind x) → T (allowed kind (neg x))
+negated-allowed (Curvature i) x s a = negated-finite x a
+negated-allowed (Thickness i) x s a = absurd s
+negated-allowed (Conic i) x s a = negated-finite x a
+negated-allowed (SemiDiameter i) x s a = absurd s
+
+-- any surface, after the follower received its value
+followed-taken : (n : ℕ) (s : List OpticalSurface) (kind : VariableType) (f : Follower) (x : Float) (i : ℕ) → T (followerTaken n kind f)
+    → T (allowed kind x) → T (surfaceTaken (surfaceAt s i)) → T (surfaceTaken (surfaceAt (followed s kind f x) i))
+followed-taken n s kind None x i b a t = t
+followed-taken n s kind (Plus j) x i b a t = put-taken s j kind x i a t
+followed-taken n s kind (Minus j) x i b a t = put-taken s j kind (neg x) i (negated-allowed kind x (and-r (ltb j n) (minusTaken kind) b) a) t
 
 -- ---- what applying clamps to lies between the bounds, a NaN too
 module _ (x lo hi : Float) (order : T (le lo hi)) where
@@ -145,15 +166,17 @@ module _ (n : ℕ) (d : VariableDef) (taken : VariableTaken n d) (x : Float) whe
       go (SemiDiameter i) l = above-from billion y (record { above = lt-le-trans zero64 lo y l above; upTo = top })
 
 -- ---- applying any values at all
-module _ (n : ℕ) (v : VariableSet) (taken : T (variablesTaken n v)) where
+module _ (n : ℕ) (v : VariableSet) (taken : T (variablesTaken n v)) (follows : T (followersTaken n v)) where
   applied-to-taken : (values : List Float) (s : List OpticalSurface) (i m : ℕ) → m ≤ numActive v → T (surfaceTaken (surfaceAt s i))
       → T (surfaceTaken (surfaceAt (appliedTo v values s m) i))
   unfolding appliedTo
   applied-to-taken values s i zero h t = t
   applied-to-taken values s i (suc m) h t =
-      put-taken (appliedTo v values s m) (activeAt v m .«var_type») (storedAt v values m) i
-      (apply-allowed n (activeAt v m) (active-taken n v taken m h) (getD values m nan))
-      (applied-to-taken values s i m (omega arith) t)
+      let kind = activeAt v m .«var_type» in
+      let x = storedAt v values m in
+      let a = apply-allowed n (activeAt v m) (active-taken n v taken m h) (getD values m nan) in
+      followed-taken n (put (appliedTo v values s m) kind x) kind (activeAt v m .follower) x i (active-follower n v follows m h) a
+      (put-taken (appliedTo v values s m) (surfaceIndex kind) kind x i a (applied-to-taken values s i m (omega arith) t))
 
   pub applied-taken : (values : List Float) (s : List OpticalSurface) (i : ℕ) → T (surfaceTaken (surfaceAt s i))
       → T (surfaceTaken (surfaceAt (applied v values s) i))

@@ -3,12 +3,14 @@ use Prim.Native.Nat.{ℕ}
 use mathlib.Core.Bool.{false, cond}
 use mathlib.Core.List.{List}
 use lib.ListN.{set}
-use lib.Ieee.{Float, inf, binary64, div, lt, isNan, ofBits}
+use lib.Ieee.{Float, inf, binary64, div, lt, neg, isNan, ofBits}
 use Rattle.floats.specs.Basic.{magnitude, clampOf}
 use Rattle.floats.specs.Constants.{one64}
 use Rattle.optics.specs.declared.types.OpticalSurface.{OpticalSurface}
 use Rattle.optics.specs.Types.{surfaceAt, withRadius, withConic, withThickness, withSemiDiameter}
 use Rattle.optics.specs.Curvature.{curvature}
+use Rattle.variables.specs.declared.types.Follower.{Follower}
+use Rattle.variables.specs.declared.types.Follower.the-variants.{None, Plus, Minus}
 use Rattle.variables.specs.declared.types.VariableType.{VariableType}
 use Rattle.variables.specs.declared.types.VariableType.the-variants.{Curvature, Thickness, Conic, SemiDiameter}
 
@@ -48,6 +50,16 @@ withValue s (Thickness i) x = withThickness s x
 withValue s (Conic i) x = withConic s x
 withValue s (SemiDiameter i) x = withSemiDiameter s x
 
--- a value stored in the variable's surface; nothing where there is no such surface
+-- a value of that kind stored in surface i; nothing where there is no such surface
+abbrev pub putAt : List OpticalSurface → ℕ → VariableType → Float → List OpticalSurface
+putAt surfaces i kind x = set surfaces i (withValue (surfaceAt surfaces i) kind x)
+
+-- a value stored in the variable's surface
 abbrev pub put : List OpticalSurface → VariableType → Float → List OpticalSurface
-put surfaces kind x = set surfaces (surfaceIndex kind) (withValue (surfaceAt surfaces (surfaceIndex kind)) kind x)
+put surfaces kind x = putAt surfaces (surfaceIndex kind) kind x
+
+-- "the follower receives the clamped value, negated for minus"; "A negated curvature below 1e-12 in magnitude still stores plus infinity"
+abbrev pub followed : List OpticalSurface → VariableType → Follower → Float → List OpticalSurface
+followed surfaces kind None x = surfaces
+followed surfaces kind (Plus i) x = putAt surfaces i kind x
+followed surfaces kind (Minus i) x = putAt surfaces i kind (neg x)

@@ -1,11 +1,13 @@
--- Refusal 4. Definitions only.
+-- Refusals 4 and 17. Definitions only.
 use Prim.Native.Nat.{ℕ}
-use mathlib.Core.Bool.{Bool, true, _&&_}
+use mathlib.Core.Bool.{Bool, true, false, _&&_}
 use lib.Dec.{ltb}
 use lib.Ieee.{Float, lt, le}
 use Rattle.floats.specs.Constants.{zero64}
 use Rattle.lists.specs.All.{allBelow}
 use Rattle.optics.specs.Check.{billion, within}
+use Rattle.variables.specs.declared.types.Follower.{Follower}
+use Rattle.variables.specs.declared.types.Follower.the-variants.{None, Plus, Minus}
 use Rattle.variables.specs.declared.types.VariableType.{VariableType}
 use Rattle.variables.specs.declared.types.VariableType.the-variants.{Curvature, Thickness, Conic, SemiDiameter}
 use Rattle.variables.specs.declared.types.VariableDef.{VariableDef}
@@ -39,3 +41,20 @@ variableTaken n d =
 -- "Any variable, enabled or not": each below the count
 unfoldable pub variablesTaken : ℕ → VariableSet → Bool
 variablesTaken n v = allBelow (λ (i : ℕ). variableTaken n (variableAt v i)) (v .«variable_count»)
+
+-- "a follower with minus of a semi-diameter or thickness" is none that is taken
+abbrev pub minusTaken : VariableType → Bool
+minusTaken (Curvature i) = true
+minusTaken (Thickness i) = false
+minusTaken (Conic i) = true
+minusTaken (SemiDiameter i) = false
+
+-- "an absent follower surface", of n
+abbrev pub followerTaken : ℕ → VariableType → Follower → Bool
+followerTaken n kind None = true
+followerTaken n kind (Plus i) = ltb i n
+followerTaken n kind (Minus i) = ltb i n && minusTaken kind
+
+-- "On any variable, enabled or not": each below the count
+unfoldable pub followersTaken : ℕ → VariableSet → Bool
+followersTaken n v = allBelow (λ (i : ℕ). followerTaken n (variableAt v i .«var_type») (variableAt v i .follower)) (v .«variable_count»)

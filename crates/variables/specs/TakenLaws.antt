@@ -1,4 +1,4 @@
--- What callers may use of refusal 4: its parts, of any variable below the count and so of any enabled one. Assumes nothing.
+-- What callers may use of refusals 4 and 17: their parts, of any variable below the count and so of any enabled one. Assumes nothing.
 use mathlib.Core.Bool.{_&&_}
 use Prim.Native.Nat.{ℕ, _<_}
 use lib.Dec.{T, ltb, ltb→lt}
@@ -11,7 +11,7 @@ use Rattle.variables.specs.declared.types.VariableSet.{VariableSet}
 use Rattle.variables.specs.Kinds.{surfaceIndex}
 use Rattle.variables.specs.Active.{variableAt, numActive, activeAt}
 use Rattle.variables.specs.ActiveLaws.{each}
-use Rattle.variables.specs.Taken.{boundsTaken, stepTaken, lowerBoundTaken, variableTaken, variablesTaken}
+use Rattle.variables.specs.Taken.{boundsTaken, stepTaken, lowerBoundTaken, variableTaken, variablesTaken, followerTaken, followersTaken}
 
 pub record VariableTaken (n : ℕ) (d : VariableDef) : Type 0 where
   pub present : surfaceIndex (d .«var_type») < n
@@ -50,3 +50,15 @@ module _ (n : ℕ) (v : VariableSet) (taken : T (variablesTaken n v)) where
 
   pub active-taken : (q : ℕ) → q < numActive v → VariableTaken n (activeAt v q)
   active-taken q h = each v (VariableTaken n) (v .«variable_count») q (λ i l e. variable-taken i l) h
+
+-- the same of refusal 17
+abbrev pub FollowerTaken : ℕ → VariableDef → Type 0
+FollowerTaken n d = T (followerTaken n (d .«var_type») (d .follower))
+
+module _ (n : ℕ) (v : VariableSet) (taken : T (followersTaken n v)) where
+  follower-taken : (i : ℕ) → i < v .«variable_count» → FollowerTaken n (variableAt v i)
+  unfolding followersTaken
+  follower-taken i l = all-at (λ (k : ℕ). followerTaken n (variableAt v k .«var_type») (variableAt v k .follower)) (v .«variable_count») i taken l
+
+  pub active-follower : (q : ℕ) → q < numActive v → FollowerTaken n (activeAt v q)
+  active-follower q h = each v (FollowerTaken n) (v .«variable_count») q (λ i l e. follower-taken i l) h

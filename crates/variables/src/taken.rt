@@ -1,8 +1,10 @@
-// Check 4: the variables that a job may have.
+// Checks 4 and 17: the variables that a job may have, and their followers.
 ghost use mathlib.Core.Path.{_≡_};
 ghost use Prim.Native.Nat.{_≤_};
 ghost use Rattle.variables.specs.Taken.{boundsTaken, stepTaken, lowerBoundTaken, variableTaken, variablesTaken};
+ghost use Rattle.variables.specs.Taken.{minusTaken, followerTaken, followersTaken};
 use crate::quantities;
+use crate::types::Follower;
 use crate::types::VariableDef;
 use crate::types::VariableSet;
 use crate::types::VariableType;
@@ -62,6 +64,46 @@ pub fn variables_taken(v: VariableSet, surface_count: usize) -> bool
     while i < v.variable_count {
         let d = v.variables[i];
         if !variable_taken(d, surface_count) {
+            return false;
+        }
+        i += 1;
+    }
+    true
+}
+
+// A semi-diameter or thickness has no follower with minus.
+fn minus_taken(kind: VariableType) -> bool
+    ensures { λ r. ⌜ r ≡ minusTaken kind ⌝ }
+{
+    match kind {
+        VariableType::Curvature(_) => true,
+        VariableType::Conic(_) => true,
+        VariableType::Thickness(_) => false,
+        VariableType::SemiDiameter(_) => false,
+    }
+}
+
+pub fn follower_taken(kind: VariableType, follower: Follower, surface_count: usize) -> bool
+    ensures { λ r. ⌜ r ≡ followerTaken «surface_count» kind follower ⌝ }
+{
+    match follower {
+        Follower::None => true,
+        Follower::Plus(i) => i < surface_count,
+        Follower::Minus(i) => i < surface_count && minus_taken(kind),
+    }
+}
+
+// Enabled or not.
+pub fn followers_taken(v: VariableSet, surface_count: usize) -> bool
+    requires { ⌜ v .«variable_count» ≤ 8 ⌝ }
+    ensures { λ r. ⌜ r ≡ followersTaken «surface_count» v ⌝ }
+{
+    let mut i: usize = 0;
+    while i < v.variable_count {
+        let d = v.variables[i];
+        let kind = d.var_type;
+        let follower = d.follower;
+        if !follower_taken(kind, follower, surface_count) {
             return false;
         }
         i += 1;

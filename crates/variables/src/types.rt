@@ -8,6 +8,13 @@ pub enum VariableType {
     SemiDiameter(usize),
 }
 
+// Another surface that receives the variable's value straight after the variable's own, as it is or negated.
+pub enum Follower {
+    None,
+    Plus(usize),
+    Minus(usize),
+}
+
 // A variable: its bounds and the least step of the finite differences. A disabled one is never read or applied.
 pub struct VariableDef {
     pub var_type: VariableType,
@@ -15,6 +22,7 @@ pub struct VariableDef {
     pub max_value: f64,
     pub step_size: f64,
     pub enabled: bool,
+    pub follower: Follower,
 }
 
 // The first `variable_count` of them are in use.

@@ -12,9 +12,19 @@ surface-index-requires c κs = search needs
 one-if-requires : tie.Need-one-if-requires
 one-if-requires c κs = search needs
 
+follows-of-requires : tie.Need-follows-of-requires
+follows-of-requires c κs = search needs
+
+follower-surface-requires : tie.Need-follower-surface-requires
+follower-surface-requires c κs = search needs
+
 returns : tie.Need-returns
-returns c = rw (c .before .before .variable-kind .ensures, c .before .surface-index .ensures, c .one-if .ensures)
+returns c =
+    let follows = c .before in
+    let mark = follows .before in
+    let surface = mark .before in
+    rw (surface .before .variable-kind .ensures, surface .surface-index .ensures, mark .one-if .ensures, follows .follows-of .ensures, c .follower-surface .ensures)
 
 pub variable-record-spec : {M : Type 1} → statement M
 variable-record-spec =
-    tie.close (tie.spec variable-kind-requires surface-index-requires one-if-requires returns)
+    tie.close (tie.spec variable-kind-requires surface-index-requires one-if-requires follows-of-requires follower-surface-requires returns)
