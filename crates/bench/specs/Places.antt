@@ -81,7 +81,7 @@ zero-turns = refl
 pub zero-held : heldFrom zeroRow ≡ record {
   words = replicate 13 0;
   scalars = replicate 7 zero64;
-  counts = replicate 57 0;
+  counts = replicate 73 0;
   numbers = replicate 195 zero64;
   surfaces = replicate 64 zero64;
   jacobian = replicate 96 zero64;

@@ -76,7 +76,7 @@ pub(crate) fn resume_iterations(
 fn moved(
     h: Head,
     merit: f64,
-    counts: &[u64; 57],
+    counts: &[u64; 73],
     numbers: &[f64],
     found: &[f64; 12],
     surfaces: &mut [f64; 64],
@@ -116,7 +116,7 @@ fn advance_accepted(
     h: Head,
     config: DlsConfig,
     merit: f64,
-    counts: &[u64; 57],
+    counts: &[u64; 73],
     numbers: &[f64],
     found: &[f64; 12],
     surfaces: &mut [f64; 64],
@@ -170,7 +170,7 @@ fn advance_accepted(
 pub(crate) fn advance_candidate(
     h: Head,
     config: DlsConfig,
-    counts: &[u64; 57],
+    counts: &[u64; 73],
     numbers: &[f64],
     found: &[f64; 12],
     surfaces: &mut [f64; 64],

@@ -47,7 +47,7 @@ fn stepped(params: [f64; 8], p: usize, scratch: &[f64]) -> [f64; 8]
 // The candidate: each parameter after its step, within its bounds.
 fn candidate_params(
     p: usize,
-    counts: &[u64; 57],
+    counts: &[u64; 73],
     numbers: &[f64],
     params: [f64; 8],
     scratch: &[f64],
@@ -69,7 +69,7 @@ fn resume_attempts(
     p: usize,
     damping: Damping,
     first: u64,
-    counts: &[u64; 57],
+    counts: &[u64; 73],
     numbers: &[f64],
     jacobian: &mut [f64; 96],
     plus_residuals: &mut [f64; 12],
@@ -121,7 +121,7 @@ fn is_stationary(norm: f64, tolerance: f64) -> bool
 pub(crate) fn resume_stationary(
     h: Head,
     config: DlsConfig,
-    counts: &[u64; 57],
+    counts: &[u64; 73],
     numbers: &[f64],
     jacobian: &mut [f64; 96],
     residuals: &[f64; 12],
@@ -170,7 +170,7 @@ pub(crate) fn resume_stationary(
 // dls.rs: "step rejected .. increase damping"
 pub(crate) fn resume_rejected(
     h: Head,
-    counts: &[u64; 57],
+    counts: &[u64; 73],
     numbers: &[f64],
     jacobian: &mut [f64; 96],
     residuals: &[f64; 12],

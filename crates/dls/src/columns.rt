@@ -47,7 +47,7 @@ fn moved_down(x0: f64, relative: f64, variable: VariableDef) -> f64
 fn perturbed(
     q: usize,
     x: f64,
-    counts: &[u64; 57],
+    counts: &[u64; 73],
     numbers: &[f64],
     surfaces: &[f64; 64],
     params: &[f64; 8],
@@ -68,7 +68,7 @@ fn perturbed(
 pub(crate) fn presc_plus(
     h: Head,
     config: DlsConfig,
-    counts: &[u64; 57],
+    counts: &[u64; 73],
     numbers: &[f64],
     surfaces: &[f64; 64],
     params: &[f64; 8],
@@ -96,7 +96,7 @@ pub(crate) fn presc_plus(
 pub(crate) fn presc_minus(
     h: Head,
     config: DlsConfig,
-    counts: &[u64; 57],
+    counts: &[u64; 73],
     numbers: &[f64],
     surfaces: &[f64; 64],
     params: &[f64; 8],
@@ -125,7 +125,7 @@ pub(crate) fn presc_minus(
 fn between(
     h: Head,
     config: DlsConfig,
-    counts: &[u64; 57],
+    counts: &[u64; 73],
     numbers: &[f64],
     params: &[f64; 8],
 ) -> f64
@@ -150,7 +150,7 @@ fn between(
 pub(crate) fn with_differences(
     h: Head,
     config: DlsConfig,
-    counts: &[u64; 57],
+    counts: &[u64; 73],
     numbers: &[f64],
     minus: [f64; 12],
     jacobian: &mut [f64; 96],

@@ -34,7 +34,7 @@ use jobs::DlsConfig;
 pub fn pending_damped(
     h: Head,
     config: DlsConfig,
-    counts: &[u64; 57],
+    counts: &[u64; 73],
     numbers: &[f64],
     surfaces: &[f64; 64],
     params: &[f64; 8],
@@ -74,7 +74,7 @@ pub fn pending_damped(
 fn advance_first(
     h: Head,
     config: DlsConfig,
-    counts: &[u64; 57],
+    counts: &[u64; 73],
     numbers: &[f64],
     found: &[f64; 12],
     surfaces: &[f64; 64],
@@ -124,7 +124,7 @@ fn advance_first(
 fn advance_minus(
     h: Head,
     config: DlsConfig,
-    counts: &[u64; 57],
+    counts: &[u64; 73],
     numbers: &[f64],
     found: &[f64; 12],
     jacobian: &mut [f64; 96],
@@ -184,7 +184,7 @@ fn advance_minus(
 pub fn advance_damped(
     h: Head,
     config: DlsConfig,
-    counts: &[u64; 57],
+    counts: &[u64; 73],
     numbers: &[f64],
     found: &[f64; 12],
     surfaces: &mut [f64; 64],

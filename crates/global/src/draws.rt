@@ -17,7 +17,7 @@ pub(crate) struct Drawn {
 }
 
 // `rng.uniform(var.min_value, var.max_value)` for each, and +0.0 after them.
-pub(crate) fn random_params(generator: u64, counts: &[u64; 57], numbers: &[f64]) -> Drawn
+pub(crate) fn random_params(generator: u64, counts: &[u64; 73], numbers: &[f64]) -> Drawn
     requires { ⌜ variableCountFrom (now counts) ≤ 8 ⌝ ∗ ⌜ 195 ≤ length (now numbers) ⌝ }
     ensures { λ r.
         ⌜ (r .params ≡ randomParams (variablesFrom (now (counts .entry)) (now (numbers .entry))) generator)
@@ -47,7 +47,7 @@ pub(crate) fn random_params(generator: u64, counts: &[u64; 57], numbers: &[f64])
 // Each param moved by up to a twentieth of its range either way, and clamped; what stands after them is kept.
 pub(crate) fn trial_params(
     generator: u64,
-    counts: &[u64; 57],
+    counts: &[u64; 73],
     numbers: &[f64],
     params: [f64; 8],
 ) -> Drawn

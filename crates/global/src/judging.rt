@@ -22,7 +22,7 @@ pub(crate) struct WalkHead {
 pub(crate) fn started(
     config: SimulatedAnnealingConfig,
     merit: f64,
-    counts: &[u64; 57],
+    counts: &[u64; 73],
     numbers: &[f64],
     surfaces: &[f64; 64],
     params: &mut [f64; 8],
@@ -58,7 +58,7 @@ fn prob(delta_merit: f64, temp: f64) -> f64
 fn accepted(
     w: WalkHead,
     merit: f64,
-    counts: &[u64; 57],
+    counts: &[u64; 73],
     numbers: &[f64],
     surfaces: &mut [f64; 64],
     params: &mut [f64; 8],
@@ -91,7 +91,7 @@ fn accepted(
 pub(crate) fn judged(
     w: WalkHead,
     merit: f64,
-    counts: &[u64; 57],
+    counts: &[u64; 73],
     numbers: &[f64],
     surfaces: &mut [f64; 64],
     params: &mut [f64; 8],

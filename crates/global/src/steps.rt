@@ -22,7 +22,7 @@ pub(crate) fn at_step(
     initial_merit: f64,
     c: u64,
     k: u64,
-    counts: &[u64; 57],
+    counts: &[u64; 73],
     numbers: &[f64],
     jacobian: &mut [f64; 96],
     values: &mut [f64; 12],

@@ -27,7 +27,7 @@ use held::RowHead;
 // global.rs: `trial_presc`
 fn trial_surfaces(
     generator: u64,
-    counts: &[u64; 57],
+    counts: &[u64; 73],
     numbers: &[f64],
     surfaces: &mut [f64; 64],
 ) -> u64
@@ -83,7 +83,7 @@ fn resume_trials(
     best: BestHead,
     generator: u64,
     trial: u64,
-    counts: &[u64; 57],
+    counts: &[u64; 73],
     numbers: &[f64],
     surfaces: &mut [f64; 64],
     jacobian: &mut [f64; 96],
@@ -138,7 +138,7 @@ fn resume_trials(
 // After a merit has taken the trial's damped part to where it stands: it goes on there, or the trial is over.
 fn resume_damped(
     h: RowHead,
-    counts: &[u64; 57],
+    counts: &[u64; 73],
     numbers: &[f64],
     surfaces: &mut [f64; 64],
     jacobian: &mut [f64; 96],
@@ -193,7 +193,7 @@ fn resume_damped(
 // The state after the merit that came next.
 pub fn advance_trials(
     h: RowHead,
-    counts: &[u64; 57],
+    counts: &[u64; 73],
     numbers: &[f64],
     found: &[f64; 12],
     surfaces: &mut [f64; 64],

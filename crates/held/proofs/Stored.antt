@@ -18,7 +18,7 @@ use Rattle.optics.specs.Flat.{numbersOf}
 use Rattle.optics.specs.FlatLaws.{four-stored}
 use Rattle.optics.specs.declared.types.OpticalSurface.{OpticalSurface}
 use Rattle.variables.specs.declared.types.VariableType.{VariableType}
-use Rattle.variables.specs.Kinds.{surfaceIndex, withValue, put}
+use Rattle.variables.specs.Kinds.{withValue, putAt}
 use Rattle.held.specs.JobFrom.{standing}
 use Rattle.held.specs.Standing.{Behind, whole, standing-long, standing-at, standing-laid, all-laid}
 
@@ -101,14 +101,18 @@ module _ (flat : List Float) (i : ℕ) (s : OpticalSurface) (h : i < 16) (g : 64
             ∙ behind-sets (numbersOf s) flat (4 * i) (omega arith);
       }
 
--- ---- a value stored in its variable's surface, and nothing where there is none
-module _ (flat : List Float) (kind : VariableType) (y : Float) where
-  pub put-stored : (at : ℕ) (x : Float) (old new : OpticalSurface) → at ≡ surfaceIndex kind → at < 16 → x ≡ y → old ≡ flatSurface flat at → new
-      ≡ withValue old kind x → set (standing flat) at new ≡ put (standing flat) kind y
-  put-stored at x old new here h ex eo en = rw (en, eo ∙ sym (standing-at flat at h), ex, here)
+-- ---- one step more, and what came of it under another name
+pub further : {a b c d : List Float} → Behind a b → Behind b c → d ≡ c → Behind a d
+further p q e = record { long = ap length e ∙ q .long ∙ p .long; rest = ap (drop 64) e ∙ q .rest ∙ p .rest }
 
-  pub put-past : (at : ℕ) → at ≡ surfaceIndex kind → 16 ≤ at → standing flat ≡ put (standing flat) kind y
-  put-past at here h = sym (set-out (standing flat) (surfaceIndex kind) _ (rw (standing-long flat, sym here) h))
+-- ---- a value stored in a surface, and nothing where there is none
+module _ (flat : List Float) (at : ℕ) (kind : VariableType) (x : Float) where
+  pub put-stored : (old new : OpticalSurface) → at < 16 → old ≡ flatSurface flat at → new ≡ withValue old kind x
+      → set (standing flat) at new ≡ putAt (standing flat) at kind x
+  put-stored old new h eo en = rw (en, eo ∙ sym (standing-at flat at h))
+
+  pub put-past : 16 ≤ at → standing flat ≡ putAt (standing flat) at kind x
+  put-past h = sym (set-out (standing flat) at _ (rw (standing-long flat) h))
 
 -- ---- sixty-four numbers copied
 module _ (flat to to′ : List Float) (e : to′ ≡ tab (λ (k : ℕ). getD flat k nan) 64 ++ drop 64 to) where

@@ -17,8 +17,8 @@ use Rattle.jobs.specs.declared.types.VariableRecord.{VariableRecord}
 use Rattle.jobs.specs.Records.{jobOf}
 use Rattle.held.specs.Places.{surfaceCountAt, slotCountAt, variableCountAt, operandCountAt, maxIterationsAt, numTrialsAt, stepsPerTemperatureAt}
 use Rattle.held.specs.Places.{maxCoolingCyclesAt, seedAt}
-use Rattle.held.specs.Places.{variableKindAt, variableSurfaceAt, enabledAt, minValueAt, maxValueAt, stepSizeAt, operandKindAt, slotOrSurfaceAt, limitAt}
-use Rattle.held.specs.Places.{targetAt, weightAt}
+use Rattle.held.specs.Places.{variableKindAt, variableSurfaceAt, enabledAt, followsAt, followerAt, minValueAt, maxValueAt, stepSizeAt}
+use Rattle.held.specs.Places.{operandKindAt, slotOrSurfaceAt, limitAt, targetAt, weightAt}
 use Rattle.held.specs.Places.{indexAt, pupilAt, initialDampingAt, relativeMeritToleranceAt, gradientToleranceAt, relativeStepAt, initialTemperatureAt}
 use Rattle.held.specs.Places.{coolingRateAt}
 
@@ -70,6 +70,8 @@ module _ (counts : List ℕ) (numbers : List Float) where
     «min_value» = getD numbers (minValueAt i) nan;
     «max_value» = getD numbers (maxValueAt i) nan;
     «step_size» = getD numbers (stepSizeAt i) nan;
+    follows = getD counts (followsAt i) 0;
+    follower = getD counts (followerAt i) 0;
   }
 
   abbrev pub operandRecordFrom : ℕ → OperandRecord

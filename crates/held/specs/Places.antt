@@ -91,22 +91,28 @@ maxCoolingCyclesAt = 7
 abbrev pub seedAt : ℕ
 seedAt = 8
 
--- those of variable i: its kind, its surface, its mark
+-- those of variable i: its kind, its surface, its mark, its follower's sign, its follower's surface
 abbrev pub variableKindAt : (i : ℕ) → ℕ
-variableKindAt i = 9 + 3 * i
+variableKindAt i = 9 + 5 * i
 
 abbrev pub variableSurfaceAt : (i : ℕ) → ℕ
-variableSurfaceAt i = 9 + 3 * i + 1
+variableSurfaceAt i = 9 + 5 * i + 1
 
 abbrev pub enabledAt : (i : ℕ) → ℕ
-enabledAt i = 9 + 3 * i + 2
+enabledAt i = 9 + 5 * i + 2
+
+abbrev pub followsAt : (i : ℕ) → ℕ
+followsAt i = 9 + 5 * i + 3
+
+abbrev pub followerAt : (i : ℕ) → ℕ
+followerAt i = 9 + 5 * i + 4
 
 -- those of operand n: its kind, its slot or surface
 abbrev pub operandKindAt : (n : ℕ) → ℕ
-operandKindAt n = 33 + 2 * n
+operandKindAt n = 49 + 2 * n
 
 abbrev pub slotOrSurfaceAt : (n : ℕ) → ℕ
-slotOrSurfaceAt n = 33 + 2 * n + 1
+slotOrSurfaceAt n = 49 + 2 * n + 1
 
 -- ---- numbers: those of the job. Its surfaces stand first, laid flat; then index k of the prescription's
 abbrev pub indexAt : (k : ℕ) → ℕ

@@ -31,7 +31,7 @@ pub record Full (r : Row) : Type 0 where
   pub bestSurfaces : length (r .best .surfaces) ≡ 16
 
 -- ---- read, then written
-counts-read : (counts : List ℕ) (numbers : List Float) → heldCounts (jobRecordFrom counts numbers) ≡ tab (λ (i : ℕ). getD counts i 0) 57
+counts-read : (counts : List ℕ) (numbers : List Float) → heldCounts (jobRecordFrom counts numbers) ≡ tab (λ (i : ℕ). getD counts i 0) 73
 unfolding heldCounts inTurn variableRecordsFrom operandRecordsFrom tab
 counts-read counts numbers = refl
 
@@ -48,8 +48,8 @@ scalars-read : (words : List ℕ) (scalars : List Float) → heldScalars (headFr
 unfolding tab
 scalars-read words scalars = refl
 
-counts-back : (counts : List ℕ) (numbers : List Float) → length counts ≡ 57 → heldCounts (jobRecordFrom counts numbers) ≡ counts
-counts-back counts numbers e = counts-read counts numbers ∙ whole counts 0 57 e
+counts-back : (counts : List ℕ) (numbers : List Float) → length counts ≡ 73 → heldCounts (jobRecordFrom counts numbers) ≡ counts
+counts-back counts numbers e = counts-read counts numbers ∙ whole counts 0 73 e
 
 numbers-back : (counts : List ℕ) (numbers : List Float) → length numbers ≡ 195 → heldNumbers (jobRecordFrom counts numbers) ≡ numbers
 numbers-back counts numbers e = numbers-read counts numbers ∙ whole numbers nan 195 e
@@ -164,7 +164,7 @@ read-full h = record {
   bestSurfaces = standing-long (h .«best_surfaces»);
 }
 
-pub counts-long : (r : JobRecord) → length (heldCounts r) ≡ 57
+pub counts-long : (r : JobRecord) → length (heldCounts r) ≡ 73
 unfolding heldCounts inTurn
 counts-long r = refl
 

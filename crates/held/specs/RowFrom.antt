@@ -133,7 +133,7 @@ rowFrom h = rowOf (jobRecordFrom (h .counts) (h .numbers)) (kindFrom (h .words))
 pub record Long (h : HeldRow) : Type 0 where
   pub words : length (h .words) ≡ 13
   pub scalars : length (h .scalars) ≡ 7
-  pub counts : length (h .counts) ≡ 57
+  pub counts : length (h .counts) ≡ 73
   pub numbers : length (h .numbers) ≡ 195
   pub surfaces : length (h .surfaces) ≡ 64
   pub jacobian : length (h .jacobian) ≡ 96

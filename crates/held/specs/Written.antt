@@ -25,7 +25,7 @@ inTurn f (suc n) = inTurn f n ++ f n
 
 -- ---- the job
 abbrev pub variableCounts : VariableRecord → List ℕ
-variableCounts v = v .kind ∷ v .«surface_index» ∷ v .enabled ∷ []
+variableCounts v = v .kind ∷ v .«surface_index» ∷ v .enabled ∷ v .follows ∷ v .follower ∷ []
 
 abbrev pub operandCounts : OperandRecord → List ℕ
 operandCounts o = o .kind ∷ o .at ∷ []

@@ -12,6 +12,12 @@ use Rattle.held.specs.Written.{inTurn}
 two-on : (at : ℕ) → at + 2 ≡ suc (suc at)
 two-on at = omega arith
 
+three-on : (at : ℕ) → at + 3 ≡ suc (suc (suc at))
+three-on at = omega arith
+
+four-on : (at : ℕ) → at + 4 ≡ suc (suc (suc (suc at)))
+four-on at = omega arith
+
 module _ {A : Type 0} where
   -- stores one after the other are one part written
   pub two-stores : (l : List A) (at : ℕ) (a b : A) → set (set l at a) (at + 1) b ≡ sets l at (a ∷ b ∷ [])
@@ -19,6 +25,10 @@ module _ {A : Type 0} where
 
   pub three-stores : (l : List A) (at : ℕ) (a b c : A) → set (set (set l at a) (at + 1) b) (at + 2) c ≡ sets l at (a ∷ b ∷ c ∷ [])
   three-stores l at a b c = λ i. set (set (set l at a) (add-one at i) b) (two-on at i) c
+
+  pub five-stores : (l : List A) (at : ℕ) (a b c d e : A)
+      → set (set (set (set (set l at a) (at + 1) b) (at + 2) c) (at + 3) d) (at + 4) e ≡ sets l at (a ∷ b ∷ c ∷ d ∷ e ∷ [])
+  five-stores l at a b c d e = λ i. set (set (three-stores l at a b c i) (three-on at i) d) (four-on at i) e
 
   -- the front is longer by the part
   pub front-more : (l p vs : List A) (at next : ℕ) → take at l ≡ p → at + length vs ≡ next → next ≤ length l → take next (sets l at vs) ≡ p ++ vs

@@ -17,25 +17,25 @@ use jobs::SimulatedAnnealingConfig;
 use merit::MeritOperand;
 use variables::VariableDef;
 
-pub fn surface_count(counts: &[u64; 57]) -> usize
+pub fn surface_count(counts: &[u64; 73]) -> usize
     ensures { λ r. ⌜ r ≡ surfaceCountFrom (now (counts .entry)) ⌝ }
 {
     counts[places::SURFACE_COUNT] as usize
 }
 
-pub fn slot_count(counts: &[u64; 57]) -> usize
+pub fn slot_count(counts: &[u64; 73]) -> usize
     ensures { λ r. ⌜ r ≡ slotCountFrom (now (counts .entry)) ⌝ }
 {
     counts[places::SLOT_COUNT] as usize
 }
 
-pub fn variable_count(counts: &[u64; 57]) -> usize
+pub fn variable_count(counts: &[u64; 73]) -> usize
     ensures { λ r. ⌜ r ≡ variableCountFrom (now (counts .entry)) ⌝ }
 {
     counts[places::VARIABLE_COUNT] as usize
 }
 
-pub fn operand_count(counts: &[u64; 57]) -> usize
+pub fn operand_count(counts: &[u64; 73]) -> usize
     ensures { λ r. ⌜ r ≡ operandCountFrom (now (counts .entry)) ⌝ }
 {
     counts[places::OPERAND_COUNT] as usize
@@ -56,23 +56,25 @@ pub fn indices(numbers: &[f64]) -> &[f64]
     &numbers[places::INDICES..places::PUPIL]
 }
 
-pub fn variable_at(counts: &[u64; 57], numbers: &[f64], i: usize) -> VariableDef
+pub fn variable_at(counts: &[u64; 73], numbers: &[f64], i: usize) -> VariableDef
     requires { ⌜ i < 8 ⌝ ∗ ⌜ 195 ≤ length (now numbers) ⌝ }
     ensures { λ r. ⌜ r ≡ variableAt (variablesFrom (now (counts .entry)) (now (numbers .entry))) i ⌝ }
 {
-    let whole = places::VARIABLE_COUNTS + 3 * i;
+    let whole = places::VARIABLE_COUNTS + 5 * i;
     let real = places::VARIABLE_NUMBERS + 3 * i;
     let kind = jobs::variable_type(counts[whole], counts[whole + 1] as usize);
+    let follower = jobs::follower_of(counts[whole + 3], counts[whole + 4] as usize);
     VariableDef {
         var_type: kind,
         min_value: numbers[real],
         max_value: numbers[real + 1],
         step_size: numbers[real + 2],
         enabled: counts[whole + 2] == 1,
+        follower,
     }
 }
 
-pub fn operand_at(counts: &[u64; 57], numbers: &[f64], n: usize) -> MeritOperand
+pub fn operand_at(counts: &[u64; 73], numbers: &[f64], n: usize) -> MeritOperand
     requires { ⌜ n < 12 ⌝ ∗ ⌜ 195 ≤ length (now numbers) ⌝ }
     ensures { λ r. ⌜ r ≡ operandAt (operandsFrom (now (counts .entry)) (now (numbers .entry))) n ⌝ }
 {
@@ -87,7 +89,7 @@ pub fn operand_at(counts: &[u64; 57], numbers: &[f64], n: usize) -> MeritOperand
 }
 
 // The settings of a damped run, and of each of a multi-start's.
-pub fn dls_config(counts: &[u64; 57], numbers: &[f64]) -> DlsConfig
+pub fn dls_config(counts: &[u64; 73], numbers: &[f64]) -> DlsConfig
     requires { ⌜ 195 ≤ length (now numbers) ⌝ }
     ensures { λ r. ⌜ r ≡ dlsConfig (settingsFrom (now (counts .entry)) (now (numbers .entry))) ⌝ }
 {
@@ -100,7 +102,7 @@ pub fn dls_config(counts: &[u64; 57], numbers: &[f64]) -> DlsConfig
     }
 }
 
-pub fn annealing_config(counts: &[u64; 57], numbers: &[f64]) -> SimulatedAnnealingConfig
+pub fn annealing_config(counts: &[u64; 73], numbers: &[f64]) -> SimulatedAnnealingConfig
     requires { ⌜ 195 ≤ length (now numbers) ⌝ }
     ensures { λ r. ⌜ r ≡ annealingConfig (settingsFrom (now (counts .entry)) (now (numbers .entry))) ⌝ }
 {
@@ -114,43 +116,46 @@ pub fn annealing_config(counts: &[u64; 57], numbers: &[f64]) -> SimulatedAnneali
 }
 
 // A multi-start's.
-pub fn num_trials(counts: &[u64; 57]) -> u64
+pub fn num_trials(counts: &[u64; 73]) -> u64
     ensures { λ r. ⌜ r ≡ numTrialsFrom (now (counts .entry)) ⌝ }
 {
     counts[places::NUM_TRIALS]
 }
 
-pub fn max_iterations(counts: &[u64; 57]) -> u64
+pub fn max_iterations(counts: &[u64; 73]) -> u64
     ensures { λ r. ⌜ r ≡ maxIterationsFrom (now (counts .entry)) ⌝ }
 {
     counts[places::MAX_ITERATIONS]
 }
 
-pub fn steps_per_temperature(counts: &[u64; 57]) -> u64
+pub fn steps_per_temperature(counts: &[u64; 73]) -> u64
     ensures { λ r. ⌜ r ≡ stepsPerTemperatureFrom (now (counts .entry)) ⌝ }
 {
     counts[places::STEPS_PER_TEMPERATURE]
 }
 
-pub fn max_cooling_cycles(counts: &[u64; 57]) -> u64
+pub fn max_cooling_cycles(counts: &[u64; 73]) -> u64
     ensures { λ r. ⌜ r ≡ maxCoolingCyclesFrom (now (counts .entry)) ⌝ }
 {
     counts[places::MAX_COOLING_CYCLES]
 }
 
-// Whether the kind of variable i, and its mark, are ones that there are; the same of operand n's kind.
-pub fn variable_known(counts: &[u64; 57], i: usize) -> bool
+// Whether the kind of variable i, its mark and its follower's sign are ones that there are; the same of operand n's kind.
+pub fn variable_known(counts: &[u64; 73], i: usize) -> bool
     requires { ⌜ i < 8 ⌝ }
     ensures { λ r. ⌜ ((numbers : List Float) → r ≡ variableKnown (variableRecordFrom (now (counts .entry)) numbers i)) ⌝ }
 {
-    let at = places::VARIABLE_COUNTS + 3 * i;
+    let at = places::VARIABLE_COUNTS + 5 * i;
     if counts[at] >= 4 {
         return false;
     }
-    counts[at + 2] < 2
+    if counts[at + 2] >= 2 {
+        return false;
+    }
+    counts[at + 3] < 3
 }
 
-pub fn operand_known(counts: &[u64; 57], n: usize) -> bool
+pub fn operand_known(counts: &[u64; 73], n: usize) -> bool
     requires { ⌜ n < 12 ⌝ }
     ensures { λ r. ⌜ ((numbers : List Float) → r ≡ operandKnown (operandRecordFrom (now (counts .entry)) numbers n)) ⌝ }
 {

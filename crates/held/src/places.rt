@@ -42,7 +42,7 @@ pub(crate) const BEST_INITIAL_MERIT: usize = 5;
 
 pub(crate) const BEST_FINAL_MERIT: usize = 6;
 
-// In `counts`; then three for each variable and two for each operand.
+// In `counts`; then five for each variable and two for each operand.
 pub(crate) const SURFACE_COUNT: usize = 0;
 
 pub(crate) const SLOT_COUNT: usize = 1;
@@ -63,7 +63,7 @@ pub(crate) const SEED: usize = 8;
 
 pub(crate) const VARIABLE_COUNTS: usize = 9;
 
-pub(crate) const OPERAND_COUNTS: usize = 33;
+pub(crate) const OPERAND_COUNTS: usize = 49;
 
 // In `numbers`, after the surfaces; then three for each variable and three for each operand.
 pub(crate) const INDICES: usize = 64;

@@ -12,11 +12,11 @@ use jobs::OperandRecord;
 use jobs::SettingsRecord;
 use jobs::VariableRecord;
 
-fn variable_record(counts: &[u64; 57], numbers: &[f64], i: usize) -> VariableRecord
+fn variable_record(counts: &[u64; 73], numbers: &[f64], i: usize) -> VariableRecord
     requires { ⌜ (i < 8) × (195 ≤ length (now numbers)) ⌝ }
     ensures { λ r. ⌜ r ≡ variableRecordFrom (now (counts .entry)) (now (numbers .entry)) i ⌝ }
 {
-    let whole = places::VARIABLE_COUNTS + 3 * i;
+    let whole = places::VARIABLE_COUNTS + 5 * i;
     let real = places::VARIABLE_NUMBERS + 3 * i;
     VariableRecord {
         kind: counts[whole],
@@ -25,10 +25,12 @@ fn variable_record(counts: &[u64; 57], numbers: &[f64], i: usize) -> VariableRec
         min_value: numbers[real],
         max_value: numbers[real + 1],
         step_size: numbers[real + 2],
+        follows: counts[whole + 3],
+        follower: counts[whole + 4],
     }
 }
 
-fn operand_record(counts: &[u64; 57], numbers: &[f64], n: usize) -> OperandRecord
+fn operand_record(counts: &[u64; 73], numbers: &[f64], n: usize) -> OperandRecord
     requires { ⌜ (n < 12) × (195 ≤ length (now numbers)) ⌝ }
     ensures { λ r. ⌜ r ≡ operandRecordFrom (now (counts .entry)) (now (numbers .entry)) n ⌝ }
 {
@@ -43,7 +45,7 @@ fn operand_record(counts: &[u64; 57], numbers: &[f64], n: usize) -> OperandRecor
     }
 }
 
-fn variable_records(counts: &[u64; 57], numbers: &[f64]) -> [VariableRecord; 8]
+fn variable_records(counts: &[u64; 73], numbers: &[f64]) -> [VariableRecord; 8]
     requires { ⌜ 195 ≤ length (now numbers) ⌝ }
     ensures { λ r. ⌜ r ≡ variableRecordsFrom (now (counts .entry)) (now (numbers .entry)) ⌝ }
 {
@@ -58,7 +60,7 @@ fn variable_records(counts: &[u64; 57], numbers: &[f64]) -> [VariableRecord; 8]
     records
 }
 
-fn operand_records(counts: &[u64; 57], numbers: &[f64]) -> [OperandRecord; 12]
+fn operand_records(counts: &[u64; 73], numbers: &[f64]) -> [OperandRecord; 12]
     requires { ⌜ 195 ≤ length (now numbers) ⌝ }
     ensures { λ r. ⌜ r ≡ operandRecordsFrom (now (counts .entry)) (now (numbers .entry)) ⌝ }
 {
@@ -86,7 +88,7 @@ fn all_indices(numbers: &[f64]) -> [f64; 64]
     indices
 }
 
-fn settings_record(counts: &[u64; 57], numbers: &[f64]) -> SettingsRecord
+fn settings_record(counts: &[u64; 73], numbers: &[f64]) -> SettingsRecord
     requires { ⌜ 195 ≤ length (now numbers) ⌝ }
     ensures { λ r. ⌜ r ≡ settingsFrom (now (counts .entry)) (now (numbers .entry)) ⌝ }
 {
@@ -105,7 +107,7 @@ fn settings_record(counts: &[u64; 57], numbers: &[f64]) -> SettingsRecord
     }
 }
 
-pub(crate) fn job_record(counts: &[u64; 57], numbers: &[f64]) -> JobRecord
+pub(crate) fn job_record(counts: &[u64; 73], numbers: &[f64]) -> JobRecord
     requires { ⌜ 195 ≤ length (now numbers) ⌝ }
     ensures { λ r. ⌜ r ≡ jobRecordFrom (now (counts .entry)) (now (numbers .entry)) ⌝ }
 {

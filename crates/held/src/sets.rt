@@ -6,11 +6,12 @@ ghost use Rattle.variables.specs.Active.{numActive, activeAt};
 ghost use Rattle.held.specs.JobFrom.{variableCountFrom, variablesFrom};
 use crate::entries::variable_at;
 use crate::entries::variable_count;
+use variables::Follower;
 use variables::VariableDef;
 use variables::VariableType;
 
 // How many are enabled.
-pub fn num_active(counts: &[u64; 57], numbers: &[f64]) -> usize
+pub fn num_active(counts: &[u64; 73], numbers: &[f64]) -> usize
     requires { ⌜ variableCountFrom (now counts) ≤ 8 ⌝ ∗ ⌜ 195 ≤ length (now numbers) ⌝ }
     ensures { λ r. ⌜ r ≡ numActive (variablesFrom (now (counts .entry)) (now (numbers .entry))) ⌝ }
 {
@@ -28,7 +29,7 @@ pub fn num_active(counts: &[u64; 57], numbers: &[f64]) -> usize
 }
 
 // The enabled variable with q enabled ones before it.
-pub fn active_at(counts: &[u64; 57], numbers: &[f64], q: usize) -> VariableDef
+pub fn active_at(counts: &[u64; 73], numbers: &[f64], q: usize) -> VariableDef
     requires { ⌜ variableCountFrom (now counts) ≤ 8 ⌝ ∗ ⌜ 195 ≤ length (now numbers) ⌝ }
     ensures { λ r. ⌜ r ≡ activeAt (variablesFrom (now (counts .entry)) (now (numbers .entry))) q ⌝ }
 {
@@ -51,5 +52,6 @@ pub fn active_at(counts: &[u64; 57], numbers: &[f64], q: usize) -> VariableDef
         max_value: 0.0 / 0.0,
         step_size: 0.0 / 0.0,
         enabled: false,
+        follower: Follower::None,
     }
 }

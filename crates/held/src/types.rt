@@ -5,7 +5,7 @@
 pub struct HeldRow {
     pub words: [u64; 13],
     pub scalars: [f64; 7],
-    pub counts: [u64; 57],
+    pub counts: [u64; 73],
     pub numbers: [f64; 195],
     pub surfaces: [f64; 64],
     pub jacobian: [f64; 96],
@@ -22,7 +22,7 @@ pub struct HeldRow {
 // Its job alone.
 #[repr(C)]
 pub struct HeldJob {
-    pub counts: [u64; 57],
+    pub counts: [u64; 73],
     pub numbers: [f64; 195],
 }
 

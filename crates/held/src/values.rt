@@ -2,14 +2,15 @@
 ghost use mathlib.Core.Path.{_≡_};
 ghost use Prim.Native.Nat.{_≤_};
 ghost use lib.ListN.{length};
-ghost use Rattle.variables.specs.Kinds.{valueOf, applyClamp, put};
-ghost use Rattle.variables.specs.Values.{extracted, clampedValues, applied};
+ghost use Rattle.variables.specs.Kinds.{valueOf, applyClamp, putAt, followed};
+ghost use Rattle.variables.specs.Values.{extracted, clampedValues, storedIn, applied};
 ghost use Rattle.held.specs.JobFrom.{standing, variableCountFrom, variablesFrom};
 ghost use Rattle.held.specs.Standing.{Behind};
 use crate::entries::variable_at;
 use crate::entries::variable_count;
 use crate::flat::copy;
 use crate::flat::put_surface;
+use variables::Follower;
 use variables::VariableDef;
 use variables::VariableType;
 
@@ -27,7 +28,7 @@ fn value_of(flat: &[f64], kind: VariableType) -> f64
 }
 
 // The values of the enabled variables, and +0.0 after them.
-pub fn extract_values(counts: &[u64; 57], numbers: &[f64], flat: &[f64]) -> [f64; 8]
+pub fn extract_values(counts: &[u64; 73], numbers: &[f64], flat: &[f64]) -> [f64; 8]
     requires { ⌜ variableCountFrom (now counts) ≤ 8 ⌝ ∗ ⌜ 195 ≤ length (now numbers) ⌝ ∗ ⌜ 64 ≤ length (now flat) ⌝ }
     ensures { λ r. ⌜ r ≡ extracted (variablesFrom (now (counts .entry)) (now (numbers .entry))) (standing (now (flat .entry))) ⌝ }
 {
@@ -48,7 +49,7 @@ pub fn extract_values(counts: &[u64; 57], numbers: &[f64], flat: &[f64]) -> [f64
 }
 
 // Each value clamped to its variable's bounds, a NaN let through; what stands after them is kept.
-pub fn clamp_values(counts: &[u64; 57], numbers: &[f64], values: [f64; 8]) -> [f64; 8]
+pub fn clamp_values(counts: &[u64; 73], numbers: &[f64], values: [f64; 8]) -> [f64; 8]
     requires { ⌜ variableCountFrom (now counts) ≤ 8 ⌝ ∗ ⌜ 195 ≤ length (now numbers) ⌝ }
     ensures { λ r. ⌜ r ≡ clampedValues (variablesFrom (now (counts .entry)) (now (numbers .entry))) values ⌝ }
 {
@@ -67,24 +68,49 @@ pub fn clamp_values(counts: &[u64; 57], numbers: &[f64], values: [f64; 8]) -> [f
     x
 }
 
-// One value clamped and stored in its variable's surface, one field of it.
+// One value stored in surface i, one field of it; nothing past the last surface.
+fn put_value(flat: &mut [f64], i: usize, kind: VariableType, x: f64)
+    requires { ⌜ 64 ≤ length (now flat) ⌝ }
+    ensures { λ _.
+        ⌜ standing (now (flat .exit)) ≡ putAt (standing (now (flat .entry))) i kind x ⌝
+        ∗ ⌜ Behind (now (flat .entry)) (now (flat .exit)) ⌝ }
+{
+    if i < 16 {
+        let old = optics::surface_at(flat, i);
+        put_surface(flat, i, variables::with_value(old, kind, x));
+    }
+}
+
+// What the follower receives of a value.
+fn follow(flat: &mut [f64], kind: VariableType, follower: Follower, x: f64)
+    requires { ⌜ 64 ≤ length (now flat) ⌝ }
+    ensures { λ _.
+        ⌜ standing (now (flat .exit)) ≡ followed (standing (now (flat .entry))) kind follower x ⌝
+        ∗ ⌜ Behind (now (flat .entry)) (now (flat .exit)) ⌝ }
+{
+    match follower {
+        Follower::None => {}
+        Follower::Plus(i) => put_value(flat, i, kind, x),
+        Follower::Minus(i) => put_value(flat, i, kind, -x),
+    }
+}
+
+// One value clamped and stored in its variable's surface, and straight after in its follower.
 fn apply_variable(d: VariableDef, value: f64, flat: &mut [f64])
     requires { ⌜ 64 ≤ length (now flat) ⌝ }
     ensures { λ _.
-        ⌜ standing (now (flat .exit)) ≡ put (standing (now (flat .entry))) (d .«var_type») (applyClamp value (d .«min_value») (d .«max_value»)) ⌝
+        ⌜ standing (now (flat .exit)) ≡ storedIn (standing (now (flat .entry))) d (applyClamp value (d .«min_value») (d .«max_value»)) ⌝
         ∗ ⌜ Behind (now (flat .entry)) (now (flat .exit)) ⌝ }
 {
     let kind = d.var_type;
     let x = variables::apply_clamp(value, d.min_value, d.max_value);
-    let at = variables::surface_index(kind);
-    if at < 16 {
-        let old = optics::surface_at(flat, at);
-        put_surface(flat, at, variables::with_value(old, kind, x));
-    }
+    let follower = d.follower;
+    put_value(flat, variables::surface_index(kind), kind, x);
+    follow(flat, kind, follower, x);
 }
 
 // The surfaces that stand in flat numbers with each value applied, in rising order of the variables.
-pub fn apply_values(counts: &[u64; 57], numbers: &[f64], values: [f64; 8], flat: &mut [f64])
+pub fn apply_values(counts: &[u64; 73], numbers: &[f64], values: [f64; 8], flat: &mut [f64])
     requires { ⌜ variableCountFrom (now counts) ≤ 8 ⌝ ∗ ⌜ 195 ≤ length (now numbers) ⌝ ∗ ⌜ 64 ≤ length (now flat) ⌝ }
     ensures { λ _.
         ⌜ standing (now (flat .exit)) ≡ applied (variablesFrom (now (counts .entry)) (now (numbers .entry))) values (standing (now (flat .entry))) ⌝
@@ -105,7 +131,7 @@ pub fn apply_values(counts: &[u64; 57], numbers: &[f64], values: [f64; 8], flat:
 
 // The surfaces of flat numbers laid in others, with each value applied.
 pub fn lay_applied(
-    counts: &[u64; 57],
+    counts: &[u64; 73],
     numbers: &[f64],
     values: [f64; 8],
     surfaces: &[f64],

@@ -18,18 +18,20 @@ use jobs::OperandRecord;
 use jobs::VariableRecord;
 use optics::OpticalSurface;
 
-// Three counts and three numbers of variable i.
+// Five counts and three numbers of variable i.
 fn lay_variable(v: VariableRecord, i: usize, counts: &mut [u64], numbers: &mut [f64])
-    requires { ⌜ (i < 8) × (57 ≤ length (now counts)) × (195 ≤ length (now numbers)) ⌝ }
+    requires { ⌜ (i < 8) × (73 ≤ length (now counts)) × (195 ≤ length (now numbers)) ⌝ }
     ensures { λ _.
         ⌜ (now (counts .exit) ≡ sets (now (counts .entry)) (variableKindAt i) (variableCounts v))
         × (now (numbers .exit) ≡ sets (now (numbers .entry)) (minValueAt i) (variableNumbers v)) ⌝ }
 {
-    let whole = places::VARIABLE_COUNTS + 3 * i;
+    let whole = places::VARIABLE_COUNTS + 5 * i;
     let real = places::VARIABLE_NUMBERS + 3 * i;
     counts[whole] = v.kind;
     counts[whole + 1] = v.surface_index;
     counts[whole + 2] = v.enabled;
+    counts[whole + 3] = v.follows;
+    counts[whole + 4] = v.follower;
     numbers[real] = v.min_value;
     numbers[real + 1] = v.max_value;
     numbers[real + 2] = v.step_size;
@@ -37,7 +39,7 @@ fn lay_variable(v: VariableRecord, i: usize, counts: &mut [u64], numbers: &mut [
 
 // Two counts and three numbers of operand n.
 fn lay_operand(o: OperandRecord, n: usize, counts: &mut [u64], numbers: &mut [f64])
-    requires { ⌜ (n < 12) × (57 ≤ length (now counts)) × (195 ≤ length (now numbers)) ⌝ }
+    requires { ⌜ (n < 12) × (73 ≤ length (now counts)) × (195 ≤ length (now numbers)) ⌝ }
     ensures { λ _.
         ⌜ (now (counts .exit) ≡ sets (now (counts .entry)) (operandKindAt n) (operandCounts o))
         × (now (numbers .exit) ≡ sets (now (numbers .entry)) (limitAt n) (operandNumbers o)) ⌝ }
@@ -53,7 +55,7 @@ fn lay_operand(o: OperandRecord, n: usize, counts: &mut [u64], numbers: &mut [f6
 
 // Behind what stands in front of the variables.
 fn lay_variables(records: [VariableRecord; 8], counts: &mut [u64], numbers: &mut [f64])
-    requires { ⌜ (57 ≤ length (now counts)) × (195 ≤ length (now numbers)) ⌝ }
+    requires { ⌜ (73 ≤ length (now counts)) × (195 ≤ length (now numbers)) ⌝ }
     ensures { λ _.
         ⌜ (take (operandKindAt 0) (now (counts .exit)) ≡ take (variableKindAt 0) (now (counts .entry)) ++ inTurn
         (λ (i : ℕ). variableCounts (getD records i noVariableRecord)) 8)
@@ -70,7 +72,7 @@ fn lay_variables(records: [VariableRecord; 8], counts: &mut [u64], numbers: &mut
 
 // Behind what stands in front of the operands; nothing stands behind them.
 fn lay_operands(records: [OperandRecord; 12], counts: &mut [u64], numbers: &mut [f64])
-    requires { ⌜ (length (now counts) ≡ 57) × (length (now numbers) ≡ 195) ⌝ }
+    requires { ⌜ (length (now counts) ≡ 73) × (length (now numbers) ≡ 195) ⌝ }
     ensures { λ _.
         ⌜ (now (counts .exit) ≡ take (operandKindAt 0) (now (counts .entry)) ++ inTurn (λ (n : ℕ). operandCounts (getD records n noOperandRecord)) 12)
         × (now (numbers .exit) ≡ take (limitAt 0) (now (numbers .entry)) ++ inTurn (λ (n : ℕ). operandNumbers (getD records n noOperandRecord)) 12) ⌝ }
@@ -83,11 +85,11 @@ fn lay_operands(records: [OperandRecord; 12], counts: &mut [u64], numbers: &mut 
     }
 }
 
-fn first_counts(job: JobRecord) -> [u64; 57]
+fn first_counts(job: JobRecord) -> [u64; 73]
     ensures { λ r. ⌜ take (variableKindAt 0) r ≡ firstCounts job ⌝ }
 {
     let s = job.settings;
-    let mut counts = [0; 57];
+    let mut counts = [0; 73];
     counts[places::SURFACE_COUNT] = job.surface_count;
     counts[places::SLOT_COUNT] = job.slot_count;
     counts[places::VARIABLE_COUNT] = job.variable_count;

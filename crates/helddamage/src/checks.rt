@@ -14,7 +14,7 @@ ghost use Rattle.jobs.specs.Records.{multiStartConfig, method, knownVariables, 
 ghost use Rattle.held.specs.JobFrom.{standing, surfaceCountFrom, slotCountFrom, variableCountFrom, operandCountFrom, settingsFrom, jobRecordFrom, heldJob};
 ghost use Rattle.held.specs.JobFrom.{prescriptionFrom, variablesFrom, operandsFrom};
 
-pub(crate) fn counts_taken(counts: &[u64; 57]) -> bool
+pub(crate) fn counts_taken(counts: &[u64; 73]) -> bool
     ensures { λ r. ⌜ ((numbers : List Float) (kind : ℕ) → r ≡ countsTaken (heldJob (now (counts .entry)) numbers kind)) ⌝ }
 {
     if !optics::lens_counts_taken(held::surface_count(counts), held::slot_count(counts)) {
@@ -43,7 +43,7 @@ pub(crate) fn surfaces_taken(flat: &[f64], count: usize) -> bool
 }
 
 // Check 3 on the lens.
-fn lens_taken(counts: &[u64; 57], numbers: &[f64]) -> bool
+fn lens_taken(counts: &[u64; 73], numbers: &[f64]) -> bool
     requires { ⌜ (surfaceCountFrom (now counts) ≤ 16) × (slotCountFrom (now counts) ≤ 4) × (195 ≤ length (now numbers)) ⌝ }
     ensures { λ r. ⌜ r ≡ lensTaken (prescriptionFrom (now (counts .entry)) (now (numbers .entry))) ⌝ }
 {
@@ -58,7 +58,7 @@ fn lens_taken(counts: &[u64; 57], numbers: &[f64]) -> bool
 }
 
 // Check 4, and that every kind and mark is one that there is.
-fn variables_taken(counts: &[u64; 57], numbers: &[f64]) -> bool
+fn variables_taken(counts: &[u64; 73], numbers: &[f64]) -> bool
     requires { ⌜ (variableCountFrom (now counts) ≤ 8) × (195 ≤ length (now numbers)) ⌝ }
     ensures { λ r.
         ⌜ r ≡ variablesTaken (surfaceCountFrom (now (counts .entry))) (variablesFrom (now (counts .entry)) (now (numbers .entry)))
@@ -81,7 +81,7 @@ fn variables_taken(counts: &[u64; 57], numbers: &[f64]) -> bool
 }
 
 // Check 5, and that every kind is one that there is.
-fn operands_taken(counts: &[u64; 57], numbers: &[f64]) -> bool
+fn operands_taken(counts: &[u64; 73], numbers: &[f64]) -> bool
     requires { ⌜ (operandCountFrom (now counts) ≤ 12) × (195 ≤ length (now numbers)) ⌝ }
     ensures { λ r.
         ⌜ r ≡ operandsTaken (slotCountFrom (now (counts .entry))) (operandsFrom (now (counts .entry)) (now (numbers .entry)))
@@ -103,7 +103,7 @@ fn operands_taken(counts: &[u64; 57], numbers: &[f64]) -> bool
     true
 }
 
-fn multi_start_taken(counts: &[u64; 57], numbers: &[f64]) -> bool
+fn multi_start_taken(counts: &[u64; 73], numbers: &[f64]) -> bool
     requires { ⌜ 195 ≤ length (now numbers) ⌝ }
     ensures { λ r. ⌜ r ≡ multiStartTaken (multiStartConfig (settingsFrom (now (counts .entry)) (now (numbers .entry)))) ⌝ }
 {
@@ -114,7 +114,7 @@ fn multi_start_taken(counts: &[u64; 57], numbers: &[f64]) -> bool
 }
 
 // Check 6 on the settings of the row's kind.
-fn settings_taken(kind: u64, counts: &[u64; 57], numbers: &[f64]) -> bool
+fn settings_taken(kind: u64, counts: &[u64; 73], numbers: &[f64]) -> bool
     requires { ⌜ 195 ≤ length (now numbers) ⌝ }
     ensures { λ r. ⌜ r ≡ settingsTaken (method kind (settingsFrom (now (counts .entry)) (now (numbers .entry)))) ⌝ }
 {
@@ -126,7 +126,7 @@ fn settings_taken(kind: u64, counts: &[u64; 57], numbers: &[f64]) -> bool
 }
 
 // Whether the job would be admitted to an empty place and has no number that is no kind; its counts are taken, and p variables enabled.
-pub(crate) fn job_taken(kind: u64, counts: &[u64; 57], numbers: &[f64], p: usize) -> bool
+pub(crate) fn job_taken(kind: u64, counts: &[u64; 73], numbers: &[f64], p: usize) -> bool
     requires { ⌜ (countsTaken (heldJob (now counts) (now numbers) kind) ≡ true)
         × (p ≡ numActive (variablesFrom (now counts) (now numbers)))
         × (195 ≤ length (now numbers)) ⌝ }

@@ -44,7 +44,7 @@ fn surfaces_sound(words: &[u64; 13], count: usize, surfaces: &[f64], best: &[f64
 }
 
 // Column, attempt and iteration below their limits, and trial, cycle and step.
-fn counters_sound(words: &[u64; 13], counts: &[u64; 57], p: usize) -> bool
+fn counters_sound(words: &[u64; 13], counts: &[u64; 73], p: usize) -> bool
     ensures { λ r.
         ⌜ ((numbers surfaces best : List Float) (o : Others)
         → r ≡ countersSound (method (kindFrom (now (words .entry))) (settingsFrom (now (counts .entry)) numbers)) p
@@ -72,7 +72,7 @@ fn counters_sound(words: &[u64; 13], counts: &[u64; 57], p: usize) -> bool
 // Phase, surfaces and counters; p variables are enabled.
 fn state_sound(
     words: &[u64; 13],
-    counts: &[u64; 57],
+    counts: &[u64; 73],
     p: usize,
     surfaces: &[f64],
     best: &[f64],
@@ -96,7 +96,7 @@ fn state_sound(
 // Whether the row is damaged, whatever the arrays are that it is not lent.
 pub fn is_damaged(
     words: &[u64; 13],
-    counts: &[u64; 57],
+    counts: &[u64; 73],
     numbers: &[f64],
     surfaces: &[f64],
     best_surfaces: &[f64],

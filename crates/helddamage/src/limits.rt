@@ -53,7 +53,7 @@ pub(crate) fn uses_best(kind: u64, phase: u64, trial: u64) -> bool
     }
 }
 
-pub(crate) fn iteration_limit(kind: u64, counts: &[u64; 57]) -> u64
+pub(crate) fn iteration_limit(kind: u64, counts: &[u64; 73]) -> u64
     ensures { λ r. ⌜ ((numbers : List Float) → r ≡ iterationLimit (method kind (settingsFrom (now (counts .entry)) numbers))) ⌝ }
 {
     match kind {
@@ -64,7 +64,7 @@ pub(crate) fn iteration_limit(kind: u64, counts: &[u64; 57]) -> u64
 }
 
 // A kind that lacks the counter has limit 0 for it.
-pub(crate) fn trial_limit(kind: u64, counts: &[u64; 57]) -> u64
+pub(crate) fn trial_limit(kind: u64, counts: &[u64; 73]) -> u64
     ensures { λ r. ⌜ ((numbers : List Float) → r ≡ trialLimit (method kind (settingsFrom (now (counts .entry)) numbers))) ⌝ }
 {
     match kind {
@@ -74,7 +74,7 @@ pub(crate) fn trial_limit(kind: u64, counts: &[u64; 57]) -> u64
     }
 }
 
-pub(crate) fn cycle_limit(kind: u64, counts: &[u64; 57]) -> u64
+pub(crate) fn cycle_limit(kind: u64, counts: &[u64; 73]) -> u64
     ensures { λ r. ⌜ ((numbers : List Float) → r ≡ cycleLimit (method kind (settingsFrom (now (counts .entry)) numbers))) ⌝ }
 {
     match kind {
@@ -84,7 +84,7 @@ pub(crate) fn cycle_limit(kind: u64, counts: &[u64; 57]) -> u64
     }
 }
 
-pub(crate) fn step_limit(kind: u64, counts: &[u64; 57]) -> u64
+pub(crate) fn step_limit(kind: u64, counts: &[u64; 73]) -> u64
     ensures { λ r. ⌜ ((numbers : List Float) → r ≡ stepLimit (method kind (settingsFrom (now (counts .entry)) numbers))) ⌝ }
 {
     match kind {
@@ -95,7 +95,7 @@ pub(crate) fn step_limit(kind: u64, counts: &[u64; 57]) -> u64
 }
 
 // The most merits that the job's run works out, with p variables enabled.
-pub(crate) fn bound(kind: u64, counts: &[u64; 57], p: u64) -> u64
+pub(crate) fn bound(kind: u64, counts: &[u64; 73], p: u64) -> u64
     requires { ⌜ ((numbers : List Float) → CountsWithin (method kind (settingsFrom (now counts) numbers))) × (p ≤ 8) ⌝ }
     ensures { λ r. ⌜ ((numbers : List Float) → r ≡ boundBy (method kind (settingsFrom (now (counts .entry)) numbers)) p) ⌝ }
 {

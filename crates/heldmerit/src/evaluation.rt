@@ -13,7 +13,7 @@ ghost use Rattle.heldmerit.specs.HeldOver.{meritOver, residualsOver};
 use merit::WeightRoot;
 
 // The values of surfaces laid flat: all slots are traced in one pass over them.
-pub fn values_of(flat: &[f64], counts: &[u64; 57], numbers: &[f64]) -> [f64; 12]
+pub fn values_of(flat: &[f64], counts: &[u64; 73], numbers: &[f64]) -> [f64; 12]
     requires { ⌜ 4 * surfaceCountFrom (now counts) ≤ length (now flat) ⌝
         ∗ ⌜ surfaceCountFrom (now counts) ≤ 16 ⌝
         ∗ ⌜ operandCountFrom (now counts) ≤ 12 ⌝
@@ -39,7 +39,7 @@ pub fn values_of(flat: &[f64], counts: &[u64; 57], numbers: &[f64]) -> [f64; 12]
 }
 
 // The merit of surfaces that have these values.
-pub fn merit_of(values: &[f64; 12], counts: &[u64; 57], numbers: &[f64]) -> f64
+pub fn merit_of(values: &[f64; 12], counts: &[u64; 73], numbers: &[f64]) -> f64
     requires { ⌜ operandCountFrom (now counts) ≤ 12 ⌝ ∗ ⌜ 195 ≤ length (now numbers) ⌝ }
     ensures { λ r. ⌜ r ≡ meritOver (now (counts .entry)) (now (numbers .entry)) (now (values .entry)) ⌝ }
 {
@@ -56,7 +56,7 @@ pub fn merit_of(values: &[f64; 12], counts: &[u64; 57], numbers: &[f64]) -> f64
 }
 
 // Their residuals: a root is worked out once where neighbouring weights are equal.
-pub fn residuals_of(values: &[f64; 12], counts: &[u64; 57], numbers: &[f64]) -> [f64; 12]
+pub fn residuals_of(values: &[f64; 12], counts: &[u64; 73], numbers: &[f64]) -> [f64; 12]
     requires { ⌜ operandCountFrom (now counts) ≤ 12 ⌝ ∗ ⌜ 195 ≤ length (now numbers) ⌝ }
     ensures { λ r. ⌜ r ≡ residualsOver (now (counts .entry)) (now (numbers .entry)) (now (values .entry)) ⌝ }
 {

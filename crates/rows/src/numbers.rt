@@ -7,7 +7,7 @@ ghost use Rattle.rows.specs.Calls.{usableNumber, turnRowNumber, fetchRow
 // 11 and 12.
 fn usable_number(
     words: &[u64; 13],
-    counts: &[u64; 57],
+    counts: &[u64; 73],
     numbers: &[f64; 195],
     surfaces: &[f64; 64],
     best_surfaces: &[f64; 64],
@@ -30,7 +30,7 @@ fn usable_number(
 pub(crate) fn turn_number(
     room: usize,
     words: &[u64; 13],
-    counts: &[u64; 57],
+    counts: &[u64; 73],
     numbers: &[f64; 195],
     surfaces: &[f64; 64],
     best_surfaces: &[f64; 64],
@@ -56,7 +56,7 @@ pub(crate) fn turn_number(
 
 pub(crate) fn fetch_number(
     words: &[u64; 13],
-    counts: &[u64; 57],
+    counts: &[u64; 73],
     numbers: &[f64; 195],
     surfaces: &[f64; 64],
     best_surfaces: &[f64; 64],

@@ -10,7 +10,7 @@ use crate::scratch::zero_first;
 pub fn turn_parts(
     words: &mut [u64; 13],
     scalars: &mut [f64; 7],
-    counts: &[u64; 57],
+    counts: &[u64; 73],
     numbers: &[f64; 195],
     surfaces: &mut [f64; 64],
     jacobian: &mut [f64; 96],

@@ -17,7 +17,7 @@ use held::HeldRow;
 use optics::OpticalSurface;
 
 // The merit of surfaces under a held job, worked out where they are laid flat.
-fn merit_at(lens: [OpticalSurface; 16], counts: &[u64; 57], numbers: &[f64]) -> f64
+fn merit_at(lens: [OpticalSurface; 16], counts: &[u64; 73], numbers: &[f64]) -> f64
     requires { ⌜ surfaceCountFrom (now counts) ≤ 16 ⌝
         ∗ ⌜ operandCountFrom (now counts) ≤ 12 ⌝
         ∗ ⌜ 195 ≤ length (now numbers) ⌝
@@ -34,7 +34,7 @@ fn merit_at(lens: [OpticalSurface; 16], counts: &[u64; 57], numbers: &[f64]) -> 
 fn pending_parts(
     words: &[u64; 13],
     scalars: &[f64; 7],
-    counts: &[u64; 57],
+    counts: &[u64; 73],
     numbers: &[f64; 195],
     surfaces: &[f64; 64],
     params: &[f64; 8],

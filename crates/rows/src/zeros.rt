@@ -36,7 +36,7 @@ pub fn zero_row() -> HeldRow
     HeldRow {
         words: [0; 13],
         scalars: [0.0; 7],
-        counts: [0; 57],
+        counts: [0; 73],
         numbers: [0.0; 195],
         surfaces: [0.0; 64],
         jacobian: [0.0; 96],

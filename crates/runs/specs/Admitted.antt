@@ -2,20 +2,25 @@
 use mathlib.Core.Path.{_≡_, refl, _∙_}
 use mathlib.Core.Bool.{true}
 use mathlib.Core.List.{List}
-use mathlib.Core.Logic.{_≢_}
 use Prim.Native.Nat.{ℕ, zero, suc, _≤_, _<_}
 use native.Mathlib.Omega.{arith}
+use lib.Dec.{T, ltb, ltb→lt}
 use lib.Seq.{getD-set-other}
-use lib.Ieee.{Float}
+use lib.Ieee.{Float, neg}
+use lib.Ieee.Fits.{and-l}
 use borrow.Author.Tests.{le-ltb}
 use Rattle.lists.specs.Kept.{below, kept-unused}
 use Rattle.lists.specs.Refusals.{firstRefusal}
 use Rattle.optics.specs.Types.{surfaceAt, noSurface, zeroSurface}
+use Rattle.variables.specs.declared.types.Follower.{Follower}
+use Rattle.variables.specs.declared.types.Follower.the-variants.{None, Plus, Minus}
 use Rattle.variables.specs.declared.types.VariableSet.{VariableSet}
+use Rattle.variables.specs.declared.types.VariableType.{VariableType}
 use Rattle.variables.specs.Active.{numActive, activeAt}
-use Rattle.variables.specs.Kinds.{surfaceIndex}
-use Rattle.variables.specs.Values.{appliedTo, applied}
-use Rattle.variables.specs.TakenLaws.{active-taken}
+use Rattle.variables.specs.Kinds.{surfaceIndex, putAt, put, followed}
+use Rattle.variables.specs.Values.{storedAt, appliedTo, applied}
+use Rattle.variables.specs.Taken.{minusTaken, followerTaken}
+use Rattle.variables.specs.TakenLaws.{active-taken, active-follower}
 use Rattle.jobs.specs.declared.types.Job.{Job}
 use Rattle.jobs.specs.declared.types.JobRequest.{JobRequest}
 use Rattle.jobs.specs.Checks.{admissionRefusals, jobTaken}
@@ -46,12 +51,21 @@ module _ (job : Job) (taken : jobTaken job ≡ true) where
   unfolding appliedTo
   applied-to-rest values x i zero h l = refl
   applied-to-rest values x i (suc n) h l =
-      getD-set-other (appliedTo v values x n) (surfaceIndex (activeAt v n .«var_type»)) i _ noSurface
-      (apart (surfaceIndex (activeAt v n .«var_type»)) (active-taken count v (passed job taken .variables) n h .present))
+      let kind = activeAt v n .«var_type» in
+      let value = storedAt v values n in
+      let before = appliedTo v values x n in
+      followed-rest (put before kind value) kind (activeAt v n .follower) value (active-follower count v (passed job taken .followers) n h)
+      ∙ put-rest before (surfaceIndex kind) kind value (active-taken count v (passed job taken .variables) n h .present)
       ∙ applied-to-rest values x i n (omega arith) l
     where
-      apart : (k : ℕ) → k < count → i ≢ k
-      apart k b = omega arith
+      put-rest : (s : Surfaces) (k : ℕ) (kind : VariableType) (y : Float) → k < count → surfaceAt (putAt s k kind y) i ≡ surfaceAt s i
+      put-rest s k kind y b = getD-set-other s k i _ noSurface (omega arith)
+
+      followed-rest : (s : Surfaces) (kind : VariableType) (f : Follower) (y : Float) → T (followerTaken count kind f)
+          → surfaceAt (followed s kind f y) i ≡ surfaceAt s i
+      followed-rest s kind None y t = refl
+      followed-rest s kind (Plus k) y t = put-rest s k kind y (ltb→lt k count t)
+      followed-rest s kind (Minus k) y t = put-rest s k kind (neg y) (ltb→lt k count (and-l (ltb k count) (minusTaken kind) t))
 
   applied-rest : (values : List Float) (x : Surfaces) (i : ℕ) → count ≤ i → surfaceAt (applied v values x) i ≡ surfaceAt x i
   unfolding applied

@@ -12,6 +12,7 @@ use Rattle.lists.specs.All.{allBelow}
 use Rattle.optics.specs.Types.{surfaceAt}
 use Rattle.variables.specs.Active.{enabledOf}
 use Rattle.variables.specs.Values.{extracted, clampedValues, appliedTo, applied}
+use Rattle.variables.specs.declared.types.Follower.the-variants.{None}
 use Rattle.variables.specs.declared.types.VariableType.the-variants.{Thickness}
 use Rattle.merit.specs.declared.types.OperandType.the-variants.{MinCenterThickness}
 use Rattle.merit.specs.Operands.{finiteOr, shortfall, valueOf}
@@ -54,7 +55,7 @@ abbrev tooThin : Unused → Job
 tooThin u = record {
   prescription = lens u n64 n2;
   variables = record {
-    variables = record { «var_type» = Thickness 0; «min_value» = n1; «max_value» = n16; «step_size» = n1; enabled = true } ∷ u .variables;
+    variables = record { «var_type» = Thickness 0; «min_value» = n1; «max_value» = n16; «step_size» = n1; enabled = true; follower = None } ∷ u .variables;
     «variable_count» = 1;
   };
   «merit_function» = record { operands = operand (MinCenterThickness 0 n3) zero64 n1 ∷ u .operands; «operand_count» = 1 };

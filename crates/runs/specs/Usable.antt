@@ -32,7 +32,7 @@ usable job taken =
     record {
       applies =
           λ values x h. all-from (λ (i : ℕ). surfaceTaken (surfaceAt (applied v values x) i)) n
-          (λ i l. applied-taken n v (has .variables) values x i (all-at (λ (i : ℕ). surfaceTaken (surfaceAt x i)) n i h l));
+          (λ i l. applied-taken n v (has .variables) (has .followers) values x i (all-at (λ (i : ℕ). surfaceTaken (surfaceAt x i)) n i h l));
       based = all-from (λ (i : ℕ). surfaceTaken (surfaceAt (baseOf job) i)) n (lens-parts (job .prescription) (has .lens) .surfaces);
       enabled = has .enabled;
     }

@@ -24,7 +24,7 @@ use jobs::DlsConfig;
 fn advance_part(
     h: RowHead,
     config: DlsConfig,
-    counts: &[u64; 57],
+    counts: &[u64; 73],
     numbers: &[f64],
     found: &[f64; 12],
     surfaces: &mut [f64; 64],
@@ -74,7 +74,7 @@ fn advance_part(
 
 fn advance_annealing(
     h: RowHead,
-    counts: &[u64; 57],
+    counts: &[u64; 73],
     numbers: &[f64],
     found: &[f64; 12],
     surfaces: &mut [f64; 64],
@@ -168,7 +168,7 @@ fn advance_annealing(
 pub(crate) fn advance_run(
     h: RowHead,
     kind: u64,
-    counts: &[u64; 57],
+    counts: &[u64; 73],
     numbers: &[f64],
     found: &[f64; 12],
     surfaces: &mut [f64; 64],

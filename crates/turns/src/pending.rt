@@ -16,7 +16,7 @@ use held::RowHead;
 // Annealing: the base, a step's trial, or the polish's.
 fn pending_annealing(
     h: RowHead,
-    counts: &[u64; 57],
+    counts: &[u64; 73],
     numbers: &[f64],
     surfaces: &[f64; 64],
     params: &[f64; 8],
@@ -58,7 +58,7 @@ fn pending_annealing(
 pub fn pending_surfaces(
     h: RowHead,
     kind: u64,
-    counts: &[u64; 57],
+    counts: &[u64; 73],
     numbers: &[f64],
     surfaces: &[f64; 64],
     params: &[f64; 8],

@@ -18,7 +18,7 @@ use held::RowHead;
 pub fn turned(
     h: RowHead,
     kind: u64,
-    counts: &[u64; 57],
+    counts: &[u64; 73],
     numbers: &[f64],
     surfaces: &mut [f64; 64],
     jacobian: &mut [f64; 96],

@@ -1,16 +1,20 @@
 -- `held::entries::variable_known` meets its contract. Assumes nothing.
-use mathlib.Core.Path.{_≡_, sym, ap}
+use mathlib.Core.Path.{_≡_, sym}
 use mathlib.Core.Bool.{Bool, true, false, _&&_}
 use borrow.Author.Tests.{lt-ltb, le-ltb}
 use borrow.Author.Needs.{needs}
 use Rattle.held.proofs.entries.variable_known.Statement.{statement}
 use Rattle.held.proofs.entries.variable_known.Tie as tie
 
-first-holds : (a b : Bool) → a ≡ true → b ≡ a && b
-first-holds a b e = sym (ap (λ (t : Bool). t && b) e)
+-- kind, mark and sign
+no-kind : (k m s : Bool) → k ≡ false → false ≡ k && m && s
+no-kind k m s e = sym (λ i. e i && m && s)
 
-first-fails : (a b : Bool) → a ≡ false → false ≡ a && b
-first-fails a b e = sym (ap (λ (t : Bool). t && b) e)
+no-mark : (k m s : Bool) → k ≡ true → m ≡ false → false ≡ k && m && s
+no-mark k m s e f = sym (λ i. e i && f i && s)
+
+by-sign : (k m s : Bool) → k ≡ true → m ≡ true → s ≡ k && m && s
+by-sign k m s e f = sym (λ i. e i && f i && s)
 
 mul-at : tie.Need-mul-at
 mul-at c = search needs
@@ -25,7 +29,19 @@ element-copy-out-if1 : tie.Need-element-copy-out-if1
 element-copy-out-if1 c = search needs
 
 returns : tie.Need-returns
-returns c = λ numbers. first-fails _ _ (le-ltb _ _ (c .if1 .taken))
+returns c = λ numbers. no-kind _ _ _ (le-ltb _ _ (c .if1 .taken))
+
+add-if2 : tie.Need-add-if2
+add-if2 c = search needs
+
+mul-if2 : tie.Need-mul-if2
+mul-if2 c = search needs
+
+element-copy-out-if2 : tie.Need-element-copy-out-if2
+element-copy-out-if2 c = search needs
+
+returns-2 : tie.Need-returns-2
+returns-2 c = λ numbers. no-mark _ _ _ (lt-ltb _ _ (c .before .before .if1 .left)) (le-ltb _ _ (c .if2 .taken))
 
 add-result : tie.Need-add-result
 add-result c = search needs
@@ -36,8 +52,8 @@ mul-result c = search needs
 element-copy-out-result : tie.Need-element-copy-out-result
 element-copy-out-result c = search needs
 
-returns-2 : tie.Need-returns-2
-returns-2 c = λ numbers. first-holds _ _ (lt-ltb _ _ (c .before .if1 .left))
+returns-3 : tie.Need-returns-3
+returns-3 c = λ numbers. by-sign _ _ _ (lt-ltb _ _ (c .before .before .before .if1 .left)) (lt-ltb _ _ (c .before .if2 .left))
 
 pub variable-known-spec : {M : Type 1} → statement M
 variable-known-spec =
@@ -48,7 +64,11 @@ variable-known-spec =
     mul-if1
     element-copy-out-if1
     returns
+    add-if2
+    mul-if2
+    element-copy-out-if2
+    returns-2
     add-result
     mul-result
     element-copy-out-result
-    returns-2)
+    returns-3)

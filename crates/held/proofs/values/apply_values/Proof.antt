@@ -6,8 +6,8 @@ use native.Mathlib.Omega.{arith}
 use borrow.Author.Needs.{needs}
 use Rattle.variables.specs.declared.types.VariableDef.{VariableDef}
 use Rattle.variables.specs.Active.{enabledOf}
-use Rattle.variables.specs.Kinds.{applyClamp, put}
-use Rattle.variables.specs.Values.{appliedTo, applied}
+use Rattle.variables.specs.Kinds.{applyClamp}
+use Rattle.variables.specs.Values.{storedIn, appliedTo, applied}
 use Rattle.variables.proofs.Applying.{Applying, counted-le, apply-more, apply-past}
 use mathlib.Core.List.{List}
 use lib.ListN.{length, getD, drop}
@@ -15,6 +15,7 @@ use lib.Ieee.{Float, nan}
 use Rattle.optics.specs.declared.types.OpticalSurface.{OpticalSurface}
 use Rattle.held.specs.JobFrom.{standing, variableCountFrom, variablesFrom}
 use Rattle.held.specs.Standing.{Behind}
+use Rattle.held.proofs.Stored.{further}
 use Rattle.held.proofs.values.apply_values.Statement.{statement}
 use Rattle.held.proofs.values.apply_values.Tie as tie
 
@@ -24,10 +25,6 @@ Inv-loop counts numbers flat₀ values count q₀ i₀ flat q i =
 
 abbrev μ-loop : tie.MeasureT-loop
 μ-loop counts numbers flat₀ values count q₀ i₀ flat q i = count - i
-
--- one step more, and what came of it under another name
-further : {a b c d : List Float} → Behind a b → Behind b c → d ≡ c → Behind a d
-further p q e = record { long = ap length e ∙ q .long ∙ p .long; rest = ap (drop 64) e ∙ q .rest ∙ p .rest }
 
 variable-count-requires : tie.Need-variable-count-requires Inv-loop μ-loop
 variable-count-requires c κs = search needs
@@ -67,7 +64,7 @@ loop-again c =
     let e = ap (λ (d : VariableDef). d .enabled) is in
     let h : l .i < variableCountFrom (x .counts .now) = omega (arith, c .before .before .loop-test .taken, l .inv .1) in
     let stored : VariableDef → List OpticalSurface =
-    λ d. put (standing (l .flat)) (d .«var_type») (applyClamp (getD (x .t3) (l .q) nan) (d .«min_value») (d .«max_value»)) in
+    λ d. storedIn (standing (l .flat)) d (applyClamp (getD (x .t3) (l .q) nan) (d .«min_value») (d .«max_value»)) in
     ⊎-elim
     (λ w. (
       apply-more (l .inv .0) _ _ h (sym e ∙ w .0 .taken) (ap standing (w .5) ∙ w .2 .ensures .0 ∙ ap stored is) (w .6),

@@ -1,8 +1,9 @@
 -- `held::values::apply_variable` meets its contract. Assumes nothing.
-use native.Mathlib.Omega.{arith}
 use mathlib.Core.Path.{refl, _∙_}
 use borrow.Author.Needs.{needs}
-use Rattle.held.proofs.Stored.{put-stored, put-past}
+use Rattle.variables.specs.Kinds.{putAt, followed}
+use Rattle.held.specs.JobFrom.{standing}
+use Rattle.held.proofs.Stored.{further}
 use Rattle.held.proofs.values.apply_variable.Statement.{statement}
 use Rattle.held.proofs.values.apply_variable.Tie as tie
 
@@ -12,35 +13,27 @@ apply-clamp-requires c κs = search needs
 surface-index-requires : tie.Need-surface-index-requires
 surface-index-requires c κs = search needs
 
-surface-at-requires : tie.Need-surface-at-requires
-surface-at-requires c κs = search needs
+put-value-requires : tie.Need-put-value-requires
+put-value-requires c κs = search needs
 
-with-value-requires : tie.Need-with-value-requires
-with-value-requires c κs = search needs
-
-put-surface-requires : tie.Need-put-surface-requires
-put-surface-requires c κs = search needs
+follow-requires : tie.Need-follow-requires
+follow-requires c κs = search needs
 
 same-length : tie.Need-same-length
 same-length c = search needs
 
 returns : tie.Need-returns
 returns c =
-    let put = c .before .before in
-    let new = put .before in
-    let old = new .before .before in
-    let at = old .before .before .before in
-    let a = at .before .before .before .args in (
-      put .put-surface .ensures .0 ∙ put-stored (a .flat .now) (a .d .«var_type») _ (at .surface-index .result) (at .before .apply-clamp .result) _ _
-          (at .surface-index .ensures) (omega arith) (at .before .apply-clamp .ensures) (old .surface-at .ensures) (new .with-value .ensures),
-      put .put-surface .ensures .1,
+    let then = c .before .before in
+    let put = then .before .before .before .before in
+    let at = put .before in
+    let clamp = at .before .before in
+    let a = clamp .before .before .args in
+    let kind = a .d .«var_type» in
+    let first = put .put-value .ensures .0 ∙ (λ i. putAt (standing (a .flat .now)) (at .surface-index .ensures i) kind (clamp .apply-clamp .ensures i)) in (
+      then .follow .ensures .0 ∙ (λ i. followed (first i) kind (a .d .follower) (clamp .apply-clamp .ensures i)),
+      further (put .put-value .ensures .1) (then .follow .ensures .1) refl,
     )
-
-returns-2 : tie.Need-returns-2
-returns-2 c =
-    let at = c .before in
-    let a = at .before .before .before .args in
-    (put-past (a .flat .now) (a .d .«var_type») _ (at .surface-index .result) (at .surface-index .ensures) (omega arith), record { long = refl; rest = refl })
 
 pub apply-variable-spec : {M : Type 1} → statement M
 apply-variable-spec =
@@ -48,9 +41,7 @@ apply-variable-spec =
     (tie.spec
     apply-clamp-requires
     surface-index-requires
-    surface-at-requires
-    with-value-requires
-    put-surface-requires
+    put-value-requires
+    follow-requires
     same-length
-    returns
-    returns-2)
+    returns)

@@ -65,7 +65,7 @@ same-length-2 : tie.Need-same-length-2
 same-length-2 c = search needs
 
 returns : tie.Need-returns
-returns c = let a = c .args in (two-stores (a .counts .now) (33 + 2 * a .n) _ _, three-stores (a .numbers .now) (159 + 3 * a .n) _ _ _)
+returns c = let a = c .args in (two-stores (a .counts .now) (49 + 2 * a .n) _ _, three-stores (a .numbers .now) (159 + 3 * a .n) _ _ _)
 
 pub lay-operand-spec : {M : Type 1} → statement M
 lay-operand-spec =

@@ -75,7 +75,7 @@ same-length-2 c = c .before .loop .inv .2
 returns : tie.Need-returns Inv-loop μ-loop
 returns c =
     let e : c .before .loop .n ≡ 12 = omega arith in (
-      sym (take-all 57 (c .before .loop .counts) (omega (arith, c .before .loop .inv .1)))
+      sym (take-all 73 (c .before .loop .counts) (omega (arith, c .before .loop .inv .1)))
           ∙ rw e at (c .before .loop .inv .3),
       sym (take-all 195 (c .before .loop .numbers) (omega (arith, c .before .loop .inv .2)))
           ∙ rw e at (c .before .loop .inv .4),

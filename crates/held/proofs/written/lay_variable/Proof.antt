@@ -2,8 +2,8 @@
 use Prim.Native.Nat.{_+_, _*_}
 use native.Mathlib.Omega.{arith}
 use lib.ListN.{length-set}
-use Rattle.held.specs.WrittenLaws.{three-stores}
 use borrow.Author.Needs.{needs}
+use Rattle.held.specs.WrittenLaws.{three-stores, five-stores}
 use Rattle.held.proofs.written.lay_variable.Statement.{statement}
 use Rattle.held.proofs.written.lay_variable.Tie as tie
 
@@ -43,6 +43,24 @@ mul-counts-3 c = search needs
 slice-write-counts-3 : tie.Need-slice-write-counts-3
 slice-write-counts-3 c = simp length-set (omega arith)
 
+add-counts-3 : tie.Need-add-counts-3
+add-counts-3 c = search needs
+
+mul-counts-4 : tie.Need-mul-counts-4
+mul-counts-4 c = search needs
+
+slice-write-counts-4 : tie.Need-slice-write-counts-4
+slice-write-counts-4 c = simp length-set (omega arith)
+
+add-counts-4 : tie.Need-add-counts-4
+add-counts-4 c = search needs
+
+mul-counts-5 : tie.Need-mul-counts-5
+mul-counts-5 c = search needs
+
+slice-write-counts-5 : tie.Need-slice-write-counts-5
+slice-write-counts-5 c = simp length-set (omega arith)
+
 mul-numbers : tie.Need-mul-numbers
 mul-numbers c = search needs
 
@@ -74,7 +92,7 @@ same-length-2 : tie.Need-same-length-2
 same-length-2 c = search needs
 
 returns : tie.Need-returns
-returns c = let a = c .args in (three-stores (a .counts .now) (9 + 3 * a .i) _ _ _, three-stores (a .numbers .now) (135 + 3 * a .i) _ _ _)
+returns c = let a = c .args in (five-stores (a .counts .now) (9 + 5 * a .i) _ _ _ _ _, three-stores (a .numbers .now) (135 + 3 * a .i) _ _ _)
 
 pub lay-variable-spec : {M : Type 1} → statement M
 lay-variable-spec =
@@ -92,6 +110,12 @@ lay-variable-spec =
     add-counts-2
     mul-counts-3
     slice-write-counts-3
+    add-counts-3
+    mul-counts-4
+    slice-write-counts-4
+    add-counts-4
+    mul-counts-5
+    slice-write-counts-5
     mul-numbers
     slice-write-numbers
     add-numbers
