@@ -9,6 +9,7 @@ pub mod CallerLaws
 pub mod Order
 pub mod Monotone
 pub mod Risen
+pub mod Signs
 -- Steps of the proofs.
 pub mod NearestUnits
 pub mod Fractions

@@ -29,7 +29,7 @@ units-neg f q k =
     ap (λ (x : Float). cond (ltb (q * 2 ^ k) (2 ^ (low f + suc (emax f)))) x (inf true)) (odd-neg (suc (prec f)) q k (low f))
     ∙ cond-neg (ltb (q * 2 ^ k) (2 ^ (low f + suc (emax f)))) (odd (suc (prec f)) false q k (low f))
 
-round-neg : (f : Format) (a c : ℕ) → round f true a c ≡ neg (round f false a c)
+pub round-neg : (f : Format) (a c : ℕ) → round f true a c ≡ neg (round f false a c)
 round-neg f a c = round-is f true a c ∙ units-neg f _ _ ∙ ap neg (sym (round-is f false a c))
 
 flip-eq : (a b : ℕ) → T (eqb a b) → T (eqb b a)

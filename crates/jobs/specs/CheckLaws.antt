@@ -66,7 +66,8 @@ module _ (j : Job) where
       followers : followersTaken (j .prescription .«surface_count») (keptVariables (j .variables))
           ≡ followersTaken (j .prescription .«surface_count») (j .variables)
       followers =
-          all-same _ _ (j .variables .«variable_count») (λ k h. ap (λ (d : VariableDef). followerTaken (j .prescription .«surface_count») (d .«var_type») (d .follower))
+          all-same _ _ (j .variables .«variable_count»)
+          (λ k h. ap (λ (d : VariableDef). followerTaken (j .prescription .«surface_count») (d .«var_type») (d .follower))
           (variable-kept (j .variables) k (n .variables) h))
 
       operands : operandsTaken (j .prescription .«slot_count») (keptOperands (j .«merit_function»))

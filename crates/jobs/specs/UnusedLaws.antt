@@ -24,7 +24,8 @@ use Rattle.merit.specs.declared.types.OperandType.the-variants.{MinCenterThickn
 use Rattle.jobs.specs.declared.types.Job.{Job}
 use Rattle.jobs.specs.declared.types.Method.{Method}
 use Rattle.jobs.specs.declared.types.Method.the-variants.{Damped, MultiStart, Annealing}
-use Rattle.jobs.specs.Entries.{followsOf, followerSurface, variableRecord, operandRecord, operandKind, slotOrSurface, limitOf, noVariableRecord, noOperandRecord}
+use Rattle.jobs.specs.Entries.{followsOf, followerSurface, variableRecord}
+use Rattle.jobs.specs.Entries.{operandRecord, operandKind, slotOrSurface, limitOf, noVariableRecord, noOperandRecord}
 use Rattle.jobs.specs.Kept.{zeroVariable, zeroOperand, keptJob}
 use Rattle.jobs.specs.Records.{methodKind, settingsRecord, kindOf, recordOf}
 use Rattle.jobs.specs.Unused.{CleanVariable, CleanOperand, CleanSettings, CleanRecord}

@@ -7,5 +7,7 @@ pub mod Taken
 pub mod CallerLaws
 pub mod TakenLaws
 pub mod Keeps
+-- Without followers applying is the original's; what minus does to a radius.
+pub mod Followers
 -- Steps of the proofs.
 pub mod ActiveLaws

@@ -10,8 +10,8 @@ use Rattle.variables.specs.Kinds.{applyClamp}
 use Rattle.variables.specs.Values.{storedIn, appliedTo, applied}
 use Rattle.variables.proofs.Applying.{Applying, counted-le, apply-more, apply-past}
 use mathlib.Core.List.{List}
-use lib.ListN.{length, getD, drop}
-use lib.Ieee.{Float, nan}
+use lib.ListN.{getD}
+use lib.Ieee.{nan}
 use Rattle.optics.specs.declared.types.OpticalSurface.{OpticalSurface}
 use Rattle.held.specs.JobFrom.{standing, variableCountFrom, variablesFrom}
 use Rattle.held.specs.Standing.{Behind}

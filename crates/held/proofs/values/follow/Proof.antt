@@ -31,7 +31,9 @@ put-value-requires-2 : tie.Need-put-value-requires-2
 put-value-requires-2 c κs = search needs
 
 returns : tie.Need-returns
-returns c = let a = c .before .before .before .args in (told (a .flat .now) _ (a .kind) (a .x) (c .enum-told .given .1) refl, record { long = refl; rest = refl })
+returns c =
+    let a = c .before .before .before .args in
+    (told (a .flat .now) _ (a .kind) (a .x) (c .enum-told .given .1) refl, record { long = refl; rest = refl })
 
 same-length : tie.Need-same-length
 same-length c = search needs

@@ -23,7 +23,8 @@ returns c =
     let follows = c .before in
     let mark = follows .before in
     let surface = mark .before in
-    rw (surface .before .variable-kind .ensures, surface .surface-index .ensures, mark .one-if .ensures, follows .follows-of .ensures, c .follower-surface .ensures)
+    let of = surface .before .variable-kind .ensures in
+    rw (of, surface .surface-index .ensures, mark .one-if .ensures, follows .follows-of .ensures, c .follower-surface .ensures)
 
 pub variable-record-spec : {M : Type 1} → statement M
 variable-record-spec =

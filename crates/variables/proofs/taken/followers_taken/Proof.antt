@@ -52,7 +52,8 @@ loop-again : tie.Need-loop-again Inv-loop μ-loop
 loop-again c =
     let at = c .before .before .before .before in
     let a = at .before .args in
-    (omega arith, all-more (taken (a .surface-count) (a .t1)) (at .loop .i) (at .loop .inv .1) (sym (c .before .follower-taken .ensures) ∙ not-false _ (c .if1 .left)))
+    let this = sym (c .before .follower-taken .ensures) ∙ not-false _ (c .if1 .left) in
+    (omega arith, all-more (taken (a .surface-count) (a .t1)) (at .loop .i) (at .loop .inv .1) this)
 
 returns-2 : tie.Need-returns-2 Inv-loop μ-loop
 unfolding followersTaken
