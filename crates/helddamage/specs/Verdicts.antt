@@ -11,7 +11,7 @@ use borrow.Author.Tests.{lt-ltb, ne-eqb}
 use Rattle.lists.specs.All.{allBelow}
 use Rattle.optics.specs.Check.{lensTaken}
 use Rattle.variables.specs.Active.{numActive}
-use Rattle.variables.specs.Taken.{variablesTaken}
+use Rattle.variables.specs.Taken.{variablesTaken, followersTaken}
 use Rattle.merit.specs.Check.{operandsTaken}
 use Rattle.jobs.specs.declared.types.SettingsRecord.{SettingsRecord}
 use Rattle.jobs.specs.Checks.{settingsTaken, countsTaken, recordTaken}
@@ -46,17 +46,18 @@ all-both s t (suc n) = ap (λ (b : Bool). b && (s n && t n)) (all-both s t n) �
     swap true true c d = refl
 
 -- ---- the job: the numbers of the list, and the kinds with the lists that they stand in
-all-causes : (a b v o s p m : Bool)
-    → eqb (cond (not a) 1 (cond (not b) 3 (cond (not v) 4 (cond (not o) 5 (cond (not s) 6 (cond p 7 (cond m 8 0))))))) 0 ≡ a && b && v && o && s && not p
-    && not m
-all-causes false b v o s p m = refl
-all-causes true false v o s p m = refl
-all-causes true true false o s p m = refl
-all-causes true true true false s p m = refl
-all-causes true true true true false p m = refl
-all-causes true true true true true true m = refl
-all-causes true true true true true false true = refl
-all-causes true true true true true false false = refl
+all-causes : (a b v f o s p m : Bool)
+    → eqb (cond (not a) 1 (cond (not b) 3 (cond (not v) 4 (cond (not f) 17 (cond (not o) 5 (cond (not s) 6 (cond p 7 (cond m 8 0)))))))) 0
+    ≡ a && b && (v && f) && o && s && not p && not m
+all-causes false b v f o s p m = refl
+all-causes true false v f o s p m = refl
+all-causes true true false f o s p m = refl
+all-causes true true true false o s p m = refl
+all-causes true true true true false s p m = refl
+all-causes true true true true true false p m = refl
+all-causes true true true true true true true m = refl
+all-causes true true true true true true false true = refl
+all-causes true true true true true true false false = refl
 
 with-kinds : (a b v o s p m k l : Bool) → a && b && v && o && s && p && m && (k && l) ≡ a && b && (v && k) && (o && l) && s && p && m
 with-kinds false b v o s p m k l = refl
@@ -83,7 +84,8 @@ module _ (counts : List ℕ) (numbers : List Float) (kind : ℕ) where
   pub record-is : recordTaken kind (jobRecordFrom counts numbers)
       ≡ countsTaken (heldJob counts numbers kind)
       && lensTaken (prescriptionFrom counts numbers)
-      && (variablesTaken (surfaceCountFrom counts) (variablesFrom counts numbers) && knownVariables (jobRecordFrom counts numbers))
+      && (variablesTaken (surfaceCountFrom counts) (variablesFrom counts numbers) && followersTaken (surfaceCountFrom counts) (variablesFrom counts numbers)
+      && knownVariables (jobRecordFrom counts numbers))
       && (operandsTaken (slotCountFrom counts) (operandsFrom counts numbers) && knownOperands (jobRecordFrom counts numbers))
       && settingsTaken (method kind (settingsFrom counts numbers))
       && not (eqb (numActive (variablesFrom counts numbers)) 0)
@@ -92,13 +94,14 @@ module _ (counts : List ℕ) (numbers : List Float) (kind : ℕ) where
       let a = countsTaken (heldJob counts numbers kind) in
       let b = lensTaken (prescriptionFrom counts numbers) in
       let v = variablesTaken (surfaceCountFrom counts) (variablesFrom counts numbers) in
+      let f = followersTaken (surfaceCountFrom counts) (variablesFrom counts numbers) in
       let o = operandsTaken (slotCountFrom counts) (operandsFrom counts numbers) in
       let s = settingsTaken (method kind (settingsFrom counts numbers)) in
       let p = eqb (numActive (variablesFrom counts numbers)) 0 in
       let m = eqb (operandCountFrom counts) 0 in
       let k = knownVariables (jobRecordFrom counts numbers) in
       let l = knownOperands (jobRecordFrom counts numbers) in
-      ap (λ (t : Bool). t && (k && l)) (all-causes a b v o s p m) ∙ with-kinds a b v o s (not p) (not m) k l
+      ap (λ (t : Bool). t && (k && l)) (all-causes a b v f o s p m) ∙ with-kinds a b (v && f) o s (not p) (not m) k l
 
   -- the counts are looked at first
   pub counts-refused : countsTaken (heldJob counts numbers kind) ≡ false → recordTaken kind (jobRecordFrom counts numbers) ≡ false

@@ -7,12 +7,13 @@ ghost use lib.Ieee.{Float};
 ghost use lib.ListN.{length};
 ghost use Rattle.optics.specs.Check.{surfacesTaken, lensTaken};
 ghost use Rattle.variables.specs.Active.{numActive};
-ghost use Rattle.variables.specs.Taken.{variablesTaken};
+ghost use Rattle.variables.specs.Taken.{variableTaken, variablesTaken, followerTaken, followersTaken};
 ghost use Rattle.merit.specs.Check.{operandsTaken};
 ghost use Rattle.jobs.specs.Checks.{multiStartTaken, settingsTaken, countsTaken, recordTaken};
 ghost use Rattle.jobs.specs.Records.{multiStartConfig, method, knownVariables, knownOperands};
 ghost use Rattle.held.specs.JobFrom.{standing, surfaceCountFrom, slotCountFrom, variableCountFrom, operandCountFrom, settingsFrom, jobRecordFrom, heldJob};
 ghost use Rattle.held.specs.JobFrom.{prescriptionFrom, variablesFrom, operandsFrom};
+use variables::VariableDef;
 
 pub(crate) fn counts_taken(counts: &[u64; 73]) -> bool
     ensures { λ r. ⌜ ((numbers : List Float) (kind : ℕ) → r ≡ countsTaken (heldJob (now (counts .entry)) numbers kind)) ⌝ }
@@ -57,11 +58,24 @@ fn lens_taken(counts: &[u64; 73], numbers: &[f64]) -> bool
     optics::indices_taken(held::indices(numbers), held::slot_count(counts), count)
 }
 
-// Check 4, and that every kind and mark is one that there is.
+// Checks 4 and 17 on one variable.
+fn variable_taken(d: VariableDef, surfaces: usize) -> bool
+    ensures { λ r. ⌜ r ≡ variableTaken surfaces d && followerTaken surfaces (d .«var_type») (d .follower) ⌝ }
+{
+    if !variables::variable_taken(d, surfaces) {
+        return false;
+    }
+    let kind = d.var_type;
+    let follower = d.follower;
+    variables::follower_taken(kind, follower, surfaces)
+}
+
+// Checks 4 and 17, and that every kind, mark and sign is one that there is.
 fn variables_taken(counts: &[u64; 73], numbers: &[f64]) -> bool
     requires { ⌜ (variableCountFrom (now counts) ≤ 8) × (195 ≤ length (now numbers)) ⌝ }
     ensures { λ r.
         ⌜ r ≡ variablesTaken (surfaceCountFrom (now (counts .entry))) (variablesFrom (now (counts .entry)) (now (numbers .entry)))
+        && followersTaken (surfaceCountFrom (now (counts .entry))) (variablesFrom (now (counts .entry)) (now (numbers .entry)))
         && knownVariables (jobRecordFrom (now (counts .entry)) (now (numbers .entry))) ⌝ }
 {
     let surfaces = held::surface_count(counts);
@@ -72,7 +86,7 @@ fn variables_taken(counts: &[u64; 73], numbers: &[f64]) -> bool
             return false;
         }
         let d = held::variable_at(counts, numbers, i);
-        if !variables::variable_taken(d, surfaces) {
+        if !variable_taken(d, surfaces) {
             return false;
         }
         i += 1;
@@ -125,7 +139,7 @@ fn settings_taken(kind: u64, counts: &[u64; 73], numbers: &[f64]) -> bool
     }
 }
 
-// Whether the job would be admitted to an empty place and has no number that is no kind; its counts are taken, and p variables enabled.
+// Whether the job would be admitted to an empty place and has no number that is no kind, mark or sign; its counts are taken, and p variables enabled.
 pub(crate) fn job_taken(kind: u64, counts: &[u64; 73], numbers: &[f64], p: usize) -> bool
     requires { ⌜ (countsTaken (heldJob (now counts) (now numbers) kind) ≡ true)
         × (p ≡ numActive (variablesFrom (now counts) (now numbers)))

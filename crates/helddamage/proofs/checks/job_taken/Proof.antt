@@ -6,7 +6,7 @@ use borrow.Author.Tests.{not-true, not-false}
 use lib.Dec.{eqb}
 use borrow.Author.Tests.{eq-eqb, ne-eqb}
 use Rattle.variables.specs.Active.{numActive}
-use Rattle.variables.specs.Taken.{variablesTaken}
+use Rattle.variables.specs.Taken.{variablesTaken, followersTaken}
 use Rattle.merit.specs.Check.{operandsTaken}
 use Rattle.jobs.specs.Checks.{settingsTaken}
 use Rattle.jobs.specs.Counts.{counts}
@@ -28,6 +28,7 @@ returns c =
     let lens = sym (c .before .lens-taken .ensures) ∙ not-true _ (c .if1 .taken) in
     sym (record-is (a .counts .now) (a .numbers .now) (a .kind)
     ∙ (λ i. counts i && lens i && (variablesTaken (surfaceCountFrom (a .counts .now)) (variablesFrom (a .counts .now) (a .numbers .now))
+    && followersTaken (surfaceCountFrom (a .counts .now)) (variablesFrom (a .counts .now) (a .numbers .now))
     && knownVariables (jobRecordFrom (a .counts .now) (a .numbers .now)))
     && (operandsTaken (slotCountFrom (a .counts .now)) (operandsFrom (a .counts .now) (a .numbers .now))
     && knownOperands (jobRecordFrom (a .counts .now) (a .numbers .now)))
