@@ -7,7 +7,7 @@ use Rattle.lists.specs.All.{allBelow}
 use Rattle.lists.specs.Tab.{tab}
 use Rattle.optics.specs.Check.{within, aboveZeroUpTo, surfaceTaken, lensTaken}
 use Rattle.variables.specs.Active.{enabledOf}
-use Rattle.variables.specs.Taken.{variableTaken, variablesTaken}
+use Rattle.variables.specs.Taken.{variableTaken, variablesTaken, followersTaken}
 use Rattle.merit.specs.Check.{kindTaken, weightTaken, operandTaken}
 use Rattle.jobs.specs.Checks.{fromZeroTo, dlsTaken, multiStartTaken, annealingTaken}
 use Rattle.jobs.specs.Sample.{Unused, request, damped, multiStart, annealing}
@@ -23,15 +23,15 @@ Admitted r = admitNumber emptyBench 0 r ≡ 0
 
 -- the lens with a thickness variable
 pub drawings-admitted : (u : Unused) → Admitted (request u damped) × Admitted (request u multiStart) × Admitted (request u annealing)
-unfolding neg lt le isNan ofBits finiteOf allBelow within aboveZeroUpTo surfaceTaken lensTaken enabledOf variableTaken variablesTaken kindTaken weightTaken
-    operandTaken fromZeroTo dlsTaken multiStartTaken annealingTaken zeroRow tab admitNumber
+unfolding neg lt le isNan ofBits finiteOf allBelow within aboveZeroUpTo surfaceTaken lensTaken enabledOf variableTaken variablesTaken followersTaken kindTaken
+    weightTaken operandTaken fromZeroTo dlsTaken multiStartTaken annealingTaken zeroRow tab admitNumber
 drawings-admitted u = (refl, refl, refl)
 
 -- "at most 16 surfaces, 1 to 4 wavelength slots, at most 8 variables and 12 operands": so many are admitted, all numbers and settings at their limits
 pub limits-admitted : Admitted (atLimits 16 4 8 12 Limits.damped) × Admitted (atLimits 16 4 8 12 Limits.multiStart)
     × Admitted (atLimits 16 4 8 12 Limits.annealing)
-unfolding neg lt le isNan ofBits finiteOf allBelow within aboveZeroUpTo surfaceTaken lensTaken enabledOf variableTaken variablesTaken kindTaken weightTaken
-    operandTaken fromZeroTo dlsTaken multiStartTaken annealingTaken zeroRow tab admitNumber
+unfolding neg lt le isNan ofBits finiteOf allBelow within aboveZeroUpTo surfaceTaken lensTaken enabledOf variableTaken variablesTaken followersTaken kindTaken
+    weightTaken operandTaken fromZeroTo dlsTaken multiStartTaken annealingTaken zeroRow tab admitNumber
 limits-admitted = (refl, refl, refl)
 
 abbrev Counted : JobRequest → Type 0

@@ -14,7 +14,8 @@ use Rattle.lists.specs.Refusals.{Refusal, NoneOf, before, answers, answers-none
 use Rattle.merit.specs.Calls.{unlessRefused}
 use Rattle.normal.specs.Layout.{scratchLength}
 use Rattle.jobs.specs.declared.types.JobRequest.{JobRequest}
-use Rattle.jobs.specs.Checks.{countsWrong, lensRefused, variablesRefused, operandsRefused, settingsRefused, noActiveVariable, noOperand}
+use Rattle.jobs.specs.Checks.{countsWrong, lensRefused, variablesRefused, followersRefused, operandsRefused, settingsRefused, noActiveVariable}
+use Rattle.jobs.specs.Checks.{noOperand}
 use Rattle.jobs.specs.Filled.{filled}
 use Rattle.runs.specs.Damage.{damaged}
 use Rattle.runs.specs.JobRun.{Result}
@@ -62,6 +63,10 @@ module _ (b : Bench) (place : ℕ) where
     pub admit-4 : (admitNumber b place request ≡ 4) ↔ ((variablesRefused (filled request) ≡ true) × NoneOf (before 4 causes))
     unfolding admitNumber
     admit-4 = answers causes 4 tt tt
+
+    pub admit-17 : (admitNumber b place request ≡ 17) ↔ ((followersRefused (filled request) ≡ true) × NoneOf (before 17 causes))
+    unfolding admitNumber
+    admit-17 = answers causes 17 tt tt
 
     pub admit-5 : (admitNumber b place request ≡ 5) ↔ ((operandsRefused (filled request) ≡ true) × NoneOf (before 5 causes))
     unfolding admitNumber

@@ -6,6 +6,7 @@ use lib.ListN.{replicate}
 use lib.Ieee.{Float, inf, binary64, neg, ofBits}
 use Rattle.floats.specs.Constants.{zero64, one64}
 use Rattle.optics.specs.declared.types.OpticalSurface.{OpticalSurface}
+use Rattle.variables.specs.declared.types.Follower.the-variants.{None}
 use Rattle.variables.specs.declared.types.VariableDef.{VariableDef}
 use Rattle.variables.specs.declared.types.VariableType.{VariableType}
 use Rattle.variables.specs.declared.types.VariableType.the-variants.{Curvature, Thickness, Conic, SemiDiameter}
@@ -37,7 +38,7 @@ abbrev surface : OpticalSurface
 surface = record { «radius_mm» = inf true; «conic_constant» = greatest; «thickness_mm» = neg billion; «semi_diameter_mm» = billion }
 
 abbrev variable : (least : Float) → VariableType → VariableDef
-variable least kind = record { «var_type» = kind; «min_value» = least; «max_value» = billion; «step_size» = billion; enabled = true }
+variable least kind = record { «var_type» = kind; «min_value» = least; «max_value» = billion; «step_size» = billion; enabled = true; follower = None }
 
 -- of the last surface, of each kind twice
 abbrev variables : List VariableDef

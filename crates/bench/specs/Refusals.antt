@@ -6,7 +6,8 @@ use lib.Dec.{ltb}
 use Rattle.lists.specs.Refusals.{Refusal, refusal}
 use Rattle.normal.specs.Layout.{scratchLength}
 use Rattle.jobs.specs.declared.types.JobRequest.{JobRequest}
-use Rattle.jobs.specs.Checks.{countsWrong, lensRefused, variablesRefused, operandsRefused, settingsRefused, noActiveVariable, noOperand}
+use Rattle.jobs.specs.Checks.{countsWrong, lensRefused, variablesRefused, followersRefused, operandsRefused, settingsRefused, noActiveVariable}
+use Rattle.jobs.specs.Checks.{noOperand}
 use Rattle.jobs.specs.Filled.{filled}
 
 -- "2. Place above 3."
@@ -17,7 +18,7 @@ noPlace place = not (ltb place 4)
 abbrev pub scratchShort : (length : ℕ) → Bool
 scratchShort length = ltb length scratchLength
 
--- "Admit checks 1 to 8 and 10": the request with its settings filled in (each cause is said in `jobs`, `Checks`), the place, and whether that is taken
+-- "Admit checks 1 to 8 and 10", and 17: the request with its settings filled in (each cause is said in `jobs`, `Checks`), the place, and whether that is taken
 abbrev pub admitRefusals : (place : ℕ) → JobRequest → (taken : Bool) → List Refusal
 admitRefusals place request taken =
     -- "Counts outside those above"
@@ -27,6 +28,8 @@ admitRefusals place request taken =
     ∷ refusal 3 (lensRefused (filled request))
     -- "Any variable, enabled or not, with an absent surface, bounds .. step .."
     ∷ refusal 4 (variablesRefused (filled request))
+    -- "an absent follower surface, or a follower with minus .., gives 17, after 4 and before 5"
+    ∷ refusal 17 (followersRefused (filled request))
     -- "Operand with an absent slot, target or limit .. weight .."
     ∷ refusal 5 (operandsRefused (filled request))
     -- "Settings: initial damping .. relative step or cooling rate .. tolerance or temperature .. a count .."

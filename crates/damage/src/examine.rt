@@ -28,7 +28,7 @@ pub(crate) fn examine_row(t: Tally, case: Case) -> Tally {
 }
 
 fn examine_entry(t: Tally, case: Case, e: usize) -> Tally
-    requires { ⌜ e < 52 ⌝ }
+    requires { ⌜ e < 56 ⌝ }
 {
     let row = case.row;
     let n = table::places(row, e);
@@ -42,7 +42,7 @@ fn examine_entry(t: Tally, case: Case, e: usize) -> Tally
 }
 
 fn examine_place(t: Tally, case: Case, e: usize, i: usize) -> Tally
-    requires { ⌜ e < 52 ⌝ }
+    requires { ⌜ e < 56 ⌝ }
 {
     let row = case.row;
     if !table::is_in_use(row, e, i) {
@@ -52,7 +52,7 @@ fn examine_place(t: Tally, case: Case, e: usize, i: usize) -> Tally
 }
 
 fn examine_values(t: Tally, case: Case, e: usize, i: usize) -> Tally
-    requires { ⌜ e < 52 ⌝ }
+    requires { ⌜ e < 56 ⌝ }
 {
     let row = case.row;
     let mut tally = t;

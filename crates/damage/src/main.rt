@@ -5,6 +5,7 @@
 // Stands on `benchcalls`, `joblines`, `answers` and `same`; a program that only tests.
 mod deals;
 mod examine;
+mod follower;
 mod lines;
 mod number;
 mod real;

@@ -129,15 +129,22 @@ fn may_be_none(e: usize) -> bool {
     10 <= e && e <= 12
 }
 
-pub(crate) fn damage(row: Row, e: usize, v: usize) -> u64 {
-    let least = least_damage(row, e);
+// The v-th of the values from `least` up.
+pub(crate) fn from_least(least: u64, v: usize) -> u64 {
     match v {
         0 => least,
         1 => one_more(least),
         2 => u64::MAX,
         3 => 0x8000_0000_0000_0000,
-        _ => if may_be_none(e) { 0 } else { u64::MAX - 1 },
+        _ => u64::MAX - 1,
     }
+}
+
+pub(crate) fn damage(row: Row, e: usize, v: usize) -> u64 {
+    if v == 4 && may_be_none(e) {
+        return 0;
+    }
+    from_least(least_damage(row, e), v)
 }
 
 pub(crate) fn with_number(row: Row, e: usize, i: usize, x: u64) -> Row {

@@ -1,10 +1,11 @@
 // The entries of a row by their numbers: 0 to 21 hold whole numbers, 22 to 47 floats, 48 and 49 bounds of a variable. 50 are
-// changes that are no damage, 51 a kind of 0, with which a place is empty whatever else its row has.
+// changes that are no damage, 51 a kind of 0, with which a place is empty whatever else its row has, 52 to 55 are of a follower.
+use crate::follower;
 use crate::number;
 use crate::real;
 use runs::Row;
 
-pub(crate) const ENTRIES: usize = 52;
+pub(crate) const ENTRIES: usize = 56;
 
 // At how many places the row has the entry in use.
 pub(crate) fn places(row: Row, e: usize) -> usize {
@@ -13,7 +14,7 @@ pub(crate) fn places(row: Row, e: usize) -> usize {
         13 => (row.kind < 3) as usize,
         14 => (row.kind == 2) as usize,
         15 | 16 | 46 | 47 => (row.kind == 3) as usize,
-        17..=19 | 36..=38 | 48 | 49 => row.job.variable_count as usize,
+        17..=19 | 36..=38 | 48 | 49 | 52..=55 => row.job.variable_count as usize,
         20 | 21 | 39..=41 => row.job.operand_count as usize,
         22..=25 => row.job.surface_count as usize,
         26..=29 => if_used(
@@ -52,13 +53,14 @@ fn uses_best(kind: u64, phase: u64, trial: u64) -> bool {
 }
 
 // Whether the entry at that place bears on the job: the slot of an operand that has one, an index of a surface and slot that
-// there are, the limit of an operand that has it, the lower bound of a semi-diameter.
+// there are, the limit of an operand that has it, the lower bound of a semi-diameter, minus of a thickness or semi-diameter.
 pub(crate) fn is_in_use(row: Row, e: usize, i: usize) -> bool {
     match e {
         21 => has_slot(number::operand_kind(row, i)),
         34 => is_index(row.job.surface_count, row.job.slot_count, i),
         39 => number::operand_kind(row, i) > 4,
         49 => number::variable_kind(row, i) == 3,
+        54 => number::variable_kind(row, i) % 2 == 1,
         _ => true,
     }
 }
@@ -84,6 +86,7 @@ pub(crate) fn changed(row: Row, e: usize, i: usize, v: usize) -> Row {
         48 => real::crossed(row, i),
         49 => real::with_float(row, 36, i, real::damage(25, v)),
         50 => real::taken(row, v),
+        52..=55 => follower::changed(row, e, i, v),
         _ => number::with_number(row, 0, 0, 0),
     }
 }

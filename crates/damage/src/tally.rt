@@ -6,22 +6,22 @@ use text::output;
 use text::output::Waiting;
 
 pub(crate) struct Tally {
-    pub tried: [u64; 52],
-    pub right: [u64; 52],
+    pub tried: [u64; 56],
+    pub right: [u64; 56],
 }
 
 impl Tally {
     pub(crate) fn new() -> Tally {
         Tally {
-            tried: [0; 52],
-            right: [0; 52],
+            tried: [0; 56],
+            right: [0; 56],
         }
     }
 }
 
 // One more row tried.
 pub(crate) fn counted(t: Tally, entry: usize, is_right: bool) -> Tally
-    requires { ⌜ entry < 52 ⌝ }
+    requires { ⌜ entry < 56 ⌝ }
 {
     let mut tried = t.tried;
     let mut right = t.right;
@@ -77,7 +77,7 @@ fn put_entry_name(out: &mut [u8], waiting: Waiting, e: usize) -> Waiting {
         _ => put_name(
             out,
             waiting,
-            b"taken       empty                                                                                                       ",
+            b"taken       empty       follows     follower    minus       no-follower                                                 ",
             e,
         ),
     }

@@ -35,7 +35,7 @@ pub(crate) fn is_right(case: Case, changed: Row, e: usize) -> bool {
     let request = case.request;
     let answers = answers_of(bench, case.place);
     match e {
-        50 => is_taken(answers) && deals::serves(bench, case.place, answers.turn),
+        50 | 55 => is_taken(answers) && deals::serves(bench, case.place, answers.turn),
         51 => is_empty(bench, case.place, request, answers) && deals::deals_none(bench),
         _ => is_refused(bench, case.place, request, answers) && deals::refuses(bench),
     }

@@ -2,4 +2,4 @@
 use Prim.Native.Nat.{ℕ}
 
 abbrev pub abiNumber : ℕ
-abiNumber = 4
+abiNumber = 5

@@ -17,7 +17,7 @@ pub use lent::lens_trace_limits;
 pub extern "C" fn lens_abi() -> u32
     ensures { λ r. ⌜ r ≡ abiNumber ⌝ }
 {
-    4
+    5
 }
 
 #[no_mangle]

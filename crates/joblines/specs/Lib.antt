@@ -1,4 +1,5 @@
 pub mod Entries
+pub mod Followers
 pub mod Lens
 pub mod Limits
 pub mod Line

@@ -9,6 +9,7 @@ use Rattle.joblines.specs.declared.line.PrescriptionRead.{PrescriptionRe
 use Rattle.joblines.specs.declared.line.VariableSetRead.{VariableSetRead}
 use Rattle.joblines.specs.declared.line.MeritFunctionRead.{MeritFunctionRead}
 use Rattle.joblines.specs.declared.line.JobLine.{JobLine}
+use Rattle.joblines.specs.Followers.{followersFrom}
 use Rattle.joblines.specs.Lens.{surfacesFrom, pastIndices, withIndices}
 use Rattle.joblines.specs.Operands.{operandsFrom}
 use Rattle.joblines.specs.Sets.{variablesFrom}
@@ -51,12 +52,13 @@ prescriptionFrom line c =
       next = pupil .next;
     }
 
--- V n {variable}
+-- V n {variable} [F m {follower}]
 unfoldable pub variableSetFrom : List ℕ → Cursor → VariableSetRead
 variableSetFrom line c =
     let count = decimalFrom line (pastTag line c variablesMark) in
     let read = variablesFrom line (count .next) (count .value) in
-    record { variables = record { variables = read .variables; «variable_count» = count .value }; next = read .next }
+    let followed = followersFrom line (count .value) (read .next) (read .variables) in
+    record { variables = record { variables = followed .variables; «variable_count» = count .value }; next = followed .next }
 
 -- O n {operand}
 unfoldable pub meritFunctionFrom : List ℕ → Cursor → MeritFunctionRead
@@ -65,7 +67,7 @@ meritFunctionFrom line c =
     let read = operandsFrom line (count .next) (count .value) in
     record { function = record { operands = read .operands; «operand_count» = count .value }; next = read .next }
 
--- S .. I .. P .. V .. O .. C
+-- S .. I .. P .. V .. [F ..] O .. C
 unfoldable pub jobLineFrom : List ℕ → Cursor → JobLine
 jobLineFrom line c =
     let lens = prescriptionFrom line c in

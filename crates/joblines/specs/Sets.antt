@@ -5,6 +5,7 @@ use mathlib.Core.List.{List}
 use lib.Dec.{eqb}
 use lib.Ieee.{nan}
 use lib.ListN.{replicate}
+use Rattle.variables.specs.declared.types.Follower.the-variants.{None, Plus}
 use Rattle.variables.specs.declared.types.VariableDef.{VariableDef}
 use Rattle.variables.specs.declared.types.VariableType.the-variants.{Curvature}
 use Rattle.jobs.specs.Entries.{variableType}
@@ -32,6 +33,7 @@ variableFrom line c =
             «max_value» = hi .value;
             «step_size» = step .value;
             enabled = eqb (enabled .value) 1;
+            follower = None;
           };
       next = step .next;
     }
@@ -45,7 +47,14 @@ putVariable line i c = storedAt 8 i (variableFrom line c .variable)
 
 -- where no variable was read: what no call takes
 abbrev pub unreadVariable : VariableDef
-unreadVariable = record { «var_type» = Curvature 0xffff_ffff_ffff_ffff; «min_value» = nan; «max_value» = nan; «step_size» = nan; enabled = true }
+unreadVariable = record {
+  «var_type» = Curvature 0xffff_ffff_ffff_ffff;
+  «min_value» = nan;
+  «max_value» = nan;
+  «step_size» = nan;
+  enabled = true;
+  follower = Plus 0xffff_ffff_ffff_ffff;
+}
 
 -- {type surface enabled lo hi step}, so many
 unfoldable pub variablesFrom : List ℕ → Cursor → (count : ℕ) → VariablesRead

@@ -1,6 +1,7 @@
 // A job line from its surfaces up to its settings.
 ghost use mathlib.Core.Path.{_≡_};
 ghost use Rattle.joblines.specs.Line.{prescriptionFrom, variableSetFrom, meritFunctionFrom, jobLineFrom};
+use crate::followers;
 use crate::lens;
 use crate::operands;
 use crate::sets;
@@ -51,18 +52,20 @@ struct VariableSetRead {
     pub next: Cursor,
 }
 
-// V n {variable}
+// V n {variable} [F m {follower}]
 fn read_variable_set(line: &[u8], c: Cursor) -> VariableSetRead
     ensures { λ r. ⌜ r ≡ variableSetFrom (now (line .entry)) c ⌝ }
 {
     let count = cursor::decimal(line, cursor::tag(line, c, b"V"));
     let read = sets::read_variables(line, count.next, count.value as usize);
-    let entries = read.variables;
+    let plain = read.variables;
+    let followed = followers::read_followers(line, read.next, plain, count.value as usize);
+    let entries = followed.variables;
     let variables = VariableSet {
         variables: entries,
         variable_count: count.value as usize,
     };
-    let next = read.next;
+    let next = followed.next;
     VariableSetRead {
         variables: variables,
         next: next,
@@ -100,7 +103,7 @@ pub struct JobLine {
     pub next: Cursor,
 }
 
-// S .. I .. P .. V .. O .. C
+// S .. I .. P .. V .. [F ..] O .. C
 pub fn read_job(line: &[u8], c: Cursor) -> JobLine
     ensures { λ r. ⌜ r ≡ jobLineFrom (now (line .entry)) c ⌝ }
 {

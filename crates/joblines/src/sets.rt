@@ -4,6 +4,7 @@ ghost use Rattle.joblines.specs.Sets.{variableFrom, variablesFrom};
 use text::cursor;
 use text::cursor::Cursor;
 use text::cursor::Why;
+use variables::Follower;
 use variables::VariableDef;
 use variables::VariableType;
 
@@ -29,6 +30,7 @@ fn read_variable(line: &[u8], c: Cursor) -> VariableRead
         max_value: hi.value,
         step_size: step.value,
         enabled: enabled.value == 1,
+        follower: Follower::None,
     };
     let next = step.next;
     VariableRead {
@@ -52,6 +54,7 @@ pub(crate) fn read_variables(line: &[u8], c: Cursor, count: usize) -> VariablesR
         max_value: 0.0 / 0.0,
         step_size: 0.0 / 0.0,
         enabled: true,
+        follower: Follower::Plus(usize::MAX),
     };
     let mut variables = [none; 8];
     let mut next = c;

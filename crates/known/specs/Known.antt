@@ -19,6 +19,8 @@ use Rattle.optics.specs.Types.{withRadius, surfaceAt}
 use Rattle.optics.specs.declared.types.OpticalPrescription.{OpticalPrescription}
 use Rattle.optics.specs.declared.types.OpticalSurface.{OpticalSurface}
 use Rattle.optics.specs.declared.types.ParaxialRay.{ParaxialRay}
+use Rattle.variables.specs.declared.types.Follower.{Follower}
+use Rattle.variables.specs.declared.types.Follower.the-variants.{Plus, Minus}
 use Rattle.variables.specs.Active.{enabledOf}
 use Rattle.variables.specs.Kinds.{radiusOf}
 use Rattle.variables.specs.Values.{appliedTo, applied}
@@ -49,7 +51,7 @@ use Rattle.bench.specs.Accepted.{Admitted, drawings-admitted}
 use Rattle.known.specs.Samples.{Settings, limitZero, n10, n12, n13, n56, sevenEighths, tenthOfLeast, least, pastFive, pastOne, firstAlone, kinds}
 use Rattle.known.specs.Samples.{threeAndHalf, sixteenth, thirtySecond, n19880, n395214400}
 use Rattle.known.specs.Samples.{n24, threeAndQuarter, fourLessQuarter, shopLimits}
-use Rattle.known.specs.Samples.{atLeastThree, halfBall, edgeAtLeast, curvature}
+use Rattle.known.specs.Samples.{atLeastThree, halfBall, edgeAtLeast, eighth, curvatureWithin, curvature}
 
 -- `evaluate` takes the lens and the operands, and its answer has a property
 abbrev pub Evaluates : OpticalPrescription → MeritFunction → (MeritEvaluation → Type 0) → Type 0
@@ -69,6 +71,11 @@ Flat s rest new = new ≡ withRadius s (inf false) ∷ rest
 
 abbrev pub Bent : OpticalSurface → (rest new : Surfaces) → Type 0
 Bent s rest new = finiteOf (surfaceAt new 0 .«radius_mm») ≡ true
+
+-- The first surface's curvature, within bounds, set to x: its radius, and that of the second, which follows. Nothing else changes.
+abbrev pub Followed : (lo hi : Float) → Follower → (x named follower : Float) → Type 0
+Followed lo hi f x named follower = (u : Unused) (s t : OpticalSurface) (rest : Surfaces) (more : List Float)
+    → applied (curvatureWithin u lo hi f) (x ∷ more) (s ∷ t ∷ rest) ≡ withRadius s named ∷ withRadius t follower ∷ rest
 
 -- Each value holds whatever stands past the counts (u).
 pub record Known : Type 0 where
@@ -109,6 +116,11 @@ pub record Known : Type 0 where
       (t .track ≡ ends n8 n24)
       × (t .heights ≡ exactly n4 ∷ ends threeAndQuarter fourLessQuarter ∷ replicate 14 zeroInterval)
       × (t .slopes ≡ exactly (neg thirtySecond) ∷ exactly (neg sixteenth) ∷ replicate 14 zeroInterval))
+  -- Request 9: curvature 0.125, as it comes and from beyond the bound: radii 8 and -8 with minus, 8 and 8 with plus. -1e-13 with minus: both plus infinity.
+  pub minus : Followed zero64 eighth (Minus 1) eighth n8 (neg n8)
+  pub minus-clamped : Followed zero64 eighth (Minus 1) n1 n8 (neg n8)
+  pub plus : Followed zero64 eighth (Plus 1) eighth n8 n8
+  pub minus-flat : Followed (neg tenthOfLeast) least (Minus 1) (neg tenthOfLeast) (inf false) (inf false)
   -- a damped run moves: 2 thick where 3 is wanted, damping 1, one iteration: 2.5 thick, merit 1/4
   pub moves : (u : Unused) → (thickened u .«final_merit» ≡ quarter) × (surfaceAt (thickened u .surfaces) 0 .«thickness_mm» ≡ twoAndHalf)
   -- "Iteration limit 0: one turn, not converged." Whatever the job and the other settings are.
@@ -145,6 +157,10 @@ known = record {
   sag-fails = λ u. (refl, refl);
   no-successor = λ u. (refl, refl);
   within-limits = λ u rest. (refl, λ old. (refl, refl, refl));
+  minus = λ u s t rest more. refl;
+  minus-clamped = λ u s t rest more. refl;
+  plus = λ u s t rest more. refl;
+  minus-flat = λ u s t rest more. refl;
   moves = half-way;
   a-turn = λ s job. refl;
   one-turn = λ f s job. refl;

@@ -6,6 +6,8 @@ use lib.Ieee.{Float, inf, binary64, neg, ofBits}
 use Rattle.floats.specs.Constants.{zero64}
 use Rattle.optics.specs.declared.types.OpticalPrescription.{OpticalPrescription}
 use Rattle.optics.specs.declared.types.OpticalSurface.{OpticalSurface}
+use Rattle.variables.specs.declared.types.Follower.{Follower}
+use Rattle.variables.specs.declared.types.Follower.the-variants.{None}
 use Rattle.variables.specs.declared.types.VariableSet.{VariableSet}
 use Rattle.variables.specs.declared.types.VariableType.the-variants.{Curvature}
 use Rattle.merit.specs.declared.types.MeritFunction.{MeritFunction}
@@ -58,6 +60,9 @@ n395214400 = ofBits binary64 0x41b7_8e7e_4000_0000
 
 abbrev pub sevenEighths : Float
 sevenEighths = ofBits binary64 0x3fec_0000_0000_0000
+
+abbrev pub eighth : Float
+eighth = ofBits binary64 0x3fc0_0000_0000_0000
 
 -- 1e-13 and 1e-12
 abbrev pub tenthOfLeast : Float
@@ -118,12 +123,16 @@ module _ (u : Unused) where
   abbrev pub edgeAtLeast : (i : ℕ) (limit : Float) → MeritFunction
   edgeAtLeast i limit = record { operands = operand (MinEdgeThickness i limit) zero64 zero64 ∷ u .operands; «operand_count» = 1 }
 
-  -- the first curvature, from -1e-13 to 1e-12
-  abbrev pub curvature : VariableSet
-  curvature = record {
-    variables = record { «var_type» = Curvature 0; «min_value» = neg tenthOfLeast; «max_value» = least; «step_size» = n1; enabled = true } ∷ u .variables;
+  -- the first curvature, from a bound to another, and its follower
+  abbrev pub curvatureWithin : (lo hi : Float) → Follower → VariableSet
+  curvatureWithin lo hi f = record {
+    variables = record { «var_type» = Curvature 0; «min_value» = lo; «max_value» = hi; «step_size» = n1; enabled = true; follower = f } ∷ u .variables;
     «variable_count» = 1;
   }
+
+  -- from -1e-13 to 1e-12, without one
+  abbrev pub curvature : VariableSet
+  curvature = curvatureWithin (neg tenthOfLeast) least None
 
 -- request 13: the first thickness from 8 to 24, the second 0; then whatever stands past the surfaces
 abbrev pub shopLimits : (rest : List Interval) → ThicknessLimits

@@ -1,6 +1,7 @@
 -- `joblines::sets::read_variable` meets its contract. Assumes nothing.
 use mathlib.Core.Path.{ap, _∙_}
 use lib.Dec.{eqb}
+use Rattle.variables.specs.declared.types.Follower.the-variants.{None}
 use Rattle.text.specs.declared.cursor.FloatRead.{FloatRead}
 use Rattle.text.specs.declared.cursor.NumberRead.{NumberRead}
 use Rattle.text.specs.declared.cursor.Why.the-variants.{Range}
@@ -45,7 +46,14 @@ returns c =
     let type = c .before .before .variable-type .ensures ∙ (λ i. variableType (kind i .value) (surface i .value)) in
     λ i. record {
       variable =
-          record { «var_type» = type i; «min_value» = lo i .value; «max_value» = hi i .value; «step_size» = step i .value; enabled = eqb (enabled i .value) 1 };
+          record {
+            «var_type» = type i;
+            «min_value» = lo i .value;
+            «max_value» = hi i .value;
+            «step_size» = step i .value;
+            enabled = eqb (enabled i .value) 1;
+            follower = None;
+          };
       next = step i .next;
     }
 
