@@ -42,7 +42,7 @@ vals = LL.vals S.the-type S′.the-laws
 abbrev members : List Member
 members =
     record { row = (Array u64 13); ty = tyArray (tyInt w64) 13 } ∷ record { row = (Array f64 7); ty = tyArray (tyFloat binary64) 7 }
-    ∷ record { row = (Array u64 57); ty = tyArray (tyInt w64) 57 } ∷ record { row = (Array f64 195); ty = tyArray (tyFloat binary64) 195 }
+    ∷ record { row = (Array u64 73); ty = tyArray (tyInt w64) 73 } ∷ record { row = (Array f64 195); ty = tyArray (tyFloat binary64) 195 }
     ∷ record { row = (Array f64 64); ty = tyArray (tyFloat binary64) 64 } ∷ record { row = (Array f64 96); ty = tyArray (tyFloat binary64) 96 }
     ∷ record { row = (Array f64 12); ty = tyArray (tyFloat binary64) 12 } ∷ record { row = (Array f64 12); ty = tyArray (tyFloat binary64) 12 }
     ∷ record { row = (Array f64 12); ty = tyArray (tyFloat binary64) 12 } ∷ record { row = (Array f64 8); ty = tyArray (tyFloat binary64) 8 }
@@ -144,17 +144,17 @@ module _ {M : Type 1} (𝓤 : URA M) (H : Heap 𝓤) (A : Atoms 𝓤) (W : Given
   Parts x =
       fsep (partAt (Array u64 13) s (x .words) b (o + 0))
       (fsep (partAt (Array f64 7) s (x .scalars) b (o + 104))
-      (fsep (partAt (Array u64 57) s (x .counts) b (o + 160))
-      (fsep (partAt (Array f64 195) s (x .numbers) b (o + 616))
-      (fsep (partAt (Array f64 64) s (x .surfaces) b (o + 2176))
-      (fsep (partAt (Array f64 96) s (x .jacobian) b (o + 2688))
-      (fsep (partAt (Array f64 12) s (x .values) b (o + 3456))
-      (fsep (partAt (Array f64 12) s (x .residuals) b (o + 3552))
-      (fsep (partAt (Array f64 12) s (x .«plus_residuals») b (o + 3648))
-      (fsep (partAt (Array f64 8) s (x .params) b (o + 3744))
-      (fsep (partAt (Array f64 8) s (x .candidate) b (o + 3808))
-      (fsep (partAt (Array f64 64) s (x .«best_surfaces») b (o + 3872))
-      (fsep (partAt (Array f64 12) s (x .«best_values») b (o + 4384)) (fsep (partAt (Array f64 12) s (x .«best_residuals») b (o + 4480)) (ftrue))))))))))))))
+      (fsep (partAt (Array u64 73) s (x .counts) b (o + 160))
+      (fsep (partAt (Array f64 195) s (x .numbers) b (o + 744))
+      (fsep (partAt (Array f64 64) s (x .surfaces) b (o + 2304))
+      (fsep (partAt (Array f64 96) s (x .jacobian) b (o + 2816))
+      (fsep (partAt (Array f64 12) s (x .values) b (o + 3584))
+      (fsep (partAt (Array f64 12) s (x .residuals) b (o + 3680))
+      (fsep (partAt (Array f64 12) s (x .«plus_residuals») b (o + 3776))
+      (fsep (partAt (Array f64 8) s (x .params) b (o + 3872))
+      (fsep (partAt (Array f64 8) s (x .candidate) b (o + 3936))
+      (fsep (partAt (Array f64 64) s (x .«best_surfaces») b (o + 4000))
+      (fsep (partAt (Array f64 12) s (x .«best_values») b (o + 4512)) (fsep (partAt (Array f64 12) s (x .«best_residuals») b (o + 4608)) (ftrue))))))))))))))
 
   abbrev lawful : Lawfuls 𝓤 H A (rowsOf members)
   lawful = LL.lawfuls 𝓤 H A W (S.the-type .parts) S′.the-laws

@@ -1,8 +1,8 @@
 -- The followers of a job line's variables: a section that is read where its letter stands. Definitions only.
-use Prim.Native.Nat.{ℕ}
+use Prim.Native.Nat.{ℕ, _-_}
 use mathlib.Core.Bool.{cond}
 use mathlib.Core.List.{List, [], _∷_}
-use lib.Dec.{ltb}
+use lib.Dec.{eqb}
 use lib.ListN.{getD}
 use Rattle.variables.specs.declared.types.Follower.{Follower}
 use Rattle.variables.specs.declared.types.VariableDef.{VariableDef}
@@ -11,16 +11,14 @@ use Rattle.jobs.specs.Entries.{followerOf}
 use Rattle.text.specs.declared.cursor.Cursor.{Cursor}
 use Rattle.text.specs.declared.cursor.NumberRead.{NumberRead}
 use Rattle.text.specs.declared.cursor.Why.the-variants.{Range}
-use Rattle.text.specs.Cursor.{decimalFrom, withinFrom, outOfForm, pastTag}
+use Rattle.text.specs.Cursor.{decimalFrom, withinFrom, pastTag}
 use Rattle.joblines.specs.declared.followers.FollowerRead.{FollowerRead}
 use Rattle.joblines.specs.declared.sets.VariablesRead.{VariablesRead}
 use Rattle.joblines.specs.Entries.{past, filled, storedAt}
 
--- the number of a variable, of which the line has so many
+-- the number of a variable, of which the line has so many; where it has none, none may stand there: no number is from 1 to 0
 unfoldable pub placeFrom : List ℕ → (count : ℕ) → Cursor → NumberRead
-placeFrom line count c =
-    let r = decimalFrom line c in
-    cond (r .next .«is_good») (cond (ltb (r .value) count) r (record { value = r .value; next = outOfForm Range c })) r
+placeFrom line count c = cond (eqb count 0) (withinFrom 1 0 Range line c) (withinFrom 0 (count - 1) Range line c)
 
 -- a follower: variable sign surface; the sign is 1 for plus, 2 for minus
 unfoldable pub followerFrom : List ℕ → (count : ℕ) → Cursor → FollowerRead
@@ -31,8 +29,8 @@ followerFrom line count c =
     record { place = place .value; follower = followerOf (sign .value) (surface .value); next = surface .next }
 
 -- the variable that it is of, among the eight that there is room for
-abbrev pub following : Follower → VariableDef → VariableDef
-following f d = record {
+abbrev pub followingBy : Follower → VariableDef → VariableDef
+followingBy f d = record {
   «var_type» = d .«var_type»;
   «min_value» = d .«min_value»;
   «max_value» = d .«max_value»;
@@ -42,7 +40,7 @@ following f d = record {
 }
 
 abbrev pub withFollower : (place : ℕ) → Follower → List VariableDef → List VariableDef
-withFollower place f l = storedAt 8 place (following f (getD l place noVariable)) l
+withFollower place f l = storedAt 8 place (followingBy f (getD l place noVariable)) l
 
 abbrev pub pastFollower : List ℕ → (count : ℕ) → Cursor → Cursor
 pastFollower line count c = followerFrom line count c .next

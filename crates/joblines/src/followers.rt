@@ -1,6 +1,6 @@
 // The followers of a line's variables, where it has any.
 ghost use mathlib.Core.Path.{_≡_};
-ghost use Rattle.joblines.specs.Followers.{placeFrom, followerFrom, withFollower, followersListed, followersFrom};
+ghost use Rattle.joblines.specs.Followers.{placeFrom, followerFrom, followingBy, followersListed, followersFrom};
 use crate::sets::VariablesRead;
 use text::cursor;
 use text::cursor::Cursor;
@@ -9,21 +9,14 @@ use text::cursor::Why;
 use variables::Follower;
 use variables::VariableDef;
 
-// The number of a variable, of which the line has so many.
+// The number of a variable, of which the line has so many. No number is from 1 to 0.
 fn read_place(line: &[u8], c: Cursor, count: usize) -> NumberRead
     ensures { λ r. ⌜ r ≡ placeFrom (now (line .entry)) count c ⌝ }
 {
-    let r = cursor::decimal(line, c);
-    if !r.next.is_good {
-        return r;
+    if count == 0 {
+        return cursor::within(line, c, 1, 0, Why::Range);
     }
-    if r.value < count as u64 {
-        return r;
-    }
-    NumberRead {
-        value: r.value,
-        next: cursor::out_of_form(c, Why::Range),
-    }
+    cursor::within(line, c, 0, count as u64 - 1, Why::Range)
 }
 
 struct FollowerRead {
@@ -48,28 +41,22 @@ fn read_follower(line: &[u8], c: Cursor, count: usize) -> FollowerRead
     }
 }
 
-// Of the first eight variables, one with its follower.
-fn with_follower(variables: [VariableDef; 8], place: usize, follower: Follower) -> [VariableDef; 8]
-    ensures { λ r. ⌜ r ≡ withFollower place follower variables ⌝ }
+// The variable with its follower.
+fn following(d: VariableDef, follower: Follower) -> VariableDef
+    ensures { λ r. ⌜ r ≡ followingBy follower d ⌝ }
 {
-    let mut all = variables;
-    if place < 8 {
-        let d = all[place];
-        let kind = d.var_type;
-        let v = VariableDef {
-            var_type: kind,
-            min_value: d.min_value,
-            max_value: d.max_value,
-            step_size: d.step_size,
-            enabled: d.enabled,
-            follower: follower,
-        };
-        all[place] = v;
+    let kind = d.var_type;
+    VariableDef {
+        var_type: kind,
+        min_value: d.min_value,
+        max_value: d.max_value,
+        step_size: d.step_size,
+        enabled: d.enabled,
+        follower: follower,
     }
-    all
 }
 
-// So many followers.
+// So many followers, of the eight variables that are kept.
 fn read_listed(
     line: &[u8],
     c: Cursor,
@@ -84,8 +71,12 @@ fn read_listed(
     let mut i = 0;
     while i < many && next.is_good {
         let r = read_follower(line, next, count);
-        let follower = r.follower;
-        variables = with_follower(variables, r.place, follower);
+        let place = r.place;
+        if place < 8 {
+            let follower = r.follower;
+            let v = following(variables[place], follower);
+            variables[place] = v;
+        }
         next = r.next;
         i += 1;
     }

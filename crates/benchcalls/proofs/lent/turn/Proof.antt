@@ -166,73 +166,73 @@ module _ {M : Type 1} (𝓤 : URA M) (H : Heap 𝓤) (A : Atoms 𝓤) (W : Given
   at2 δ = record { ptr = (b, p + 160); name = δ; now = h .counts }
 
   abbrev Own2 : ℕ → GName → Fml
-  Own2 α δ = ShrRef (named 2) (α ∷ []) (Array u64 57) .own (at2 δ) (vptr b (p + 160) ∷ [])
+  Own2 α δ = ShrRef (named 2) (α ∷ []) (Array u64 73) .own (at2 δ) (vptr b (p + 160) ∷ [])
 
   abbrev at3 : GName → RefT (List Float)
-  at3 δ = record { ptr = (b, p + 616); name = δ; now = h .numbers }
+  at3 δ = record { ptr = (b, p + 744); name = δ; now = h .numbers }
 
   abbrev Own3 : ℕ → GName → Fml
-  Own3 α δ = ShrRef (named 3) (α ∷ []) (Array f64 195) .own (at3 δ) (vptr b (p + 616) ∷ [])
+  Own3 α δ = ShrRef (named 3) (α ∷ []) (Array f64 195) .own (at3 δ) (vptr b (p + 744) ∷ [])
 
   abbrev at4 : GName → RefT (List Float)
-  at4 δ = record { ptr = (b, p + 2176); name = δ; now = h .surfaces }
+  at4 δ = record { ptr = (b, p + 2304); name = δ; now = h .surfaces }
 
   abbrev Own4 : ℕ → GName → Fml
-  Own4 α δ = MutRef (named 4) (α ∷ []) (Array f64 64) .own (at4 δ) (vptr b (p + 2176) ∷ [])
+  Own4 α δ = MutRef (named 4) (α ∷ []) (Array f64 64) .own (at4 δ) (vptr b (p + 2304) ∷ [])
 
   abbrev at5 : GName → RefT (List Float)
-  at5 δ = record { ptr = (b, p + 2688); name = δ; now = h .jacobian }
+  at5 δ = record { ptr = (b, p + 2816); name = δ; now = h .jacobian }
 
   abbrev Own5 : ℕ → GName → Fml
-  Own5 α δ = MutRef (named 5) (α ∷ []) (Array f64 96) .own (at5 δ) (vptr b (p + 2688) ∷ [])
+  Own5 α δ = MutRef (named 5) (α ∷ []) (Array f64 96) .own (at5 δ) (vptr b (p + 2816) ∷ [])
 
   abbrev at6 : GName → RefT (List Float)
-  at6 δ = record { ptr = (b, p + 3456); name = δ; now = h .values }
+  at6 δ = record { ptr = (b, p + 3584); name = δ; now = h .values }
 
   abbrev Own6 : ℕ → GName → Fml
-  Own6 α δ = MutRef (named 6) (α ∷ []) (Array f64 12) .own (at6 δ) (vptr b (p + 3456) ∷ [])
+  Own6 α δ = MutRef (named 6) (α ∷ []) (Array f64 12) .own (at6 δ) (vptr b (p + 3584) ∷ [])
 
   abbrev at7 : GName → RefT (List Float)
-  at7 δ = record { ptr = (b, p + 3552); name = δ; now = h .residuals }
+  at7 δ = record { ptr = (b, p + 3680); name = δ; now = h .residuals }
 
   abbrev Own7 : ℕ → GName → Fml
-  Own7 α δ = MutRef (named 7) (α ∷ []) (Array f64 12) .own (at7 δ) (vptr b (p + 3552) ∷ [])
+  Own7 α δ = MutRef (named 7) (α ∷ []) (Array f64 12) .own (at7 δ) (vptr b (p + 3680) ∷ [])
 
   abbrev at8 : GName → RefT (List Float)
-  at8 δ = record { ptr = (b, p + 3648); name = δ; now = h .«plus_residuals» }
+  at8 δ = record { ptr = (b, p + 3776); name = δ; now = h .«plus_residuals» }
 
   abbrev Own8 : ℕ → GName → Fml
-  Own8 α δ = MutRef (named 8) (α ∷ []) (Array f64 12) .own (at8 δ) (vptr b (p + 3648) ∷ [])
+  Own8 α δ = MutRef (named 8) (α ∷ []) (Array f64 12) .own (at8 δ) (vptr b (p + 3776) ∷ [])
 
   abbrev at9 : GName → RefT (List Float)
-  at9 δ = record { ptr = (b, p + 3744); name = δ; now = h .params }
+  at9 δ = record { ptr = (b, p + 3872); name = δ; now = h .params }
 
   abbrev Own9 : ℕ → GName → Fml
-  Own9 α δ = MutRef (named 9) (α ∷ []) (Array f64 8) .own (at9 δ) (vptr b (p + 3744) ∷ [])
+  Own9 α δ = MutRef (named 9) (α ∷ []) (Array f64 8) .own (at9 δ) (vptr b (p + 3872) ∷ [])
 
   abbrev at10 : GName → RefT (List Float)
-  at10 δ = record { ptr = (b, p + 3808); name = δ; now = h .candidate }
+  at10 δ = record { ptr = (b, p + 3936); name = δ; now = h .candidate }
 
   abbrev Own10 : ℕ → GName → Fml
-  Own10 α δ = MutRef (named 10) (α ∷ []) (Array f64 8) .own (at10 δ) (vptr b (p + 3808) ∷ [])
+  Own10 α δ = MutRef (named 10) (α ∷ []) (Array f64 8) .own (at10 δ) (vptr b (p + 3936) ∷ [])
 
   abbrev at11 : GName → RefT (List Float)
-  at11 δ = record { ptr = (b, p + 3872); name = δ; now = h .«best_surfaces» }
+  at11 δ = record { ptr = (b, p + 4000); name = δ; now = h .«best_surfaces» }
 
   abbrev Own11 : ℕ → GName → Fml
-  Own11 α δ = MutRef (named 11) (α ∷ []) (Array f64 64) .own (at11 δ) (vptr b (p + 3872) ∷ [])
+  Own11 α δ = MutRef (named 11) (α ∷ []) (Array f64 64) .own (at11 δ) (vptr b (p + 4000) ∷ [])
 
   abbrev at12 : GName → RefT (List Float)
-  at12 δ = record { ptr = (b, p + 4384); name = δ; now = h .«best_values» }
+  at12 δ = record { ptr = (b, p + 4512); name = δ; now = h .«best_values» }
 
   abbrev Own12 : ℕ → GName → Fml
-  Own12 α δ = MutRef (named 12) (α ∷ []) (Array f64 12) .own (at12 δ) (vptr b (p + 4384) ∷ [])
+  Own12 α δ = MutRef (named 12) (α ∷ []) (Array f64 12) .own (at12 δ) (vptr b (p + 4512) ∷ [])
 
   abbrev at13 : GName → RefT (List Float)
-  at13 δ = record { ptr = (b, p + 4480); name = δ; now = h .«best_residuals» }
+  at13 δ = record { ptr = (b, p + 4608); name = δ; now = h .«best_residuals» }
 
   abbrev Own13 : ℕ → GName → Fml
-  Own13 α δ = MutRef (named 13) (α ∷ []) (Array f64 12) .own (at13 δ) (vptr b (p + 4480) ∷ [])
+  Own13 α δ = MutRef (named 13) (α ∷ []) (Array f64 12) .own (at13 δ) (vptr b (p + 4608) ∷ [])
 
   abbrev args : GName → GName → GName → GName → GName → GName → GName → GName → GName → GName → GName → GName → GName → GName
       → (RefT (List ℕ) × (RefT (List Float) × (RefT (List ℕ) × (RefT (List Float) × (RefT (List Float) × (RefT (List Float) × (RefT (List Float)
@@ -253,13 +253,13 @@ module _ {M : Type 1} (𝓤 : URA M) (H : Heap 𝓤) (A : Atoms 𝓤) (W : Given
       let lives : Eight Lft = (α7 ∷ [], (α8 ∷ [], (α9 ∷ [], (α10 ∷ [], (α11 ∷ [], (α12 ∷ [], (α13 ∷ [], (κ₂, tt)))))))) in
       let shares : Eight Share = (fullShare, (fullShare, (fullShare, (fullShare, (fullShare, (fullShare, (fullShare, (q₂, tt)))))))) in
       let places : Eight (List Val) =
-      (stands 3552, (stands 3648, (stands 3744, (stands 3808, (stands 3872, (stands 4384, (stands 4480, (slice-vals sl, tt)))))))) in (
+      (stands 3680, (stands 3776, (stands 3872, (stands 3936, (stands 4000, (stands 4512, (stands 4608, (slice-vals sl, tt)))))))) in (
         (
           (α0 ∷ [], (α1 ∷ [], (α2 ∷ [], (α3 ∷ [], (α4 ∷ [], (α5 ∷ [], (α6 ∷ [], lives))))))),
           (fullShare, (fullShare, (fullShare, (fullShare, (fullShare, (fullShare, (fullShare, shares))))))),
           tt,
           args δ0 δ1 δ2 δ3 δ4 δ5 δ6 δ7 δ8 δ9 δ10 δ11 δ12 δ13,
-          (stands 0, (stands 104, (stands 160, (stands 616, (stands 2176, (stands 2688, (stands 3456, places))))))),
+          (stands 0, (stands 104, (stands 160, (stands 744, (stands 2304, (stands 2816, (stands 3584, places))))))),
         ),
         tt,
       )
@@ -298,7 +298,7 @@ module _ {M : Type 1} (𝓤 : URA M) (H : Heap 𝓤) (A : Atoms 𝓤) (W : Given
       ((tyInt w32), l0) ∷ ((tyRef (named 0) mut (pointee (Bn .written))), l1) ∷ ((tyInt w64), l2) ∷ ((sliceTy (tyRef (named 1) mut (tyFloat binary64))), l3)
       ∷ ((tyRef erased mut (pointee (R .written))), l4) ∷ ((tyBool), l5) ∷ ((tyInt w64), l6) ∷ ((tyPtr), l7) ∷ ((tyPtr), l8)
       ∷ ((tyRef erased mut (tyArray (tyInt w64) 13)), l9) ∷ ((tyRef erased mut (tyArray (tyFloat binary64) 7)), l10)
-      ∷ ((tyRef erased imm (tyArray (tyInt w64) 57)), l11) ∷ ((tyRef erased imm (tyArray (tyFloat binary64) 195)), l12)
+      ∷ ((tyRef erased imm (tyArray (tyInt w64) 73)), l11) ∷ ((tyRef erased imm (tyArray (tyFloat binary64) 195)), l12)
       ∷ ((tyRef erased mut (tyArray (tyFloat binary64) 64)), l13) ∷ ((tyRef erased mut (tyArray (tyFloat binary64) 96)), l14)
       ∷ ((tyRef erased mut (tyArray (tyFloat binary64) 12)), l15) ∷ ((tyRef erased mut (tyArray (tyFloat binary64) 12)), l16)
       ∷ ((tyRef erased mut (tyArray (tyFloat binary64) 12)), l17) ∷ ((tyRef erased mut (tyArray (tyFloat binary64) 8)), l18)
@@ -322,7 +322,7 @@ module _ {M : Type 1} (𝓤 : URA M) (H : Heap 𝓤) (A : Atoms 𝓤) (W : Given
         ∷ ‵ (froom (tyRef erased mut (tyArray (tyFloat binary64) 96)) l14 0) ∷ ‵ (fdies (tyRef erased mut (tyArray (tyFloat binary64) 96)) l14)
         ∷ ‵ (froom (tyRef erased mut (tyArray (tyFloat binary64) 64)) l13 0) ∷ ‵ (fdies (tyRef erased mut (tyArray (tyFloat binary64) 64)) l13)
         ∷ ‵ (froom (tyRef erased imm (tyArray (tyFloat binary64) 195)) l12 0) ∷ ‵ (fdies (tyRef erased imm (tyArray (tyFloat binary64) 195)) l12)
-        ∷ ‵ (froom (tyRef erased imm (tyArray (tyInt w64) 57)) l11 0) ∷ ‵ (fdies (tyRef erased imm (tyArray (tyInt w64) 57)) l11)
+        ∷ ‵ (froom (tyRef erased imm (tyArray (tyInt w64) 73)) l11 0) ∷ ‵ (fdies (tyRef erased imm (tyArray (tyInt w64) 73)) l11)
         ∷ ‵ (froom (tyRef erased mut (tyArray (tyFloat binary64) 7)) l10 0) ∷ ‵ (fdies (tyRef erased mut (tyArray (tyFloat binary64) 7)) l10)
         ∷ ‵ (froom (tyRef erased mut (tyArray (tyInt w64) 13)) l9 0) ∷ ‵ (fdies (tyRef erased mut (tyArray (tyInt w64) 13)) l9) ∷ ‵ (froom (tyPtr) l8 0)
         ∷ ‵ (fdies (tyPtr) l8) ∷ ‵ (froom (tyPtr) l7 0) ∷ ‵ (fdies (tyPtr) l7) ∷ ‵ (froom (tyInt w64) l6 0) ∷ ‵ (fdies (tyInt w64) l6) ∷ ‵ (froom (tyBool) l5 0)
@@ -388,41 +388,41 @@ module _ {M : Type 1} (𝓤 : URA M) (H : Heap 𝓤) (A : Atoms 𝓤) (W : Given
         ⊛ ‵ (flent (α1 ∷ []) (Body (mem (Array f64 7)) b (p + 104) δ))))) (lends-ref 𝓤 H A W (Array f64 7) (named 1) (α1 ∷ []) (h .scalars) b (p + 104)) $
         await ! tt $ pick ! (λ δ1. split ! $
         lft-new ! tt (λ α2. move ! (19 ∷ []) $ use1 W (later (some (λ (δ : GName). ‵ (Own2 α2 δ)
-        ⊛ ‵ (flent (α2 ∷ []) (partAt (Array u64 57) fullShare (h .counts) b (p + 160))))))
-        (lends-shr 𝓤 H A W (Array u64 57) (named 2) (α2 ∷ []) fullShare (h .counts) b (p + 160)) $ await ! tt $ pick ! (λ δ2. split ! $
+        ⊛ ‵ (flent (α2 ∷ []) (partAt (Array u64 73) fullShare (h .counts) b (p + 160))))))
+        (lends-shr 𝓤 H A W (Array u64 73) (named 2) (α2 ∷ []) fullShare (h .counts) b (p + 160)) $ await ! tt $ pick ! (λ δ2. split ! $
         lft-new ! tt (λ α3. move ! (21 ∷ []) $ use1 W (later (some (λ (δ : GName). ‵ (Own3 α3 δ)
-        ⊛ ‵ (flent (α3 ∷ []) (partAt (Array f64 195) fullShare (h .numbers) b (p + 616))))))
-        (lends-shr 𝓤 H A W (Array f64 195) (named 3) (α3 ∷ []) fullShare (h .numbers) b (p + 616)) $ await ! tt $ pick ! (λ δ3. split ! $
+        ⊛ ‵ (flent (α3 ∷ []) (partAt (Array f64 195) fullShare (h .numbers) b (p + 744))))))
+        (lends-shr 𝓤 H A W (Array f64 195) (named 3) (α3 ∷ []) fullShare (h .numbers) b (p + 744)) $ await ! tt $ pick ! (λ δ3. split ! $
         lft-new ! tt (λ α4. move ! (23 ∷ []) $ use1 W (later (some (λ (δ : GName). ‵ (Own4 α4 δ)
-        ⊛ ‵ (flent (α4 ∷ []) (Body (mem (Array f64 64)) b (p + 2176) δ)))))
-        (lends-ref 𝓤 H A W (Array f64 64) (named 4) (α4 ∷ []) (h .surfaces) b (p + 2176)) $ await ! tt $ pick ! (λ δ4. split ! $
+        ⊛ ‵ (flent (α4 ∷ []) (Body (mem (Array f64 64)) b (p + 2304) δ)))))
+        (lends-ref 𝓤 H A W (Array f64 64) (named 4) (α4 ∷ []) (h .surfaces) b (p + 2304)) $ await ! tt $ pick ! (λ δ4. split ! $
         lft-new ! tt (λ α5. move ! (25 ∷ []) $ use1 W (later (some (λ (δ : GName). ‵ (Own5 α5 δ)
-        ⊛ ‵ (flent (α5 ∷ []) (Body (mem (Array f64 96)) b (p + 2688) δ)))))
-        (lends-ref 𝓤 H A W (Array f64 96) (named 5) (α5 ∷ []) (h .jacobian) b (p + 2688)) $ await ! tt $ pick ! (λ δ5. split ! $
+        ⊛ ‵ (flent (α5 ∷ []) (Body (mem (Array f64 96)) b (p + 2816) δ)))))
+        (lends-ref 𝓤 H A W (Array f64 96) (named 5) (α5 ∷ []) (h .jacobian) b (p + 2816)) $ await ! tt $ pick ! (λ δ5. split ! $
         lft-new ! tt (λ α6. move ! (27 ∷ []) $ use1 W (later (some (λ (δ : GName). ‵ (Own6 α6 δ)
-        ⊛ ‵ (flent (α6 ∷ []) (Body (mem (Array f64 12)) b (p + 3456) δ)))))
-        (lends-ref 𝓤 H A W (Array f64 12) (named 6) (α6 ∷ []) (h .values) b (p + 3456)) $ await ! tt $ pick ! (λ δ6. split ! $
+        ⊛ ‵ (flent (α6 ∷ []) (Body (mem (Array f64 12)) b (p + 3584) δ)))))
+        (lends-ref 𝓤 H A W (Array f64 12) (named 6) (α6 ∷ []) (h .values) b (p + 3584)) $ await ! tt $ pick ! (λ δ6. split ! $
         lft-new ! tt (λ α7. move ! (29 ∷ []) $ use1 W (later (some (λ (δ : GName). ‵ (Own7 α7 δ)
-        ⊛ ‵ (flent (α7 ∷ []) (Body (mem (Array f64 12)) b (p + 3552) δ)))))
-        (lends-ref 𝓤 H A W (Array f64 12) (named 7) (α7 ∷ []) (h .residuals) b (p + 3552)) $ await ! tt $ pick ! (λ δ7. split ! $
+        ⊛ ‵ (flent (α7 ∷ []) (Body (mem (Array f64 12)) b (p + 3680) δ)))))
+        (lends-ref 𝓤 H A W (Array f64 12) (named 7) (α7 ∷ []) (h .residuals) b (p + 3680)) $ await ! tt $ pick ! (λ δ7. split ! $
         lft-new ! tt (λ α8. move ! (31 ∷ []) $ use1 W (later (some (λ (δ : GName). ‵ (Own8 α8 δ)
-        ⊛ ‵ (flent (α8 ∷ []) (Body (mem (Array f64 12)) b (p + 3648) δ)))))
-        (lends-ref 𝓤 H A W (Array f64 12) (named 8) (α8 ∷ []) (h .«plus_residuals») b (p + 3648)) $ await ! tt $ pick ! (λ δ8. split ! $
+        ⊛ ‵ (flent (α8 ∷ []) (Body (mem (Array f64 12)) b (p + 3776) δ)))))
+        (lends-ref 𝓤 H A W (Array f64 12) (named 8) (α8 ∷ []) (h .«plus_residuals») b (p + 3776)) $ await ! tt $ pick ! (λ δ8. split ! $
         lft-new ! tt (λ α9. move ! (33 ∷ []) $ use1 W (later (some (λ (δ : GName). ‵ (Own9 α9 δ)
-        ⊛ ‵ (flent (α9 ∷ []) (Body (mem (Array f64 8)) b (p + 3744) δ))))) (lends-ref 𝓤 H A W (Array f64 8) (named 9) (α9 ∷ []) (h .params) b (p + 3744)) $
+        ⊛ ‵ (flent (α9 ∷ []) (Body (mem (Array f64 8)) b (p + 3872) δ))))) (lends-ref 𝓤 H A W (Array f64 8) (named 9) (α9 ∷ []) (h .params) b (p + 3872)) $
         await ! tt $ pick ! (λ δ9. split ! $
         lft-new ! tt (λ α10. move ! (35 ∷ []) $ use1 W (later (some (λ (δ : GName). ‵ (Own10 α10 δ)
-        ⊛ ‵ (flent (α10 ∷ []) (Body (mem (Array f64 8)) b (p + 3808) δ)))))
-        (lends-ref 𝓤 H A W (Array f64 8) (named 10) (α10 ∷ []) (h .candidate) b (p + 3808)) $ await ! tt $ pick ! (λ δ10. split ! $
+        ⊛ ‵ (flent (α10 ∷ []) (Body (mem (Array f64 8)) b (p + 3936) δ)))))
+        (lends-ref 𝓤 H A W (Array f64 8) (named 10) (α10 ∷ []) (h .candidate) b (p + 3936)) $ await ! tt $ pick ! (λ δ10. split ! $
         lft-new ! tt (λ α11. move ! (37 ∷ []) $ use1 W (later (some (λ (δ : GName). ‵ (Own11 α11 δ)
-        ⊛ ‵ (flent (α11 ∷ []) (Body (mem (Array f64 64)) b (p + 3872) δ)))))
-        (lends-ref 𝓤 H A W (Array f64 64) (named 11) (α11 ∷ []) (h .«best_surfaces») b (p + 3872)) $ await ! tt $ pick ! (λ δ11. split ! $
+        ⊛ ‵ (flent (α11 ∷ []) (Body (mem (Array f64 64)) b (p + 4000) δ)))))
+        (lends-ref 𝓤 H A W (Array f64 64) (named 11) (α11 ∷ []) (h .«best_surfaces») b (p + 4000)) $ await ! tt $ pick ! (λ δ11. split ! $
         lft-new ! tt (λ α12. move ! (39 ∷ []) $ use1 W (later (some (λ (δ : GName). ‵ (Own12 α12 δ)
-        ⊛ ‵ (flent (α12 ∷ []) (Body (mem (Array f64 12)) b (p + 4384) δ)))))
-        (lends-ref 𝓤 H A W (Array f64 12) (named 12) (α12 ∷ []) (h .«best_values») b (p + 4384)) $ await ! tt $ pick ! (λ δ12. split ! $
+        ⊛ ‵ (flent (α12 ∷ []) (Body (mem (Array f64 12)) b (p + 4512) δ)))))
+        (lends-ref 𝓤 H A W (Array f64 12) (named 12) (α12 ∷ []) (h .«best_values») b (p + 4512)) $ await ! tt $ pick ! (λ δ12. split ! $
         lft-new ! tt (λ α13. move ! (40 ∷ []) $ use1 W (later (some (λ (δ : GName). ‵ (Own13 α13 δ)
-        ⊛ ‵ (flent (α13 ∷ []) (Body (mem (Array f64 12)) b (p + 4480) δ)))))
-        (lends-ref 𝓤 H A W (Array f64 12) (named 13) (α13 ∷ []) (h .«best_residuals») b (p + 4480)) $ await ! tt $ pick ! (λ δ13. split ! $
+        ⊛ ‵ (flent (α13 ∷ []) (Body (mem (Array f64 12)) b (p + 4608) δ)))))
+        (lends-ref 𝓤 H A W (Array f64 12) (named 13) (α13 ∷ []) (h .«best_residuals») b (p + 4608)) $ await ! tt $ pick ! (λ δ13. split ! $
         -- the call
         move ! (2 ∷ 100 ∷ []) $ join ! $ move ! (5 ∷ 0 ∷ []) $ join ! $ move ! (7 ∷ 0 ∷ []) $ join ! $ move ! (9 ∷ 0 ∷ []) $ join ! $ move ! (11 ∷ 0 ∷ []) $
         join ! $ move ! (13 ∷ 0 ∷ []) $ join ! $ move ! (15 ∷ 0 ∷ []) $ join ! $ move ! (17 ∷ 0 ∷ []) $ join ! $ move ! (19 ∷ 0 ∷ []) $ join ! $
@@ -517,35 +517,35 @@ module _ {M : Type 1} (𝓤 : URA M) (H : Heap 𝓤) (A : Atoms 𝓤) (W : Given
         move ! (15 ∷ []) $ lft-end ! tt $ move ! (0 ∷ 42 ∷ []) $ lent-back ! tt $
         move ! (15 ∷ []) $ lft-end ! tt $ move ! (0 ∷ 41 ∷ []) $ lent-back ! tt $
         move ! (15 ∷ []) $ lft-end ! tt $ move ! (0 ∷ 40 ∷ 28 ∷ []) $
-        use3 W (later (‵ (partAt (Array f64 64) fullShare (ws .1 .1 .1 .1 .0) b (p + 2176))))
-        (ref-back 𝓤 H A W (Array f64 64) (α4 ∷ []) δ4 (ws .1 .1 .1 .1 .0) b (p + 2176)) $ await ! tt $
+        use3 W (later (‵ (partAt (Array f64 64) fullShare (ws .1 .1 .1 .1 .0) b (p + 2304))))
+        (ref-back 𝓤 H A W (Array f64 64) (α4 ∷ []) δ4 (ws .1 .1 .1 .1 .0) b (p + 2304)) $ await ! tt $
         move ! (15 ∷ []) $ lft-end ! tt $ move ! (0 ∷ 38 ∷ 27 ∷ []) $
-        use3 W (later (‵ (partAt (Array f64 96) fullShare (ws .1 .1 .1 .1 .1 .0) b (p + 2688))))
-        (ref-back 𝓤 H A W (Array f64 96) (α5 ∷ []) δ5 (ws .1 .1 .1 .1 .1 .0) b (p + 2688)) $ await ! tt $
+        use3 W (later (‵ (partAt (Array f64 96) fullShare (ws .1 .1 .1 .1 .1 .0) b (p + 2816))))
+        (ref-back 𝓤 H A W (Array f64 96) (α5 ∷ []) δ5 (ws .1 .1 .1 .1 .1 .0) b (p + 2816)) $ await ! tt $
         move ! (15 ∷ []) $ lft-end ! tt $ move ! (0 ∷ 36 ∷ 26 ∷ []) $
-        use3 W (later (‵ (partAt (Array f64 12) fullShare (ws .1 .1 .1 .1 .1 .1 .0) b (p + 3456))))
-        (ref-back 𝓤 H A W (Array f64 12) (α6 ∷ []) δ6 (ws .1 .1 .1 .1 .1 .1 .0) b (p + 3456)) $ await ! tt $
+        use3 W (later (‵ (partAt (Array f64 12) fullShare (ws .1 .1 .1 .1 .1 .1 .0) b (p + 3584))))
+        (ref-back 𝓤 H A W (Array f64 12) (α6 ∷ []) δ6 (ws .1 .1 .1 .1 .1 .1 .0) b (p + 3584)) $ await ! tt $
         move ! (15 ∷ []) $ lft-end ! tt $ move ! (0 ∷ 34 ∷ 25 ∷ []) $
-        use3 W (later (‵ (partAt (Array f64 12) fullShare (ws .1 .1 .1 .1 .1 .1 .1 .0) b (p + 3552))))
-        (ref-back 𝓤 H A W (Array f64 12) (α7 ∷ []) δ7 (ws .1 .1 .1 .1 .1 .1 .1 .0) b (p + 3552)) $ await ! tt $
+        use3 W (later (‵ (partAt (Array f64 12) fullShare (ws .1 .1 .1 .1 .1 .1 .1 .0) b (p + 3680))))
+        (ref-back 𝓤 H A W (Array f64 12) (α7 ∷ []) δ7 (ws .1 .1 .1 .1 .1 .1 .1 .0) b (p + 3680)) $ await ! tt $
         move ! (15 ∷ []) $ lft-end ! tt $ move ! (0 ∷ 32 ∷ 24 ∷ []) $
-        use3 W (later (‵ (partAt (Array f64 12) fullShare (ws .1 .1 .1 .1 .1 .1 .1 .1 .0) b (p + 3648))))
-        (ref-back 𝓤 H A W (Array f64 12) (α8 ∷ []) δ8 (ws .1 .1 .1 .1 .1 .1 .1 .1 .0) b (p + 3648)) $ await ! tt $
+        use3 W (later (‵ (partAt (Array f64 12) fullShare (ws .1 .1 .1 .1 .1 .1 .1 .1 .0) b (p + 3776))))
+        (ref-back 𝓤 H A W (Array f64 12) (α8 ∷ []) δ8 (ws .1 .1 .1 .1 .1 .1 .1 .1 .0) b (p + 3776)) $ await ! tt $
         move ! (15 ∷ []) $ lft-end ! tt $ move ! (0 ∷ 30 ∷ 23 ∷ []) $
-        use3 W (later (‵ (partAt (Array f64 8) fullShare (ws .1 .1 .1 .1 .1 .1 .1 .1 .1 .0) b (p + 3744))))
-        (ref-back 𝓤 H A W (Array f64 8) (α9 ∷ []) δ9 (ws .1 .1 .1 .1 .1 .1 .1 .1 .1 .0) b (p + 3744)) $ await ! tt $
+        use3 W (later (‵ (partAt (Array f64 8) fullShare (ws .1 .1 .1 .1 .1 .1 .1 .1 .1 .0) b (p + 3872))))
+        (ref-back 𝓤 H A W (Array f64 8) (α9 ∷ []) δ9 (ws .1 .1 .1 .1 .1 .1 .1 .1 .1 .0) b (p + 3872)) $ await ! tt $
         move ! (15 ∷ []) $ lft-end ! tt $ move ! (0 ∷ 28 ∷ 22 ∷ []) $
-        use3 W (later (‵ (partAt (Array f64 8) fullShare (ws .1 .1 .1 .1 .1 .1 .1 .1 .1 .1 .0) b (p + 3808))))
-        (ref-back 𝓤 H A W (Array f64 8) (α10 ∷ []) δ10 (ws .1 .1 .1 .1 .1 .1 .1 .1 .1 .1 .0) b (p + 3808)) $ await ! tt $
+        use3 W (later (‵ (partAt (Array f64 8) fullShare (ws .1 .1 .1 .1 .1 .1 .1 .1 .1 .1 .0) b (p + 3936))))
+        (ref-back 𝓤 H A W (Array f64 8) (α10 ∷ []) δ10 (ws .1 .1 .1 .1 .1 .1 .1 .1 .1 .1 .0) b (p + 3936)) $ await ! tt $
         move ! (15 ∷ []) $ lft-end ! tt $ move ! (0 ∷ 26 ∷ 21 ∷ []) $
-        use3 W (later (‵ (partAt (Array f64 64) fullShare (ws .1 .1 .1 .1 .1 .1 .1 .1 .1 .1 .1 .0) b (p + 3872))))
-        (ref-back 𝓤 H A W (Array f64 64) (α11 ∷ []) δ11 (ws .1 .1 .1 .1 .1 .1 .1 .1 .1 .1 .1 .0) b (p + 3872)) $ await ! tt $
+        use3 W (later (‵ (partAt (Array f64 64) fullShare (ws .1 .1 .1 .1 .1 .1 .1 .1 .1 .1 .1 .0) b (p + 4000))))
+        (ref-back 𝓤 H A W (Array f64 64) (α11 ∷ []) δ11 (ws .1 .1 .1 .1 .1 .1 .1 .1 .1 .1 .1 .0) b (p + 4000)) $ await ! tt $
         move ! (15 ∷ []) $ lft-end ! tt $ move ! (0 ∷ 24 ∷ 20 ∷ []) $
-        use3 W (later (‵ (partAt (Array f64 12) fullShare (ws .1 .1 .1 .1 .1 .1 .1 .1 .1 .1 .1 .1 .0) b (p + 4384))))
-        (ref-back 𝓤 H A W (Array f64 12) (α12 ∷ []) δ12 (ws .1 .1 .1 .1 .1 .1 .1 .1 .1 .1 .1 .1 .0) b (p + 4384)) $ await ! tt $
+        use3 W (later (‵ (partAt (Array f64 12) fullShare (ws .1 .1 .1 .1 .1 .1 .1 .1 .1 .1 .1 .1 .0) b (p + 4512))))
+        (ref-back 𝓤 H A W (Array f64 12) (α12 ∷ []) δ12 (ws .1 .1 .1 .1 .1 .1 .1 .1 .1 .1 .1 .1 .0) b (p + 4512)) $ await ! tt $
         move ! (15 ∷ []) $ lft-end ! tt $ move ! (0 ∷ 22 ∷ 19 ∷ []) $
-        use3 W (later (‵ (partAt (Array f64 12) fullShare (ws .1 .1 .1 .1 .1 .1 .1 .1 .1 .1 .1 .1 .1 .0) b (p + 4480))))
-        (ref-back 𝓤 H A W (Array f64 12) (α13 ∷ []) δ13 (ws .1 .1 .1 .1 .1 .1 .1 .1 .1 .1 .1 .1 .1 .0) b (p + 4480)) $ await ! tt $
+        use3 W (later (‵ (partAt (Array f64 12) fullShare (ws .1 .1 .1 .1 .1 .1 .1 .1 .1 .1 .1 .1 .1 .0) b (p + 4608))))
+        (ref-back 𝓤 H A W (Array f64 12) (α13 ∷ []) δ13 (ws .1 .1 .1 .1 .1 .1 .1 .1 .1 .1 .1 .1 .1 .0) b (p + 4608)) $ await ! tt $
         move ! (0 ∷ 21 ∷ []) $ fjoin ! $ move ! (1 ∷ 0 ∷ []) $ fjoin ! $ move ! (1 ∷ 0 ∷ []) $ fjoin ! $ move ! (1 ∷ 0 ∷ []) $ fjoin ! $ move ! (1 ∷ 0 ∷ []) $
         fjoin ! $ move ! (1 ∷ 0 ∷ []) $ fjoin ! $ move ! (1 ∷ 0 ∷ []) $ fjoin ! $ move ! (1 ∷ 0 ∷ []) $ fjoin ! $ move ! (1 ∷ 0 ∷ []) $ fjoin ! $
         move ! (1 ∷ 0 ∷ []) $ fjoin ! $ move ! (1 ∷ 0 ∷ []) $ fjoin ! $ move ! (1 ∷ 0 ∷ []) $ fjoin ! $ move ! (1 ∷ 0 ∷ []) $ fjoin ! $

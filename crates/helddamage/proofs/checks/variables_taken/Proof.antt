@@ -40,7 +40,9 @@ module _ (counts : List ℕ) (numbers : List Float) where
 
   all-each : allBelow each (variableCountFrom counts) ≡ answer
   unfolding variablesTaken followersTaken
-  all-each = all-both taken known (variableCountFrom counts) ∙ ap (λ (b : Bool). b && allBelow known (variableCountFrom counts)) (all-both _ _ (variableCountFrom counts))
+  all-each =
+      let n = variableCountFrom counts in
+      all-both taken known n ∙ ap (λ (b : Bool). b && allBelow known n) (all-both _ _ n)
 
   is-known : (r : Bool) (i : ℕ) → i < 8 → ((numbers : List Float) → r ≡ variableKnown (variableRecordFrom counts numbers i)) → r ≡ known i
   is-known r i h e = e numbers ∙ sym (ap variableKnown (variable-record counts numbers i h))
