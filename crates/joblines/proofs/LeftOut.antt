@@ -1,4 +1,5 @@
--- A setting is the default where the mark of one that is left out stands, and else what is read in its place. Assumes nothing.
+-- A setting is the default where the mark of one that is left out stands, and else what is read in its place; so is a section read where its letter stands.
+-- Assumes nothing.
 use mathlib.Core.Path.{_≡_, sym, ap, _∙_}
 use mathlib.Core.Bool.{Bool, true, false, cond}
 use Rattle.text.specs.declared.cursor.Cursor.{Cursor}

@@ -26,11 +26,14 @@ read-followers-requires c κs = search needs
 returns : tie.Need-returns
 unfolding variableSetFrom
 returns c =
-    let line = c .before .before .before .before .before .before .before .before .args .line .now in
-    let count = c .before .before .before .before .decimal .ensures ∙ ap (decimalFrom line) (c .before .before .before .before .before .tag .ensures) in
-    let read = c .before .before .before .read-variables .ensures ∙ (λ i. variablesFrom line (count i .next) (count i .value)) in
-    let followed = c .before .before .read-followers .ensures ∙ (λ i. followersFrom line (count i .value) (read i .next) (read i .variables)) in
-    λ i. record { variables = record { variables = followed i .variables; «variable_count» = count i .value }; next = followed i .next }
+    let followed = c .before .before in
+    let read = followed .before .before in
+    let count = read .before in
+    let line = count .before .before .before .before .args .line .now in
+    let n = count .decimal .ensures ∙ ap (decimalFrom line) (count .before .tag .ensures) in
+    let v = read .read-variables .ensures ∙ (λ i. variablesFrom line (n i .next) (n i .value)) in
+    let f = followed .read-followers .ensures ∙ (λ i. followersFrom line (n i .value) (v i .next) (v i .variables)) in
+    λ i. record { variables = record { variables = f i .variables; «variable_count» = n i .value }; next = f i .next }
 
 pub read-variable-set-spec : {M : Type 1} → statement M
 read-variable-set-spec =
