@@ -33,7 +33,7 @@ static int is_live(size_t place) {
 static uint64_t bound_of(const Row *r) {
     const uint64_t *s = r->count_settings;
     uint64_t enabled = 0;
-    for (size_t i = 0; i < r->variable_count; i++) enabled += r->variables[3 * i + 2];
+    for (size_t i = 0; i < r->variable_count; i++) enabled += r->variables[i].enabled;
     uint64_t each = 2 * enabled + 10, run = 1 + s[0] * each;
     return r->kind == LENS_DAMPED ? run : r->kind == LENS_MULTI_START ? (1 + s[1]) * run : 1 + s[3] * s[2] + 1 + 25 * each;
 }
@@ -137,6 +137,7 @@ static void refusals(void) {
         row->kind = 4, refuses_damage("a kind that is none"), *row = kept;
         row->phase = 7, refuses_damage("a phase that is none"), *row = kept;
         row->pupil = 0, refuses_damage("a pupil of 0"), *row = kept;
+        row->variables[0].follows = 3, refuses_damage("a sign that is none"), *row = kept;
     }
     memcpy(&now, &safe, sizeof now);
 }

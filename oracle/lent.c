@@ -132,6 +132,7 @@ static void admit_none(size_t place) {
         {&asked.kind, none, "a kind of job that is none"},
         {&j->variables[0].kind, none, "a kind of variable that is none"},
         {&j->variables[0].enabled, none, "a mark that is none"},
+        {&j->variables[0].follows, none, "a sign that is none"},
         {&j->operands[0].kind, none, "a kind of operand that is none"},
         {&j->surface_count, past, "surfaces past the limit"},
         {&j->slot_count, past, "slots past the limit"},
@@ -147,13 +148,16 @@ static void admit_none(size_t place) {
     for (int bit = 11; bit < 64; bit++) asked.given = line.request.given | 1ull << bit, admit(place, &asked, LENS_BAD_COUNT, "a bit that names no setting");
 }
 
-/* what stands past the counts, in settings that are not given and in an empty row has no part in what is admitted */
+/* what stands past the counts, in settings that are not given, as the surface of no follower and in an empty row has no part in what is admitted */
 static void admit_marked(size_t place) {
     LensRequest asked = line.request;
     LensJob *j = &asked.job;
     if (lens_admit(&now.bench.lent, place, &asked) != LENS_DONE) fail("admit: refused");
     Row row = now.bench.rows[place];
     mark_entries(j, j->surface_count, j->variable_count, j->operand_count);
+    for (size_t i = 0; i < 8; i++)
+        if (i >= j->variable_count || j->variables[i].follows == LENS_FOLLOWS_NOTHING) MARK(j->variables[i].follower);
+    for (size_t i = j->variable_count; i < 8; i++) MARK(j->variables[i].follows);
     uint64_t *setting = &j->settings.max_iterations;
     for (int i = 0; i < 11; i++)
         if (!(asked.given >> i & 1)) setting[i] = 0x7ff4dead00000000 + i;
@@ -189,6 +193,12 @@ static void clear(size_t place) {
     if (!kept()) fail("release: something else has changed");
     memset(&now.bench.rows[place], 0, sizeof(Row));
     finished[place] = 0;
+}
+
+static void damaged(size_t place, const char *what) {
+    UNLOOKED(what, lens_turn(&now.bench.lent, place, now.scratch, LONG), LENS_DAMAGED, place);
+    UNLOOKED(what, lens_fetch(&now.bench.lent, place, &now.result), LENS_DAMAGED, place);
+    turns++, fetches++;
 }
 
 static void job(uint32_t wanted, const char *answer) {
@@ -235,12 +245,12 @@ static void job(uint32_t wanted, const char *answer) {
     lists();
     UNLOOKED("turn at the end", lens_turn(&now.bench.lent, place, now.scratch, LONG), LENS_FINISHED, place);
     ALL("admit to a finished place", lens_admit(&now.bench.lent, place, asked), LENS_TAKEN);
-    uint64_t iteration = now.bench.rows[place].iteration;
-    now.bench.rows[place].iteration = 1 + (1ull << 40);
-    UNLOOKED("turn of a row with a counter past its limit", lens_turn(&now.bench.lent, place, now.scratch, LONG), LENS_DAMAGED, place);
-    UNLOOKED("fetch of a row with a counter past its limit", lens_fetch(&now.bench.lent, place, &now.result), LENS_DAMAGED, place);
-    now.bench.rows[place].iteration = iteration;
-    turns += 2, fetches += 1, admits += 1;
+    Row *row = &now.bench.rows[place], undamaged = *row;
+    row->iteration = 1 + (1ull << 40), damaged(place, "a row with a counter past its limit"), *row = undamaged;
+    row->variables[0].follows = 3 + lines, damaged(place, "a row with a sign that is none"), *row = undamaged;
+    row->variables[0].follows = LENS_FOLLOWS_PLUS, row->variables[0].follower = row->surface_count + lines % 3;
+    damaged(place, "a row with an absent follower"), *row = undamaged;
+    turns += 1, admits += 1;
     fetch(place, taken, answer);
     if (now.bench.next_place != next_place) fail("the next place has changed without a dealing");
 }

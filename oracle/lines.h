@@ -54,6 +54,15 @@ static void read_settings(LensRequest *q) {
     if (q->kind == LENS_MULTI_START) count_setting(q, 5, &s->num_trials, 10), count_setting(q, 10, &s->seed, 16);
 }
 
+/* the section F: which variables have followers, of which sign, and at which surface */
+static void read_followers(LensJob *j) {
+    for (uint64_t many = count(); many > 0; many--) {
+        uint64_t variable = count();
+        if (variable >= j->variable_count) { fprintf(stderr, "a follower has no variable\n"); exit(1); }
+        j->variables[variable].follows = count(), j->variables[variable].follower = count();
+    }
+}
+
 /* 0 where a count passes what the record has room for: then the rest of the line is not read */
 static int read_line(char *line, Line *to) {
     memset(to, 0, sizeof *to);
@@ -80,7 +89,8 @@ static int read_line(char *line, Line *to) {
         v->kind = count(), v->surface_index = count(), v->enabled = count();
         v->min_value = number(), v->max_value = number(), v->step_size = number();
     }
-    word(), j->operand_count = count();
+    if (strcmp(word(), "F") == 0) read_followers(j), word();
+    j->operand_count = count();
     if (j->operand_count > LENS_OPERANDS) return 0;
     for (size_t i = 0; i < j->operand_count; i++) {
         LensOperand *o = &j->operands[i];

@@ -6,7 +6,9 @@
 typedef struct {
     uint64_t kind, turns, phase, iteration, column, attempt, converged, generator, trial, cycle, step, best_iterations, best_converged;
     double initial_merit, damping, temperature, current_merit, total_merit, best_initial_merit, best_final_merit;
-    uint64_t surface_count, slot_count, variable_count, operand_count, count_settings[5], variables[24], operands[24];
+    uint64_t surface_count, slot_count, variable_count, operand_count, count_settings[5];
+    struct { uint64_t kind, surface_index, enabled, follows, follower; } variables[8];
+    uint64_t operands[24];
     double job_surfaces[64], indices[64], pupil, damped_settings[4], annealing_settings[2], variable_numbers[24], operand_numbers[36];
     double surfaces[64], jacobian[96], values[12], residuals[12], plus_residuals[12], params[8], candidate[8];
     double best_surfaces[64], best_values[12], best_residuals[12];

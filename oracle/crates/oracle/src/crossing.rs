@@ -45,7 +45,7 @@ fn variable(g: &mut G, j: &mut Job) {
     let ty = if j.vars.is_empty() || g.chance(0.7) { 1 } else { 0 };
     let surf = g.below(j.surfs.len());
     let (lo, hi, step) = if ty == 1 { (0.01, 500.0, g.logu(0.05, 5.0)) } else { (-0.5, 0.5, g.logu(1e-6, 1e-3)) };
-    j.vars.push(Var { ty, surf, on: true, lo, hi, step });
+    j.vars.push(Var { ty, surf, on: true, lo, hi, step, follower: None });
 }
 
 /// A track so far off that its term is the greatest float, or a part of it, or some of it too much; and what weighs next to nothing.

@@ -62,7 +62,7 @@ fn variable(g: &mut G, j: &mut Job) {
         4..=6 => (2, g.pick(&[-3.0, -1.0, -0.5]), g.pick(&[0.0, 0.5, 3.0]), g.pick(&[1e-4, 1e-2, 0.1])),
         _ => (3, size * 0.5, size * far, g.pick(&[1e-3, 1e-2, 0.5])),
     };
-    let v = Var { ty, surf, on: g.chance(0.9), lo, hi, step };
+    let v = Var { ty, surf, on: g.chance(0.9), lo, hi, step, follower: None };
     if j.vars.len() < 8 {
         j.vars.push(v);
     } else {

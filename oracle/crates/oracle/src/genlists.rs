@@ -1,6 +1,6 @@
 //! Random lists of calls, refused ones of every number that the book has among them.
-use crate::faults;
 use crate::genjob::{self, G};
+use crate::{faults, followers};
 use std::io::Write;
 use std::ops::Range;
 
@@ -12,9 +12,10 @@ fn length(g: &mut G) -> u64 {
     if g.chance(0.06) { g.pick(&[0u64, 1, 64, 127]) } else { g.pick(&[128u64, 128, 129, 255, 256, 1000]) }
 }
 
-/// A short job, one in four with a fault.
-fn admission(g: &mut G, seed: u64, number: u64, place: u64) -> String {
-    let mut j = genjob::job(seed, number, g.pick(&["damped", "damped", "multi", "anneal"]));
+/// A short job, one in four with a fault; with followers (request 9) where these are asked for.
+fn admission(g: &mut G, seed: u64, number: u64, place: u64, followed: bool) -> String {
+    let kind = g.pick(&["damped", "damped", "multi", "anneal"]);
+    let mut j = if followed { followers::job(seed, number, kind) } else { genjob::job(seed, number, kind) };
     j.maxit = j.maxit.min(6);
     j.trials = j.trials.min(3);
     j.steps = j.steps.min(5);
@@ -25,13 +26,13 @@ fn admission(g: &mut G, seed: u64, number: u64, place: u64) -> String {
         (j.maxit, j.trials, j.steps, j.cycles) = (0, 0, 0, 0);
     }
     if g.chance(0.25) {
-        faults::put(&mut j, g);
+        if followed { followers::put_fault(&mut j, g) } else { faults::put(&mut j, g) }
     }
     format!("A {place} {}", j.print())
 }
 
 /// Each list begins with the empty bench.
-pub fn gen_calls(seed: u64, lists: u64, length_of_list: u64, out: &mut impl Write) {
+pub fn gen_calls(seed: u64, lists: u64, length_of_list: u64, followed: bool, out: &mut impl Write) {
     let mut number = 0;
     for list in 0..lists {
         let g = &mut G::new(seed ^ 0xca11, list);
@@ -41,7 +42,7 @@ pub fn gen_calls(seed: u64, lists: u64, length_of_list: u64, out: &mut impl Writ
             match g.below(20) {
                 0..=3 => {
                     number += 1;
-                    writeln!(out, "{}", admission(g, seed, number, p)).unwrap()
+                    writeln!(out, "{}", admission(g, seed, number, p, followed)).unwrap()
                 }
                 4..=12 => {
                     let len = length(g);
@@ -76,7 +77,7 @@ pub fn gen_dealings(seed: u64, lists: Range<u64>, length_of_list: u64, out: &mut
                             writeln!(out, "D {p}").unwrap()
                         }
                         number += 1;
-                        writeln!(out, "{}", admission(g, seed, number, p)).unwrap()
+                        writeln!(out, "{}", admission(g, seed, number, p, false)).unwrap()
                     }
                 }
                 6..=12 => {

@@ -1,4 +1,4 @@
-//! Every single cause of refusals 1 and 3 to 8: a job that is taken, with one field set to each of a list of values, good and bad.
+//! Every single cause of refusals 1, 3 to 8 and 17: a job that is taken, with one field set to each of a list of values, good and bad.
 use crate::job::*;
 use std::io::Write;
 
@@ -27,7 +27,7 @@ fn base(kind: u8) -> Job {
     j.slots = 2;
     j.idx = vec![2.0, 1.5, 1.25, 1.5, 1.0, 1.0];
     for ty in 0..4 {
-        j.vars.push(Var { ty, surf: ty as usize % 3, on: ty != 1, lo: 1.0, hi: 2.0, step: 1e-3 });
+        j.vars.push(Var { ty, surf: ty as usize % 3, on: ty != 1, lo: 1.0, hi: 2.0, step: 1e-3, follower: None });
     }
     for kind in 0..8 {
         j.ops.push(Op { kind, at: kind as usize % 2, limit: if kind < 5 { 0.0 } else { 3.0 }, target: 60.0, weight: 4.0 });
@@ -112,6 +112,34 @@ fn lengths(kind: u8) -> Vec<Job> {
     v
 }
 
+/// Each variable, enabled or not, with a follower of each sign at each of a list of surfaces (request 9); and a bad one beside what gives a number before it, and
+/// after it.
+fn followers(kind: u8) -> Vec<Job> {
+    let mut v = vec![];
+    for (variable, minus, surf) in (0..4).flat_map(|i| [false, true].map(|minus| (i, minus))).flat_map(|(i, minus)| COUNTS.map(|surf| (i, minus, surf))) {
+        let mut j = base(kind);
+        j.vars[variable].follower = Some(Follower { surf, minus });
+        v.push(j);
+    }
+    let beside: [fn(&mut Job); 7] = [
+        |j| j.slots = 5,
+        |j| j.pupil = 0.0,
+        |j| j.vars[3].surf = 3,
+        |j| j.ops[0].weight = -1.0,
+        |j| (j.maxit, j.steps) = (1001, 1001),
+        |j| j.vars.iter_mut().for_each(|x| x.on = false),
+        |j| j.ops.clear(),
+    ];
+    for (variable, other) in (0..4).flat_map(|i| beside.map(|other| (i, other))) {
+        let mut j = base(kind);
+        j.vars[variable].follower = Some(Follower { surf: 3, minus: false });
+        other(&mut j);
+        j.idx.resize(3 * j.slots, 1.5);
+        v.push(j);
+    }
+    v
+}
+
 pub fn print(kind: u8, out: &mut impl Write) {
     let mut all = vec![base(kind)];
     all.extend(lengths(kind));
@@ -135,6 +163,7 @@ pub fn print(kind: u8, out: &mut impl Write) {
             all.push(j);
         }
     }
+    all.extend(followers(kind));
     for (i, mut j) in all.into_iter().enumerate() {
         j.id = i.to_string();
         writeln!(out, "{}", j.print()).unwrap();
