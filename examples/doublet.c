@@ -26,7 +26,9 @@ static LensRequest doublet(void) {
     add_surface(job, -45.7, 2.5, 1.68750, 1.67270, 1.66661);
     add_surface(job, -128.2, 97.1, 1, 1, 1);
     add_surface(job, INFINITY, 0, 1, 1, 1);
-    for (uint64_t i = 0; i < 3; i++) job->variables[job->variable_count++] = (LensVariable){LENS_CURVATURE, i, 1, -0.05, 0.05, 1e-4};
+    for (uint64_t i = 0; i < 3; i++) /* nothing follows: these fields are left at 0 */
+        job->variables[job->variable_count++] =
+            (LensVariable){.kind = LENS_CURVATURE, .surface_index = i, .enabled = 1, .min_value = -0.05, .max_value = 0.05, .step_size = 1e-4};
     add_operand(job, LENS_FOCAL_LENGTH, 1, 100);
     add_operand(job, LENS_BACK_FOCUS, 0, 97.1);
     add_operand(job, LENS_BACK_FOCUS, 2, 97.1);

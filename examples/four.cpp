@@ -55,8 +55,8 @@ LensRequest request_of(std::uint64_t kind) {
     job.surfaces[1] = {INFINITY, 0, 0, 10};
     job.indices[0] = 2, job.indices[4] = 1;
     job.variable_count = 2;
-    job.variables[0] = {LENS_CURVATURE, 0, 1, 0.001, 0.1, 1e-4};
-    job.variables[1] = {LENS_THICKNESS, 0, 1, 2, 20, 0.1};
+    job.variables[0] = {LENS_CURVATURE, 0, 1, 0.001, 0.1, 1e-4, LENS_FOLLOWS_NOTHING, 0};
+    job.variables[1] = {LENS_THICKNESS, 0, 1, 2, 20, 0.1, LENS_FOLLOWS_NOTHING, 0};
     job.operand_count = 2;
     job.operands[0] = {LENS_FOCAL_LENGTH, 0, 0, 60, 4};
     job.operands[1] = {LENS_GREATEST_CENTRE_THICKNESS, 0, 10, 0, 1};

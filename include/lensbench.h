@@ -4,8 +4,8 @@
  * is fetched and its place released. Each job's number of turns is bounded beforehand. lens_deal hands out many turns in one call, fairly to all jobs.
  * lens_evaluate, lens_trace and lens_trace_limits need no bench.
  *
- * A call answers 0 where it is done (lens_deal in its record). Else it answers the lowest number that applies of those it refuses with, and no byte of what it
- * was lent has changed.
+ * A call answers 0 where it is done (lens_deal in its record). Else it answers the first number that applies of those it refuses with, which stand at the call
+ * in this order, and no byte of what it was lent has changed.
  * Any bench, place, record and length may be handed in: no value makes a call misbehave. What the caller owes, and nothing can check:
  *   - pointers are not null, are aligned to 8 bytes and reach the whole record, or as many entries as the length says;
  *   - what a call is lent does not overlap, unless the call writes to none of it;
@@ -36,7 +36,7 @@ extern "C" {
 #endif
 
 /* goes up with every change of a record: lens_abi() of the library that is linked must answer the same */
-#define LENS_ABI 4
+#define LENS_ABI 5
 
 enum LensLimits { LENS_PLACES = 4, LENS_SURFACES = 16, LENS_SLOTS = 4, LENS_VARIABLES = 8, LENS_OPERANDS = 12, LENS_SCRATCH = 128 };
 
@@ -57,6 +57,7 @@ enum LensNumbers {
     LENS_DAMAGED = 12,       /* the place's bytes are none that the calls leave: release it. lens_deal: those of any place, or a next_place above 3 */
     LENS_FINISHED = 13,      /* the job is at its end: fetch it */
     LENS_UNFINISHED = 14,    /* the job is not at its end */
+    LENS_BAD_FOLLOWER = 17,  /* absent surface, or minus with a thickness or semi-diameter */
     LENS_BAD_LIMITS = 19,    /* lens_trace_limits: fewer than two surfaces, limits crossed, or an end given or worked out that is not finite */
     LENS_NOT_TRACED = 100    /* lens_trace alone: nothing is refused, but fewer than two surfaces have no trace, and the rays are as they were */
 };
@@ -66,6 +67,9 @@ enum LensKinds { LENS_DAMPED = 1, LENS_MULTI_START = 2, LENS_ANNEALING = 3 };
 
 /* LensVariable.kind */
 enum LensVariableKinds { LENS_CURVATURE = 0, LENS_THICKNESS = 1, LENS_CONIC = 2, LENS_SEMI_DIAMETER = 3 };
+
+/* LensVariable.follows: whether a second surface gets the variable's values, as they are or negated */
+enum LensSigns { LENS_FOLLOWS_NOTHING = 0, LENS_FOLLOWS_PLUS = 1, LENS_FOLLOWS_MINUS = 2 };
 
 /* LensOperand.kind, and what `at` and `limit_mm` are to it */
 enum LensOperandKinds {
@@ -101,10 +105,12 @@ typedef struct LensSurface {
     double radius_mm, conic_constant, thickness_mm, semi_diameter_mm;
 } LensSurface;
 
-/* bounds and step are of the quantity that varies: of a curvature in 1/mm, not of a radius */
+/* bounds and step are of the quantity that varies: of a curvature in 1/mm, not of a radius. A follower gets the same quantity straight after the surface itself,
+ * before the next variable; values are read from surface_index alone. LENS_FOLLOWS_MINUS of a curvature keeps two surfaces each other's mirror image */
 typedef struct LensVariable {
     uint64_t kind, surface_index, enabled; /* enabled is 0 or 1 */
     double min_value, max_value, step_size;
+    uint64_t follows, follower; /* one of LensSigns, and the surface that follows: not looked at where nothing does */
 } LensVariable;
 
 typedef struct LensOperand {
@@ -179,21 +185,21 @@ typedef struct LensDealt {
 
 /* to be read by the calls alone, but for the place at which the next dealing begins, 0 to 3: lens_deal alone reads and writes that one */
 typedef struct LensBench {
-    uint64_t opaque[2288];
+    uint64_t opaque[2352];
     size_t next_place;
 } LensBench;
 
 LENS_ASSERT(sizeof(size_t) == 8 && sizeof(double) == 8, "lensbench.h is for x86-64");
-LENS_ASSERT(sizeof(LensSurface) == 32 && sizeof(LensVariable) == 48 && sizeof(LensOperand) == 40, "lensbench.h: a record has padding");
-LENS_ASSERT(sizeof(LensSettings) == 88 && sizeof(LensJob) == 2016 && sizeof(LensRequest) == 2032, "lensbench.h: a record has padding");
+LENS_ASSERT(sizeof(LensSurface) == 32 && sizeof(LensVariable) == 64 && sizeof(LensOperand) == 40, "lensbench.h: a record has padding");
+LENS_ASSERT(sizeof(LensSettings) == 88 && sizeof(LensJob) == 2144 && sizeof(LensRequest) == 2160, "lensbench.h: a record has padding");
 LENS_ASSERT(sizeof(LensResult) == 736 && sizeof(LensEvaluation) == 200 && sizeof(LensRay) == 16, "lensbench.h: a record has padding");
 LENS_ASSERT(sizeof(LensInterval) == 16 && sizeof(LensThicknessLimits) == 256 && sizeof(LensTraceLimits) == 528, "lensbench.h: a record has padding");
-LENS_ASSERT(sizeof(LensFinished) == 40 && sizeof(LensDealt) == 8 && sizeof(LensBench) == 18312, "lensbench.h: a record has padding");
+LENS_ASSERT(sizeof(LensFinished) == 40 && sizeof(LensDealt) == 8 && sizeof(LensBench) == 18824, "lensbench.h: a record has padding");
 
 /* LENS_ABI of the library that is linked */
 uint32_t lens_abi(void);
 
-/* a job comes to an empty place; nothing is worked out yet. 1 to 8 and 10 */
+/* a job comes to an empty place; nothing is worked out yet. 1, 2, 3, 4, 17, 5, 6, 7, 8 and 10 */
 LENS_CALL uint32_t lens_admit(LensBench *bench, size_t place, const LensRequest *request);
 
 /* one merit of the job at the place. The first LENS_SCRATCH numbers of scratch are +0.0 afterwards, the others are not touched. 2, 9, 11, 12 and 13 */

@@ -2,7 +2,7 @@
 use std::path::{Path, PathBuf};
 
 /// The layout of records that src/ffi.rs was written for.
-const ABI: &str = "#define LENS_ABI 4";
+const ABI: &str = "#define LENS_ABI 5";
 
 fn main() {
     println!("cargo:rerun-if-env-changed=LENSBENCH_LIB_DIR");

@@ -27,7 +27,7 @@ static LensRequest plano_convex(uint64_t kind) {
     job->surfaces[0] = (LensSurface){64, 0, 16, 10};
     job->surfaces[1] = (LensSurface){INFINITY, 0, 0, 10};
     job->indices[0] = 2, job->indices[4] = 1;
-    job->variable_count = 1, job->variables[0] = (LensVariable){LENS_CURVATURE, 0, 1, -1, 1, 1e-4};
+    job->variable_count = 1, job->variables[0] = (LensVariable){LENS_CURVATURE, 0, 1, -1, 1, 1e-4, LENS_FOLLOWS_NOTHING, 0};
     job->operand_count = 1, job->operands[0] = (LensOperand){LENS_FOCAL_LENGTH, 0, 0, 60, 4};
     return request;
 }
@@ -56,6 +56,35 @@ static void zeroed(void) {
     }
     static const LensRequest zero;
     must(lens_admit(&one, 0, &zero) == LENS_BAD_COUNT, "a request of kind 0 is taken");
+}
+
+/* a lens that is its own mirror image stays so, in each kind of run; what a follower is refused with; and none has no surface */
+static void followers(void) {
+    static LensBench bench, other;
+    static double scratch[LENS_SCRATCH];
+    static LensResult result;
+    for (uint64_t kind = LENS_DAMPED; kind <= LENS_ANNEALING; kind++) {
+        LensRequest request = plano_convex(kind);
+        LensVariable *variable = &request.job.variables[0];
+        request.job.surfaces[1] = (LensSurface){-64, 0, 0, 10};
+        variable->follower = 9;
+        must(lens_admit(&bench, 0, &request) == LENS_DONE, "the surface of no follower is looked at");
+        variable->follower = 0;
+        must(lens_admit(&other, 0, &request) == LENS_DONE && !memcmp(&bench, &other, sizeof bench), "the surface of no follower is kept");
+        must(lens_release(&bench, 0) == LENS_DONE && lens_release(&other, 0) == LENS_DONE, "release");
+        variable->follows = LENS_FOLLOWS_MINUS, variable->follower = 1;
+        must(lens_admit(&bench, 0, &request) == LENS_DONE, "a follower is refused");
+        while (lens_turn(&bench, 0, scratch, LENS_SCRATCH) == LENS_DONE) continue;
+        must(lens_fetch(&bench, 0, &result) == LENS_DONE && lens_release(&bench, 0) == LENS_DONE, "a run with a follower");
+        must(result.final_merit < result.initial_merit && result.surfaces[0].radius_mm != 64, "a run with a follower stands still");
+        must(result.surfaces[1].radius_mm == -result.surfaces[0].radius_mm, "a symmetric lens has become another");
+        variable->follower = 2, must(lens_admit(&bench, 0, &request) == LENS_BAD_FOLLOWER, "an absent follower");
+        request.job.operands[0].weight = -1, must(lens_admit(&bench, 0, &request) == LENS_BAD_FOLLOWER, "a follower comes before an operand");
+        variable->step_size = -1, must(lens_admit(&bench, 0, &request) == LENS_BAD_VARIABLE, "a variable comes before a follower");
+        variable->follows = LENS_FOLLOWS_MINUS + 1, must(lens_admit(&bench, 0, &request) == LENS_BAD_COUNT, "a sign that is none");
+        *variable = (LensVariable){LENS_THICKNESS, 0, 0, 1, 2, 0, LENS_FOLLOWS_MINUS, 0};
+        must(lens_admit(&bench, 0, &request) == LENS_BAD_FOLLOWER, "the opposite of a thickness");
+    }
 }
 
 /* the same job at all four places, dealt its turns from the next place on; refused, nothing is dealt */
@@ -90,7 +119,8 @@ static void run_all(void) {
         job->surface_count = 16, job->slot_count = 4, job->variable_count = 8, job->operand_count = 12;
         for (size_t i = 1; i < 16; i++) job->surfaces[i] = (LensSurface){i % 2 ? -90 : 70, 0, 2, 10};
         for (size_t i = 0; i < 64; i++) job->indices[i] = i / 4 % 2 ? 1 : 1.5 + 0.01 * (double)(i % 4);
-        for (size_t i = 0; i < 8; i++) job->variables[i] = (LensVariable){i % 4, i, 1, 0.001, 20, 1e-3};
+        for (size_t i = 0; i < 8; i++) job->variables[i] = (LensVariable){i % 4, i, 1, 0.001, 20, 1e-3, i % 3, 15 - i};
+        job->variables[3].follows = job->variables[5].follows = LENS_FOLLOWS_PLUS; /* a semi-diameter and a thickness */
         for (size_t i = 0; i < 12; i++) job->operands[i] = (LensOperand){i % 7, i % 4, 3, 60, 1};
         must(lens_admit(&bench, 0, &request) == LENS_DONE, "admit");
         while (lens_turn(&bench, 0, scratch, LENS_SCRATCH) == LENS_DONE) continue;
@@ -139,7 +169,8 @@ int main(void) {
     must(lens_abi() == LENS_ABI, "the library is of another ABI than the header");
     must(turn() == 1 && fetch() == 2 && release() == 3 && admit_record() == 4 && finished_places() == 5 && deal() == 6, "a name of the caller's is taken");
     zeroed();
+    followers();
     stack_taken();
-    printf("caller: names, defaults and ABI are as the header says; %zu bytes of stack taken, %d promised\n", used, PROMISED);
+    printf("caller: names, defaults, followers and ABI are as the header says; %zu bytes of stack taken, %d promised\n", used, PROMISED);
     return 0;
 }

@@ -78,7 +78,7 @@ impl Bench {
         Bench { bench: Box::new(bench), scratch: Box::new([0.0; SCRATCH]), jobs, not_shared: PhantomData }
     }
 
-    /// A job comes to an empty place; nothing is worked out yet. Refuses with 1 to 8 and 10.
+    /// A job comes to an empty place; nothing is worked out yet. Refuses with 1 to 8, 10 and 17.
     pub fn admit(&mut self, place: Place, job: &Job) -> Result<(), Refusal> {
         let request = request(job)?;
         Refusal::answer(ffi::admit(&mut self.bench, place.0, &request))?;

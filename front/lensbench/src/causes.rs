@@ -1,10 +1,11 @@
 //! What in a job is behind a refusal: every cause, with the part that it is in.
 //!
-//! The bench answers the lowest number alone. These are the same tests once more, part by part, for people; the number that counts is the bench's.
+//! The bench answers the first number that applies alone. These are the same tests once more, part by part, for people; the number that counts is the bench's.
 use crate::ffi::{OPERANDS, SLOTS, SURFACES, VARIABLES};
 use crate::format::{counted, shortest};
 use crate::job::{Annealing, Damped, Job, Run};
-use crate::lens::{Aim, Lens, Operand, Quantity, Variable};
+use crate::jobfile::follower_name;
+use crate::lens::{Aim, Follower, Lens, Operand, Quantity, Variable};
 use crate::refusal::Refusal;
 
 /// A part of a job. Numbers are from 0.
@@ -29,7 +30,7 @@ pub enum Part {
 /// One cause of a refusal.
 #[derive(Clone, Debug, PartialEq, Eq)]
 pub struct Cause {
-    /// The refusal that it leads to, if there is none with a lower number.
+    /// The refusal that it leads to, if there is none that comes before it.
     pub refusal: Refusal,
     /// The part that it is in.
     pub part: Part,
@@ -37,13 +38,26 @@ pub struct Cause {
     pub what: String,
 }
 
-/// Everything for which the job would be refused on an empty place, by rising number.
+/// What a job is refused with on an empty place, in the order in which the bench looks for it.
+const ORDER: [Refusal; 8] = [
+    Refusal::Counts,
+    Refusal::Lens,
+    Refusal::Variable,
+    Refusal::Follower,
+    Refusal::Operand,
+    Refusal::Setting,
+    Refusal::NoVariable,
+    Refusal::NoOperand,
+];
+
+/// Everything for which the job would be refused on an empty place, in the order in which the bench looks for it.
 pub fn causes(job: &Job) -> Vec<Cause> {
     let mut found = Found::default();
     counts(&mut found, job);
     lens(&mut found, &job.lens);
     for (i, v) in job.variables.iter().enumerate() {
         variable(&mut found, i, v, job.lens.surfaces.len());
+        follower(&mut found, i, v, job.lens.surfaces.len());
     }
     for (i, o) in job.operands.iter().enumerate() {
         operand(&mut found, i, o, job.lens.slots);
@@ -51,7 +65,7 @@ pub fn causes(job: &Job) -> Vec<Cause> {
     settings(&mut found, &job.run);
     found.test(job.variables.iter().any(|v| v.enabled), Refusal::NoVariable, Part::Job, || "no variable is enabled".to_string());
     found.test(!job.operands.is_empty(), Refusal::NoOperand, Part::Job, || "there is no operand".to_string());
-    found.causes.sort_by_key(|cause| cause.refusal.number());
+    found.causes.sort_by_key(|cause| ORDER.iter().position(|refusal| *refusal == cause.refusal));
     found.causes
 }
 
@@ -141,6 +155,15 @@ fn variable(found: &mut Found, i: usize, v: &Variable, surfaces: usize) {
     found.number((0.0..=FAR).contains(&v.step), refusal, part, "step", v.step, "is not from 0 to 1e9");
     let room = v.quantity != Quantity::SemiDiameter || v.least > 0.0;
     found.number(room, refusal, part, "from", v.least, "is not above 0, as a semi-diameter must be");
+}
+
+fn follower(found: &mut Found, i: usize, v: &Variable, surfaces: usize) {
+    let Some(follower) = v.follower else { return };
+    let (part, refusal, name) = (Part::Variable(i), Refusal::Follower, follower_name(follower));
+    found.test(follower.surface() < surfaces, refusal, part, || format!("{name}: the surface is not there: the lens has {surfaces}"));
+    let has_opposite = matches!(v.quantity, Quantity::Curvature | Quantity::Conic);
+    let good = has_opposite || matches!(follower, Follower::Plus(_));
+    found.test(good, refusal, part, || format!("{name}: only a curvature or a conic has an opposite"));
 }
 
 fn operand(found: &mut Found, i: usize, o: &Operand, slots: usize) {

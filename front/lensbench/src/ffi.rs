@@ -5,7 +5,7 @@
 use std::mem::{offset_of, size_of};
 
 /// `LENS_ABI` of the header that the records below were written from.
-pub const ABI: u32 = 4;
+pub const ABI: u32 = 5;
 /// Places of a bench.
 pub const PLACES: usize = 4;
 /// Surfaces of a job at most.
@@ -18,7 +18,7 @@ pub const VARIABLES: usize = 8;
 pub const OPERANDS: usize = 12;
 /// Numbers of scratch that a turn or a dealing takes.
 pub const SCRATCH: usize = 128;
-pub const BENCH_WORDS: usize = 2288;
+pub const BENCH_WORDS: usize = 2352;
 /// `lens_trace` answers it where nothing is refused and there is no trace.
 pub const NOT_TRACED: u32 = 100;
 
@@ -45,6 +45,8 @@ pub struct VariableRecord {
     pub min_value: f64,
     pub max_value: f64,
     pub step_size: f64,
+    pub follows: u64,
+    pub follower: u64,
 }
 
 #[repr(C)]
@@ -189,15 +191,15 @@ pub struct BenchRecord {
 
 // the header's own assertions, in its order
 const _: () = assert!(size_of::<usize>() == 8);
-const _: () = assert!(size_of::<Surface>() == 32 && size_of::<VariableRecord>() == 48 && size_of::<OperandRecord>() == 40);
-const _: () = assert!(size_of::<SettingsRecord>() == 88 && size_of::<JobRecord>() == 2016 && size_of::<RequestRecord>() == 2032);
+const _: () = assert!(size_of::<Surface>() == 32 && size_of::<VariableRecord>() == 64 && size_of::<OperandRecord>() == 40);
+const _: () = assert!(size_of::<SettingsRecord>() == 88 && size_of::<JobRecord>() == 2144 && size_of::<RequestRecord>() == 2160);
 const _: () = assert!(size_of::<ResultRecord>() == 736 && size_of::<EvaluationRecord>() == 200 && size_of::<Ray>() == 16);
 const _: () = assert!(size_of::<Interval>() == 16 && size_of::<ThicknessLimitsRecord>() == 256 && size_of::<TraceLimitsRecord>() == 528);
-const _: () = assert!(size_of::<FinishedRecord>() == 40 && size_of::<DealtRecord>() == 8 && size_of::<BenchRecord>() == 18312);
+const _: () = assert!(size_of::<FinishedRecord>() == 40 && size_of::<DealtRecord>() == 8 && size_of::<BenchRecord>() == 18824);
 // and where the parts of the larger records begin
-const _: () = assert!(offset_of!(JobRecord, indices) == 512 && offset_of!(JobRecord, variables) == 1024 && offset_of!(JobRecord, operands) == 1408);
+const _: () = assert!(offset_of!(JobRecord, indices) == 512 && offset_of!(JobRecord, variables) == 1024 && offset_of!(JobRecord, operands) == 1536);
 const _: () =
-    assert!(offset_of!(JobRecord, surface_count) == 1888 && offset_of!(JobRecord, settings) == 1928 && offset_of!(RequestRecord, kind) == 2016);
+    assert!(offset_of!(JobRecord, surface_count) == 2016 && offset_of!(JobRecord, settings) == 2056 && offset_of!(RequestRecord, kind) == 2144);
 const _: () =
     assert!(offset_of!(ResultRecord, values) == 512 && offset_of!(ResultRecord, initial_merit) == 704 && offset_of!(ResultRecord, iterations) == 720);
 

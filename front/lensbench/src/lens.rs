@@ -99,6 +99,34 @@ pub struct Variable {
     pub greatest: f64,
     /// Least step by which a derivative is taken.
     pub step: f64,
+    /// A second surface that is changed with it, if any.
+    pub follower: Option<Follower>,
+}
+
+/// A surface that gets a variable's quantity too, straight after the variable's own surface. Values are read from that one alone.
+#[derive(Clone, Copy, Debug, PartialEq, Eq)]
+pub enum Follower {
+    /// The surface with this number gets the same value.
+    Plus(usize),
+    /// The surface with this number gets the opposite: of a curvature or a conic, not of a thickness or semi-diameter.
+    Minus(usize),
+}
+
+impl Follower {
+    /// The surface's number, from 0.
+    pub fn surface(self) -> usize {
+        match self {
+            Follower::Plus(surface) | Follower::Minus(surface) => surface,
+        }
+    }
+
+    /// What the follower gets where the variable's own surface gets this.
+    pub fn value(self, of_named: f64) -> f64 {
+        match self {
+            Follower::Plus(_) => of_named,
+            Follower::Minus(_) => -of_named,
+        }
+    }
 }
 
 impl Variable {
@@ -110,12 +138,27 @@ impl Variable {
             Quantity::Conic => (-10.0, 10.0, 1e-4),
             Quantity::SemiDiameter => (0.1, 500.0, 1e-3),
         };
-        Variable { quantity, surface, enabled: true, least, greatest, step }
+        Variable { quantity, surface, enabled: true, least, greatest, step, follower: None }
     }
 
     /// The variable with these bounds. Those of a curvature are in 1/mm: they are no radii.
     pub fn between(self, least: f64, greatest: f64) -> Variable {
         Variable { least, greatest, ..self }
+    }
+
+    /// The variable with a second surface that gets the same values.
+    pub fn same_at(self, surface: usize) -> Variable {
+        Variable { follower: Some(Follower::Plus(surface)), ..self }
+    }
+
+    /// The variable with a second surface that gets the opposite values: two curvatures that are each other's mirror image.
+    pub fn opposite_at(self, surface: usize) -> Variable {
+        Variable { follower: Some(Follower::Minus(surface)), ..self }
+    }
+
+    /// The surfaces whose quantity it changes: its own, and its follower.
+    pub fn surfaces(&self) -> impl Iterator<Item = usize> {
+        [Some(self.surface), self.follower.map(Follower::surface)].into_iter().flatten()
     }
 }
 

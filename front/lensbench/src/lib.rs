@@ -49,7 +49,7 @@ pub use bench::{Bench, Place};
 pub use ffi::{Interval, ABI};
 pub use format::shortest;
 pub use job::{Annealing, Damped, Job, MultiStart, Run};
-pub use lens::{Aim, Lens, Operand, Quantity, Ray, Surface, Variable};
+pub use lens::{Aim, Follower, Lens, Operand, Quantity, Ray, Surface, Variable};
 pub use outcome::{Evaluation, Outcome, TraceLimits};
 pub use refusal::Refusal;
 

@@ -1,7 +1,7 @@
 //! Job lines: a job in one line of hexadecimal words, as the test programs of this repository and the original take it (oracle/README.md).
 use crate::job::{Annealing, Damped, Job, MultiStart, Run};
-use crate::lens::{Aim, Lens, Operand, Quantity, Surface, Variable};
-use crate::record::{aim_numbers, quantity_number};
+use crate::lens::{Aim, Follower, Lens, Operand, Quantity, Surface, Variable};
+use crate::record::{aim_numbers, follower_numbers, quantity_number};
 use std::str::SplitWhitespace;
 
 /// What is asked of a line's job.
@@ -47,6 +47,7 @@ impl Line {
         words.extend(job.lens.indices.iter().flatten().map(|n| bits(*n)));
         words.extend(["P".into(), bits(job.lens.pupil_mm), "V".into(), job.variables.len().to_string()]);
         words.extend(job.variables.iter().map(variable_text));
+        words.extend(followers_text(&job.variables));
         words.extend(["O".into(), job.operands.len().to_string()]);
         words.extend(job.operands.iter().map(operand_text));
         words.push("C".into());
@@ -85,6 +86,9 @@ impl Line {
     }
 }
 
+/// The letter before the followers, which a line may do without.
+const FOLLOWERS: &str = "F";
+
 /// What stands for a setting that is left out.
 const LEFT_OUT: &str = "d";
 
@@ -106,6 +110,21 @@ fn damped_text(d: &Damped) -> Vec<String> {
 
 fn variable_text(v: &Variable) -> String {
     format!("{} {} {} {} {} {}", quantity_number(v.quantity), v.surface, v.enabled as u8, bits(v.least), bits(v.greatest), bits(v.step))
+}
+
+/// The section F, which is there where some variable has a follower.
+fn followers_text(variables: &[Variable]) -> Vec<String> {
+    let followed = variables.iter().enumerate().filter(|(_, v)| v.follower.is_some());
+    let texts: Vec<String> = followed
+        .map(|(i, v)| {
+            let (sign, surface) = follower_numbers(v.follower);
+            format!("{i} {sign} {surface}")
+        })
+        .collect();
+    if texts.is_empty() {
+        return texts;
+    }
+    [vec![FOLLOWERS.into(), texts.len().to_string()], texts].concat()
 }
 
 fn operand_text(o: &Operand) -> String {
@@ -166,6 +185,7 @@ impl<'a> Reader<'a> {
         for _ in 0..self.size("the number of variables")? {
             job.variables.push(self.variable()?);
         }
+        self.followers(&mut job.variables)?;
         self.tag("O")?;
         for _ in 0..self.size("the number of operands")? {
             job.operands.push(self.operand()?);
@@ -211,7 +231,27 @@ impl<'a> Reader<'a> {
             1 => true,
             other => return Err(format!("a variable's mark is 0 or 1, not {other}")),
         };
-        Ok(Variable { quantity, surface, enabled, least: self.float("a bound")?, greatest: self.float("a bound")?, step: self.float("a step")? })
+        let [least, greatest, step] = [self.float("a bound")?, self.float("a bound")?, self.float("a step")?];
+        Ok(Variable { quantity, surface, enabled, least, greatest, step, follower: None })
+    }
+
+    fn followers(&mut self, variables: &mut [Variable]) -> Result<(), String> {
+        if self.words.clone().next() != Some(FOLLOWERS) {
+            return Ok(());
+        }
+        self.tag(FOLLOWERS)?;
+        for _ in 0..self.size("the number of followers")? {
+            let at = self.size("a follower's variable")?;
+            let variable = variables.get_mut(at).ok_or_else(|| format!("a follower's variable {at} is not there"))?;
+            let sign = self.whole("a follower's sign")?;
+            let of_sign = match sign {
+                1 => Follower::Plus,
+                2 => Follower::Minus,
+                other => return Err(format!("a follower's sign is 1 or 2, not {other}")),
+            };
+            variable.follower = Some(of_sign(self.size("a follower's surface")?));
+        }
+        Ok(())
     }
 
     fn operand(&mut self) -> Result<Operand, String> {

@@ -1,7 +1,7 @@
 //! Jobs as the records that the calls take.
 use crate::ffi::{JobRecord, OperandRecord, RequestRecord, SettingsRecord, VariableRecord, OPERANDS, SLOTS, SURFACES, VARIABLES};
 use crate::job::{Annealing, Damped, Job, MultiStart, Run};
-use crate::lens::{Aim, Lens, Operand, Quantity, Variable};
+use crate::lens::{Aim, Follower, Lens, Operand, Quantity, Variable};
 use crate::refusal::Refusal;
 
 /// The request of a job. Counts past the limits go to the call as they are, for it to refuse; what does not fit is not looked at.
@@ -68,7 +68,17 @@ pub fn quantity_number(quantity: Quantity) -> u64 {
     }
 }
 
+/// The sign of a follower and its surface, as the header and job lines have them; 0 and 0 where there is none.
+pub fn follower_numbers(follower: Option<Follower>) -> (u64, u64) {
+    match follower {
+        None => (0, 0),
+        Some(Follower::Plus(surface)) => (1, surface as u64),
+        Some(Follower::Minus(surface)) => (2, surface as u64),
+    }
+}
+
 fn variable(v: &Variable) -> VariableRecord {
+    let (follows, follower) = follower_numbers(v.follower);
     VariableRecord {
         kind: quantity_number(v.quantity),
         surface_index: v.surface as u64,
@@ -76,6 +86,8 @@ fn variable(v: &Variable) -> VariableRecord {
         min_value: v.least,
         max_value: v.greatest,
         step_size: v.step,
+        follows,
+        follower,
     }
 }
 

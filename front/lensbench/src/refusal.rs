@@ -1,7 +1,7 @@
 //! Why a call was turned down.
 use std::fmt;
 
-/// The reason for which a call was turned down: the lowest number that applies. Nothing has changed then.
+/// The reason for which a call was turned down: the first that applies. Nothing has changed then.
 #[derive(Clone, Copy, Debug, PartialEq, Eq, Hash)]
 #[non_exhaustive]
 pub enum Refusal {
@@ -33,14 +33,16 @@ pub enum Refusal {
     Finished,
     /// 14: the job is not at its end.
     Unfinished,
+    /// 17: a variable's follower.
+    Follower,
     /// 19: the limits of a trace within limits.
     ThicknessLimits,
     /// A number that this crate has no name for.
     Unlisted(u32),
 }
 
-/// In the order of their numbers: from 1 upward, and 19 behind 14.
-const LISTED: [Refusal; 15] = [
+/// In the order of their numbers: from 1 upward, and 17 and 19 behind 14.
+const LISTED: [Refusal; 16] = [
     Refusal::Counts,
     Refusal::NoSuchPlace,
     Refusal::Lens,
@@ -55,10 +57,12 @@ const LISTED: [Refusal; 15] = [
     Refusal::Damaged,
     Refusal::Finished,
     Refusal::Unfinished,
+    Refusal::Follower,
     Refusal::ThicknessLimits,
 ];
 
-/// The number of the last, which does not follow on the one before it.
+/// The numbers of the last two, which do not follow on those before them.
+const FOLLOWER: u32 = 17;
 const THICKNESS_LIMITS: u32 = 19;
 
 impl Refusal {
@@ -71,6 +75,7 @@ impl Refusal {
     pub fn number(self) -> u32 {
         match self {
             Refusal::Unlisted(number) => return number,
+            Refusal::Follower => return FOLLOWER,
             Refusal::ThicknessLimits => return THICKNESS_LIMITS,
             _ => {}
         }
@@ -108,6 +113,7 @@ impl Refusal {
             Refusal::Damaged => "what the place, or for a dealing some place, holds was not left there by the bench's calls; it can be released",
             Refusal::Finished => "the job is at its end and can be fetched",
             Refusal::Unfinished => "the job is not at its end yet",
+            Refusal::Follower => "a variable's follower is a surface that is there, and one with the opposite value is of a curvature or a conic",
             Refusal::ThicknessLimits => "a trace within limits has two surfaces or more, limits that are finite and not crossed, and no end that overflows",
             Refusal::Unlisted(_) => "a number that this version has no name for",
         }

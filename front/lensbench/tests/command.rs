@@ -120,7 +120,13 @@ fn a_typo_in_each_field() {
         (6, "vary curvatur 1 from 0.001 to 0.1", "did you mean `curvature`?"),
         (6, "vary curvature 0 from 0.001 to 0.1", "surfaces are numbered from 1"),
         (6, "vary curvature one", "`one` is no surface's number"),
-        (6, "vary curvature 1 form 0.001 to 0.1", "`form` is none of from, to, step, off"),
+        (6, "vary curvature 1 form 0.001 to 0.1", "`form` is none of from, to, step, same-at, opposite-at, off"),
+        (6, "vary curvature 1 opposite 2", "`opposite` is none of from, to, step, same-at, opposite-at, off"),
+        (6, "vary curvature 1 opposite-at", "the surface's number is missing"),
+        (6, "vary curvature 1 opposite-at 0", "surfaces are numbered from 1"),
+        (6, "vary curvature 1 opposite-at -2", "`-2` is no surface's number"),
+        (6, "vary curvature 1 same-at 1 same-at 2", "`same-at` is there twice"),
+        (6, "vary curvature 1 same-at 1 opposite-at 2", "a variable has same-at or opposite-at, and not both"),
         (6, "vary curvature 1 from 0.001 to", "`to` has no number behind it"),
         (6, "vary curvature 1 from 0.00l", "from: `0.00l` is no number"),
         (6, "vary curvature 1 from 0.1 from 0.2", "`from` is there twice"),
@@ -204,6 +210,8 @@ fn refusals_with_their_lines() {
         (3, "pupil -1", "-:3: refused with 3: pupil -1 is not above 0 and up to 1e9"),
         (4, "surface nan 4 12 0 1.52 1.51 11", "-:4: refused with 3: index 11 of surface 1 in slot 3 is not above 0 and up to 10"),
         (6, "vary curvature 9 from 2 to 1", "-:6: refused with 4: from 2 is above to 1"),
+        (6, "vary curvature 1 same-at 3", "-:6: refused with 17: same-at 3: the surface is not there: the lens has 2"),
+        (6, "vary thickness 1 opposite-at 2", "-:6: refused with 17: opposite-at 2: only a curvature or a conic has an opposite"),
         (7, "want focal-length 4 target 1e10", "-:7: refused with 5: slot 4 is not there: the job has 3"),
         (10, "run multi-start trials 1001", "-:10: refused with 6: trials 1001 is above 1000"),
         (6, "vary curvature 1 off", "-:1: refused with 7: no variable is enabled"),
@@ -231,6 +239,13 @@ fn warnings() {
         ("vary curvature 1 from 20 to 100", "-:6: warning: bounds 20 to 100 look like radii"),
         ("vary curvature 1 from 0.1 to 0.2", "-:6: warning: curvature of surface 1 starts at 0.016666666666666666, outside its bounds 0.1 to 0.2"),
         ("vary thickness 1 from 4 to 4", "-:6: warning: thickness of surface 1 cannot move"),
+        ("vary curvature 1 same-at 1", "-:6: warning: same-at 1 is the variable's own surface: it changes nothing"),
+        ("vary curvature 1 opposite-at 1", "-:6: warning: opposite-at 1 is the variable's own surface: it leaves the opposite of each value there"),
+        ("vary thickness 1 same-at 2", "-:6: warning: same-at 2: thickness of surface 2 starts at 0, and not at 4"),
+        (
+            "vary curvature 1\nvary curvature 2 opposite-at 1",
+            "-:7: warning: curvature of surface 1 is varied twice: the later line has the last word",
+        ),
     ];
     for (line, what) in cases {
         let (status, out, err) = lensbench(&["check", "-"], GOOD.replace("vary curvature 1 from 0.001 to 0.1 step 1e-6", line));

@@ -6,7 +6,7 @@ use lensbench::*;
 
 /// Where the rows and the next place stand in saved bytes, and how long a row is; its second word is its turns.
 const ROWS: usize = 16;
-const ROW: usize = 18304 / 4;
+const ROW: usize = 18816 / 4;
 const NEXT: usize = ROWS + 4 * ROW;
 
 fn turns_of(bench: &Bench, place: usize) -> u64 {

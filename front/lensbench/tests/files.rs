@@ -4,7 +4,7 @@ mod common;
 use common::{faulty, job, Dice};
 use lensbench::jobfile::{read, write, Entry, Lines};
 use lensbench::lines::{Call, Line};
-use lensbench::{shortest, Job};
+use lensbench::{shortest, Job, Quantity, Variable};
 
 fn entry(job: Job) -> Entry {
     let slots = (1..=job.lens.slots).map(|w| format!("w{w}")).collect();
@@ -59,4 +59,30 @@ fn lines_out_of_form() {
     }
     assert!(Line::of_text(&format!("{good} 0")).unwrap_err().contains("one word too many"));
     assert!(Line::of_text(&good.replacen("J", "K", 1)).is_err());
+}
+
+#[test]
+fn followers_in_lines_and_files() {
+    let mut job = job(&mut Dice(3));
+    job.variables = vec![
+        Variable::new(Quantity::Curvature, 0).opposite_at(1),
+        Variable::new(Quantity::Thickness, 1),
+        Variable::new(Quantity::Conic, 1).same_at(0),
+    ];
+    let line = text(&job);
+    assert!(line.contains(" F 2 0 2 1 2 1 0 O "), "{line}");
+    assert_eq!(Line::of_text(&line).unwrap().job, job);
+    // a section without an entry is taken, and one of a variable that is not there, or of a sign that is none, is out of form
+    assert_eq!(Line::of_text(&line.replace(" F 2 0 2 1 2 1 0 ", " F 0 ")).unwrap().job.variables[0].follower, None);
+    for (odd, what) in
+        [(" F 1 3 1 0 ", "a follower's variable 3 is not there"), (" F 1 0 0 0 ", "a follower's sign is 1 or 2, not 0"), (" F 1 0 3 0 ", "not 3")]
+    {
+        let said = Line::of_text(&line.replace(" F 2 0 2 1 2 1 0 ", odd)).unwrap_err();
+        assert!(said.contains(what), "{said}");
+    }
+    let file = write(&entry(job.clone()));
+    for said in [" opposite-at 2\n", " same-at 1\n"] {
+        assert!(file.contains(said), "{file}");
+    }
+    assert_eq!(read(&file).unwrap()[0].job, job);
 }

@@ -51,6 +51,7 @@ fn limits_and_numbers() {
         ("LENS_DAMAGED", Refusal::Damaged),
         ("LENS_FINISHED", Refusal::Finished),
         ("LENS_UNFINISHED", Refusal::Unfinished),
+        ("LENS_BAD_FOLLOWER", Refusal::Follower),
         ("LENS_BAD_LIMITS", Refusal::ThicknessLimits),
     ];
     for (name, refusal) in by_name {
@@ -63,10 +64,10 @@ fn limits_and_numbers() {
 #[test]
 fn sizes() {
     let text = header();
-    for (name, size) in [("Surface", 32), ("Variable", 48), ("Operand", 40), ("Settings", 88), ("Job", 2016), ("Request", 2032), ("Result", 736)] {
+    for (name, size) in [("Surface", 32), ("Variable", 64), ("Operand", 40), ("Settings", 88), ("Job", 2144), ("Request", 2160), ("Result", 736)] {
         assert!(text.contains(&format!("sizeof(Lens{name}) == {size}")), "{name}");
     }
-    for (name, size) in [("Evaluation", 200), ("Ray", 16), ("Finished", 40), ("Dealt", 8), ("Bench", 18312)] {
+    for (name, size) in [("Evaluation", 200), ("Ray", 16), ("Finished", 40), ("Dealt", 8), ("Bench", 18824)] {
         assert!(text.contains(&format!("sizeof(Lens{name}) == {size}")), "{name}");
     }
 }

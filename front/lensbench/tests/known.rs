@@ -128,6 +128,63 @@ fn small_curvatures() {
     assert_eq!(drawn(Quantity::Curvature, 1e-12, 1e-12, want, 1).radius_mm, 1e12);
 }
 
+/// Request 9: what is drawn for one surface, and what its follower gets.
+fn drawn_pair(variable: Variable, want: Operand) -> [Surface; 2] {
+    let local = Damped { max_iterations: Some(0), ..Damped::default() };
+    let job = Job::new(known_lens()).vary(variable).want(want);
+    let (out, turns) = played(&job.run(Run::MultiStart(MultiStart { local, trials: Some(1), seed: Some(1) })));
+    assert_eq!((turns, out.surfaces.len()), (2, 2));
+    [out.surfaces[0], out.surfaces[1]]
+}
+
+#[test]
+fn followers() {
+    let curvature = |c: f64| Variable::new(Quantity::Curvature, 0).between(c, c);
+    let radii = |variable: Variable, want: Operand| drawn_pair(variable, want).map(|s| s.radius_mm);
+    // radius 8 and its mirror image have focal length 8, which is nearer to 0 than 64
+    let near = Operand::new(Aim::FocalLength { slot: 0 }, 0.0);
+    assert_eq!(radii(curvature(0.125).opposite_at(1), near), [8.0, -8.0]);
+    let no_power = Operand::new(Aim::FocalLength { slot: 0 }, 10_000.0);
+    assert_eq!(radii(curvature(-1e-13).opposite_at(1), no_power), [f64::INFINITY; 2]);
+    assert_eq!(radii(curvature(0.0).opposite_at(1), no_power), [f64::INFINITY; 2]);
+    // the clamped value, and no other quantity
+    let thickness = Variable::new(Quantity::Thickness, 0).between(2.0, 2.0).same_at(1);
+    let pair = drawn_pair(thickness, Operand::new(Aim::Track, 0.0));
+    assert_eq!(pair.map(|s| (s.thickness_mm, s.semi_diameter_mm)), [(2.0, 10.0); 2]);
+    // the surface itself: plus changes nothing, minus leaves the negated value
+    assert_eq!(radii(curvature(0.125).same_at(0), near)[0], 8.0);
+    assert_eq!(radii(curvature(0.125).opposite_at(0), Operand::new(Aim::FocalLength { slot: 0 }, -8.0))[0], -8.0);
+}
+
+/// A lens that is its own mirror image stays so, to the bit, in each of the three runs; and one that is not is handed back as it is where no step is taken.
+#[test]
+fn a_symmetric_lens_stays_symmetric() {
+    let lens = Lens::new(1, 4.0)
+        .surface(Surface::sphere(30.0, 4.0, 10.0).conic(-0.5), &[1.6])
+        .surface(Surface::sphere(-200.0, 6.0, 10.0), &[1.0])
+        .surface(Surface::sphere(200.0, 4.0, 10.0), &[1.6])
+        .surface(Surface::sphere(-30.0, 0.0, 10.0).conic(-0.5), &[1.0]);
+    let job = Job::new(lens)
+        .vary(Variable::new(Quantity::Curvature, 0).between(-0.05, 0.05).opposite_at(3))
+        .vary(Variable::new(Quantity::Curvature, 1).between(-0.05, 0.05).opposite_at(2))
+        .vary(Variable::new(Quantity::Thickness, 0).between(2.0, 9.0).same_at(2))
+        .vary(Variable::new(Quantity::Conic, 0).between(-2.0, 1.0).same_at(3))
+        .want(Operand::new(Aim::FocalLength { slot: 0 }, 40.0))
+        .want(Operand::new(Aim::BackFocus { slot: 0 }, 31.0))
+        .want(Operand::new(Aim::LeastEdgeThickness { surface: 0, limit_mm: 1.5 }, 0.0));
+    for run in [Run::Damped(Damped::default()), Run::MultiStart(MultiStart::default()), Run::Annealing(Annealing::default())] {
+        let (out, _) = played(&job.clone().run(run));
+        let [a, b, c, d] = out.surfaces[..] else { panic!("four surfaces") };
+        assert!(out.final_merit < out.first_merit || out.first_merit == 0.0, "{run:?}");
+        assert_eq!([a.radius_mm, b.radius_mm].map(f64::to_bits), [-d.radius_mm, -c.radius_mm].map(f64::to_bits), "{run:?}");
+        assert_eq!([a.thickness_mm, a.conic_constant].map(f64::to_bits), [c.thickness_mm, d.conic_constant].map(f64::to_bits), "{run:?}");
+        assert_eq!((b.thickness_mm, d.thickness_mm, b.conic_constant, c.conic_constant), (6.0, 0.0, 0.0, 0.0));
+    }
+    let mut apart = job.run(Run::Damped(Damped { max_iterations: Some(0), ..Damped::default() }));
+    apart.lens.surfaces[3].radius_mm = -31.0;
+    assert_eq!(played(&apart).0.surfaces, apart.lens.surfaces);
+}
+
 #[test]
 fn naming_a_default_makes_the_same_job() {
     let runs = [

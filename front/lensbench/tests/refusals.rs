@@ -31,11 +31,37 @@ fn by_input() {
     assert_eq!(number(|j| j.lens.pupil_mm = 0.0), 3);
     assert_eq!(number(|j| j.lens.surfaces[1].thickness_mm = 2e9), 3);
     assert_eq!(number(|j| j.variables[0].surface = 2), 4);
+    assert_eq!(number(|j| j.variables[0] = j.variables[0].same_at(2)), 17);
+    assert_eq!(number(|j| j.variables[0] = Variable::new(Quantity::Thickness, 0).opposite_at(1)), 17);
+    assert_eq!(number(|j| j.variables[0] = Variable { enabled: false, ..Variable::new(Quantity::SemiDiameter, 0).opposite_at(0) }), 17);
     assert_eq!(number(|j| j.operands[0].weight = -1.0), 5);
     assert_eq!(number(|j| j.run = Run::Damped(Damped { max_iterations: Some(1001), ..Damped::default() })), 6);
     assert_eq!(number(|j| j.variables[0].enabled = false), 7);
     assert_eq!(number(|j| j.operands.clear()), 8);
     assert_eq!(Bench::new().admit(Place(4), &good()), Err(Refusal::NoSuchPlace));
+}
+
+/// 17 stands behind 4 and before 5, over the whole job.
+#[test]
+fn a_follower_between_variable_and_operand() {
+    let bad = |j: &mut Job| j.variables[0] = j.variables[0].same_at(9);
+    let crossed = |j: &mut Job| j.variables.push(Variable::new(Quantity::Conic, 1).between(1.0, 0.0));
+    let beside = |other: &dyn Fn(&mut Job)| {
+        number(|j| {
+            bad(j);
+            other(j);
+        })
+    };
+    assert_eq!((beside(&|j| j.lens.pupil_mm = 0.0), beside(&crossed)), (3, 4));
+    assert_eq!((beside(&|j| j.operands[0].weight = -1.0), beside(&|j| j.operands.clear())), (17, 17));
+    let mut job = good();
+    bad(&mut job);
+    crossed(&mut job);
+    job.operands[0].weight = -1.0;
+    assert_eq!(causes(&job).iter().map(|cause| cause.refusal.number()).collect::<Vec<_>>(), [4, 17, 5]);
+    assert_eq!(Bench::new().admit(Place(4), &job), Err(Refusal::NoSuchPlace));
+    // an evaluation looks at no variable
+    assert_eq!(Job { operands: good().operands, ..job }.evaluate().map(|_| ()), Ok(()));
 }
 
 #[test]
@@ -65,7 +91,7 @@ fn damage() {
     bench.admit(Place(0), &good()).unwrap();
     let mut bytes = bench.saved();
     // a whole place of ones: its job is none that could have been admitted
-    bytes[16..16 + 18304 / 4].fill(0xff);
+    bytes[16..16 + 18816 / 4].fill(0xff);
     let mut bench = Bench::restored(&bytes).unwrap();
     assert_eq!(bench.turn(Place(0)), Err(Refusal::Damaged));
     assert_eq!(bench.fetch(Place(0)), Err(Refusal::Damaged));
@@ -100,7 +126,7 @@ fn scratch_is_left_zero_and_the_rest_untouched() {
 
 #[test]
 fn numbers_names_and_sentences() {
-    let numbers: Vec<u32> = (1..=14).chain([19]).collect();
+    let numbers: Vec<u32> = (1..=14).chain([17, 19]).collect();
     assert_eq!(Refusal::listed().len(), numbers.len());
     for (number, refusal) in numbers.into_iter().zip(Refusal::listed()) {
         assert_eq!(refusal.number(), number);
@@ -110,11 +136,11 @@ fn numbers_names_and_sentences() {
     assert_eq!((Refusal::of_number(0), Refusal::of_number(15)), (None, Some(Refusal::Unlisted(15))));
 }
 
-/// What `causes` finds is what the bench refuses: the lowest number is the same, for every job.
+/// What `causes` finds is what the bench refuses: the first is the same, for every job.
 #[test]
 fn causes_are_the_benchs() {
     let mut dice = Dice(0x5eed);
-    let mut seen = [0usize; 15];
+    let mut seen = [0usize; 20];
     for i in 0..20_000 {
         let job = if i % 4 == 0 { job(&mut dice) } else { faulty(&mut dice) };
         let number = Bench::new().admit(Place(0), &job).map_or_else(Refusal::number, |()| 0);
@@ -124,7 +150,7 @@ fn causes_are_the_benchs() {
         assert_eq!(causes_of_evaluation(&job).first().map_or(0, |cause| cause.refusal.number()), evaluated, "{job:?}");
         seen[number as usize] += 1;
     }
-    for number in [0, 1, 3, 4, 5, 6, 7, 8] {
+    for number in [0, 1, 3, 4, 5, 6, 7, 8, 17] {
         assert!(seen[number] > 100, "number {number} came {} times", seen[number]);
     }
 }

@@ -69,7 +69,7 @@ fn the_crate_answers_the_oracles_jobs_as_replay_does() {
         return;
     }
     for mode in ["gen", "genfaults"] {
-        for profile in ["damped", "multi", "anneal", "eval", "trace"] {
+        for profile in ["damped", "multi", "anneal", "eval", "trace", "followers-damped", "followers-multi", "followers-anneal"] {
             let made = Command::new(&oracle).args([mode, "31", "700", profile]).output().unwrap();
             let text = String::from_utf8(made.stdout).unwrap();
             let lines: Vec<Line> = text.lines().map(|line| Line::of_text(line).unwrap()).collect();

@@ -1,5 +1,5 @@
 //! One line of a job: slots, surface, vary, want.
-use super::names::{AIMS, QUANTITIES};
+use super::names::{AIMS, OF_VARIABLE, QUANTITIES};
 use super::words::{number, number_or, Words};
 use crate::format::counted;
 use crate::lens::{Aim, Operand, Quantity, Surface, Variable};
@@ -68,7 +68,7 @@ fn listed(slots: &[String]) -> String {
     }
 }
 
-/// Quantity and surface, then `from`, `to`, `step` with a number each, and `off`.
+/// Quantity and surface, then `from`, `to`, `step` with a number each, `same-at` or `opposite-at` with a surface, and `off`.
 pub fn variable(mut words: Words) -> Result<Variable, String> {
     let quantity = Quantity::ALL[words.one_of("quantity to vary", &QUANTITIES)?];
     let mut variable = Variable::new(quantity, words.surface()?);
@@ -79,11 +79,20 @@ pub fn variable(mut words: Words) -> Result<Variable, String> {
             "from" => variable.least = words.number_after(word)?,
             "to" => variable.greatest = words.number_after(word)?,
             "step" => variable.step = words.number_after(word)?,
+            "same-at" | "opposite-at" => variable = followed(variable, word, words.surface()?)?,
             "off" => variable.enabled = false,
-            _ => return Err(format!("`{word}` is none of from, to, step, off")),
+            _ => return Err(format!("`{word}` is none of {}", OF_VARIABLE.join(", "))),
         }
     }
     Ok(variable)
+}
+
+fn followed(variable: Variable, word: &str, surface: usize) -> Result<Variable, String> {
+    match word {
+        _ if variable.follower.is_some() => Err("a variable has same-at or opposite-at, and not both".to_string()),
+        "same-at" => Ok(variable.same_at(surface)),
+        _ => Ok(variable.opposite_at(surface)),
+    }
 }
 
 /// What is looked at, then `target` and `weight` with a number each.

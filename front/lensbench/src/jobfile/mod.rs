@@ -24,7 +24,7 @@ mod settings;
 mod words;
 mod write;
 
-pub use names::{aim_name, quantity_name, run_name};
+pub use names::{aim_name, follower_name, quantity_name, run_name};
 pub use read::read;
 pub use write::write;
 

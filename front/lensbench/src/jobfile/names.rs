@@ -1,9 +1,10 @@
 //! The words of job files, each in one place.
 use crate::job::Run;
-use crate::lens::{Aim, Quantity};
+use crate::lens::{Aim, Follower, Quantity};
 
 pub const KEYWORDS: [&str; 7] = ["job", "slots", "pupil", "surface", "vary", "want", "run"];
 pub const QUANTITIES: [&str; 4] = ["curvature", "thickness", "conic", "semi-diameter"];
+pub const OF_VARIABLE: [&str; 6] = ["from", "to", "step", "same-at", "opposite-at", "off"];
 pub const AIMS: [&str; 8] =
     ["focal-length", "f-number", "track", "back-focus", "magnification", "centre-at-least", "centre-at-most", "edge-at-least"];
 pub const RUNS: [&str; 3] = ["damped", "multi-start", "annealing"];
@@ -17,6 +18,15 @@ pub const ONE_SLOT: &str = "d";
 pub fn quantity_name(quantity: Quantity) -> &'static str {
     let at = Quantity::ALL.iter().position(|&q| q == quantity).unwrap_or(0);
     QUANTITIES[at]
+}
+
+/// A follower as it is written behind a variable.
+pub fn follower_name(follower: Follower) -> String {
+    let word = match follower {
+        Follower::Plus(_) => OF_VARIABLE[3],
+        Follower::Minus(_) => OF_VARIABLE[4],
+    };
+    format!("{word} {}", follower.surface() as u128 + 1)
 }
 
 /// A run as it is written after `run`.

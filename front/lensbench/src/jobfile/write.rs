@@ -1,5 +1,5 @@
 //! A job as a file that reads back to the same bits.
-use super::names::{aim_name, quantity_name, run_name};
+use super::names::{aim_name, follower_name, quantity_name, run_name};
 use super::Entry;
 use crate::format::shortest;
 use crate::job::{Annealing, Damped, Run};
@@ -40,8 +40,9 @@ fn surface(s: &Surface, indices: &[f64]) -> String {
 
 fn variable(v: &Variable) -> String {
     let off = if v.enabled { "" } else { " off" };
+    let follower = v.follower.map_or(String::new(), |follower| format!(" {}", follower_name(follower)));
     let [least, greatest, step] = [v.least, v.greatest, v.step].map(shortest);
-    format!("vary {} {} from {least} to {greatest} step {step}{off}", quantity_name(v.quantity), v.surface as u128 + 1)
+    format!("vary {} {} from {least} to {greatest} step {step}{follower}{off}", quantity_name(v.quantity), v.surface as u128 + 1)
 }
 
 fn operand(o: &Operand, slots: &[String]) -> String {

@@ -1,7 +1,7 @@
 //! What the tests share: a small generator, random jobs, and answers as the program `replay` writes them.
 #![allow(dead_code, clippy::unwrap_used, clippy::expect_used)]
 use lensbench::lines::{bits, Call, Line};
-use lensbench::{Aim, Annealing, Bench, Damped, Job, Lens, MultiStart, Operand, Place, Quantity, Refusal, Run, Surface, Variable};
+use lensbench::{Aim, Annealing, Bench, Damped, Follower, Job, Lens, MultiStart, Operand, Place, Quantity, Refusal, Run, Surface, Variable};
 use std::io::Write;
 use std::path::PathBuf;
 use std::process::{Command, Output, Stdio};
@@ -79,9 +79,16 @@ fn variable(d: &mut Dice, lens: &Lens) -> Variable {
         d.pick(&[Quantity::Curvature, Quantity::Curvature, Quantity::Thickness, Quantity::Thickness, Quantity::Conic, Quantity::SemiDiameter]);
     let mut variable = Variable::new(quantity, d.below(lens.surfaces.len().max(1)));
     variable.enabled = !d.chance(8);
-    match quantity {
+    let variable = match quantity {
         Quantity::Curvature => variable.between(d.between(-0.1, 0.0), d.between(0.0, 0.1)),
         Quantity::Thickness => variable.between(d.between(0.0, 2.0), d.between(2.0, 30.0)),
+        _ => variable,
+    };
+    let at = d.below(lens.surfaces.len().max(1));
+    let has_opposite = matches!(quantity, Quantity::Curvature | Quantity::Conic);
+    match d.below(6) {
+        0 if has_opposite => variable.opposite_at(at),
+        0 | 1 => variable.same_at(at),
         _ => variable,
     }
 }
@@ -157,7 +164,7 @@ pub fn faulty(d: &mut Dice) -> Job {
     let mut job = job(d);
     let odd = d.pick(&ODD);
     let (s, v, o) = (d.below(job.lens.surfaces.len().max(1)), d.below(job.variables.len()), d.below(job.operands.len()));
-    let (slots, kinds) = (job.lens.slots, d.below(20));
+    let (slots, kinds) = (job.lens.slots, d.below(21));
     if let (Some(surface), Some(indices)) = (job.lens.surfaces.get_mut(s), job.lens.indices.get_mut(s)) {
         match kinds {
             0 => surface.radius_mm = odd,
@@ -186,6 +193,7 @@ pub fn faulty(d: &mut Dice) -> Job {
         16 => job.variables = vec![job.variables[v]; 7 + d.below(4)],
         17 => job.operands = vec![job.operands[o]; 11 + d.below(4)],
         18 => job.lens = wider(&job.lens, 13 + d.below(6)),
+        19 => job.variables[v].follower = Some(d.pick(&[Follower::Plus(16), Follower::Minus(usize::MAX), Follower::Minus(s)])),
         _ => job.run = odd_run(d, odd),
     }
     job

@@ -3,8 +3,8 @@ use super::out::say;
 use super::report::line_of;
 use super::source::Source;
 use lensbench::causes::Part;
-use lensbench::jobfile::quantity_name;
-use lensbench::{shortest, Aim, Job, Operand, Quantity, Run, Variable};
+use lensbench::jobfile::{follower_name, quantity_name};
+use lensbench::{shortest, Aim, Follower, Job, Operand, Quantity, Run, Variable};
 
 /// Warnings on standard error, each with its line; answers how many.
 pub fn print(source: &Source) -> usize {
@@ -51,7 +51,7 @@ fn local_iterations(run: &Run) -> Option<u64> {
 
 fn of_variable(job: &Job, i: usize, v: &Variable) -> Vec<String> {
     let mut found = Vec::new();
-    let name = format!("{} of surface {}", quantity_name(v.quantity), v.surface as u128 + 1);
+    let name = name_of(v.quantity, v.surface);
     let (least, greatest) = (shortest(v.least), shortest(v.greatest));
     if v.quantity == Quantity::Curvature && v.least.abs().max(v.greatest.abs()) > 1.0 {
         let example = shortest(1.0 / v.least.abs().max(v.greatest.abs()));
@@ -65,14 +65,32 @@ fn of_variable(job: &Job, i: usize, v: &Variable) -> Vec<String> {
         found.push(format!("{name} cannot move: both its bounds are {least}"));
     }
     let of_edges = matches!(v.quantity, Quantity::Conic | Quantity::SemiDiameter);
-    if v.enabled && starts.is_some() && of_edges && !job.operands.iter().any(|o| at_edge(o, v.surface)) {
+    if v.enabled && starts.is_some() && of_edges && !job.operands.iter().any(|o| v.surfaces().any(|surface| at_edge(o, surface))) {
         found.push(format!("no operand depends on the {name}: it has a part in the edges before and behind it alone (edge-at-least)"));
     }
-    let earlier = job.variables[..i].iter().any(|w| w.enabled && v.enabled && w.quantity == v.quantity && w.surface == v.surface);
-    if earlier {
-        found.push(format!("{name} is varied twice: the later line has the last word"));
+    found.extend(v.follower.and_then(|follower| of_follower(job, v, follower)));
+    let earlier = |surface: usize| job.variables[..i].iter().any(|w| w.enabled && w.quantity == v.quantity && w.surfaces().any(|of| of == surface));
+    for surface in v.surfaces().filter(|&surface| v.enabled && earlier(surface)) {
+        found.push(format!("{} is varied twice: the later line has the last word", name_of(v.quantity, surface)));
     }
     found
+}
+
+fn name_of(quantity: Quantity, surface: usize) -> String {
+    format!("{} of surface {}", quantity_name(quantity), surface as u128 + 1)
+}
+
+/// A follower that is the surface itself, or that the lens as given does not have where its variable would put it: such a lens stays if no step is taken.
+fn of_follower(job: &Job, v: &Variable, follower: Follower) -> Option<String> {
+    let name = follower_name(follower);
+    if follower.surface() == v.surface {
+        let effect = if follower == Follower::Plus(v.surface) { "changes nothing" } else { "leaves the opposite of each value there" };
+        return Some(format!("{name} is the variable's own surface: it {effect}"));
+    }
+    let at = |surface: usize| job.lens.surfaces.get(surface).map(|s| v.quantity.of(s));
+    let (due, is) = (follower.value(at(v.surface)?), at(follower.surface())?);
+    let apart = v.enabled && due != is;
+    apart.then(|| format!("{name}: {} starts at {}, and not at {}", name_of(v.quantity, follower.surface()), shortest(is), shortest(due)))
 }
 
 /// Whether an operand looks at an edge that a surface is one side of.
