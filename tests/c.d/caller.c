@@ -1,4 +1,4 @@
-/* What the header promises a caller beside the answers: names of their own, a zeroed request, and how much stack the calls take.
+/* What the header promises a caller beside the answers: names of their own, a zeroed request, followers, and how much stack the calls take.
    Ends with status 1, and says why, where something does not hold. */
 #define _POSIX_C_SOURCE 200809L
 #include "lensbench.h"

@@ -23,7 +23,7 @@ fn folder(name: &str) -> PathBuf {
 /// The merit that a table prints is exactly that of the lens that it prints.
 #[test]
 fn what_is_printed_beside_a_merit_has_that_merit() {
-    for name in ["singlet.lens", "achromat.lens", "triplet.lens", "scanner.lens"] {
+    for name in ["singlet.lens", "achromat.lens", "loupe.lens", "triplet.lens", "scanner.lens"] {
         let (status, out, err) = lensbench(&["run", &example(name)], "");
         assert_eq!((status, err.as_str()), (0, ""), "{name}");
         let job = job(name);
@@ -367,16 +367,16 @@ fn pictures() {
 
 #[test]
 fn lines_and_back() {
-    let files: Vec<String> = ["singlet.lens", "achromat.lens", "triplet.lens", "scanner.lens"].map(example).to_vec();
+    let files: Vec<String> = ["singlet.lens", "achromat.lens", "loupe.lens", "triplet.lens", "scanner.lens"].map(example).to_vec();
     let words: Vec<&str> = ["convert", "--to-line"].into_iter().chain(files.iter().map(String::as_str)).collect();
     let (status, lines, _) = lensbench(&words, "");
-    assert_eq!((status, lines.lines().count()), (0, 4));
+    assert_eq!((status, lines.lines().count()), (0, 5));
     let (status, text, _) = lensbench(&["convert", "--from-line", "-"], &lines);
     let jobs: Vec<Job> = read(&text).unwrap().into_iter().map(|entry| entry.job).collect();
     assert_eq!(status, 0);
-    assert_eq!(jobs, ["singlet.lens", "achromat.lens", "triplet.lens", "scanner.lens"].map(job));
+    assert_eq!(jobs, ["singlet.lens", "achromat.lens", "loupe.lens", "triplet.lens", "scanner.lens"].map(job));
     let (status, _, err) = lensbench(&["convert", "--from-line", "-"], format!("{lines}J broken\n"));
-    assert_eq!((status, err.as_str()), (2, "-:5: the line ends before the kind\n"));
+    assert_eq!((status, err.as_str()), (2, "-:6: the line ends before the kind\n"));
     assert!(lensbench(&["convert", "--to-line", "--trace", "C", &files[1]], "").1.trim_end().ends_with(" C 2"));
     let (status, _, err) = lensbench(&["convert", "--from-line", "-"], "J x 4 S 0 I 99999999999 P 3ff0000000000000 V 0 O 0 C\n");
     assert_eq!((status, err.as_str()), (2, "-:1: 99999999999 slots are too many to be named in a file\n"));

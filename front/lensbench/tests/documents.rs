@@ -63,7 +63,7 @@ fn its_runs_are_in_form_and_its_defaults_are_the_crates() {
 #[test]
 fn the_examples_are_of_the_kinds_that_the_document_says() {
     let kind = |name: &str| read(&std::fs::read_to_string(top().join("examples").join(name)).unwrap()).unwrap()[0].job.run;
-    assert!(matches!(kind("singlet.lens"), Run::Damped(_)) && matches!(kind("achromat.lens"), Run::Damped(_)));
+    assert!(["singlet.lens", "achromat.lens", "loupe.lens"].into_iter().all(|name| matches!(kind(name), Run::Damped(_))));
     assert!(matches!(kind("triplet.lens"), Run::MultiStart(_)) && matches!(kind("scanner.lens"), Run::Annealing(_)));
 }
 
@@ -93,7 +93,7 @@ fn index(glass: &str, slot: &str) -> f64 {
 #[test]
 fn the_glasses_of_the_examples_have_their_indices() {
     let mut seen = 0;
-    for name in ["singlet.lens", "achromat.lens", "triplet.lens", "scanner.lens"] {
+    for name in ["singlet.lens", "achromat.lens", "loupe.lens", "triplet.lens", "scanner.lens"] {
         let text = std::fs::read_to_string(top().join("examples").join(name)).unwrap();
         let entry = read(&text).unwrap().remove(0);
         for (line, indices) in entry.lines.surfaces.iter().zip(&entry.job.lens.indices).filter(|(_, of)| of[0] != 1.0) {
@@ -104,5 +104,5 @@ fn the_glasses_of_the_examples_have_their_indices() {
             }
         }
     }
-    assert_eq!(seen, 1 + 2 * 3 + 3 * 3 + 3);
+    assert_eq!(seen, 1 + 2 * 3 + 3 * 3 + 3 * 3 + 3);
 }
