@@ -105,8 +105,8 @@ typedef struct LensSurface {
     double radius_mm, conic_constant, thickness_mm, semi_diameter_mm;
 } LensSurface;
 
-/* bounds and step are of the quantity that varies: of a curvature in 1/mm, not of a radius. A follower gets the same quantity straight after the surface itself,
- * before the next variable; values are read from surface_index alone. LENS_FOLLOWS_MINUS of a curvature keeps two surfaces each other's mirror image */
+/* bounds and step are of the quantity that varies: of a curvature in 1/mm, not of a radius. A follower gets the same quantity straight after the surface
+ * itself, before the next variable; values are read from surface_index alone. LENS_FOLLOWS_MINUS of a curvature keeps two surfaces each other's mirror image */
 typedef struct LensVariable {
     uint64_t kind, surface_index, enabled; /* enabled is 0 or 1 */
     double min_value, max_value, step_size;

@@ -1,5 +1,5 @@
-//! Jobs whose variables have followers (request 9): a job of the base generator or of the one with edges, by draws of its own, with followers of both signs: the
-//! named surface itself, another variable's, before and after it, those of disabled variables; curvatures about 1e-12; and faults that give 17.
+//! Jobs whose variables have followers (request 9): a job of the base generator or of the one with edges, by draws of its own, with followers of both signs:
+//! the named surface itself, another variable's, before and after it, those of disabled variables; curvatures about 1e-12; and faults that give 17.
 use crate::genjob::{self, G};
 use crate::job::*;
 use crate::{edges, faults};
@@ -46,18 +46,19 @@ fn contend(g: &mut G, j: &mut Job) {
     }
 }
 
-/// One fault of a follower, or, one time in six, none; and one time in three another fault beside it, so that the order of the numbers shows.
+/// One fault, of a follower three times in five, another one, or both, so that the order of the numbers shows.
 pub fn put_fault(j: &mut Job, g: &mut G) {
-    let beside = g.chance(0.33);
-    if beside || g.chance(0.2) {
+    let which = g.below(5);
+    if which < 2 {
         faults::put(j, g);
     }
-    if beside || g.chance(0.8) {
+    if which > 0 {
         fault(j, g);
     }
     j.left_out = 0;
 }
 
+/// A follower that is refused, or, one time in six, at the last surface.
 fn fault(j: &mut Job, g: &mut G) {
     let (n, edge) = (j.surfs.len(), g.below(6) == 0);
     if j.vars.is_empty() || n == 0 {
@@ -71,7 +72,7 @@ fn fault(j: &mut Job, g: &mut G) {
         _ => Follower { surf: if edge { n - 1 } else { absent }, minus: matches!(v.ty, 0 | 2) && g.chance(0.5) },
     });
     if v.follower.is_some_and(|f| f.surf < n && f.minus) && !edge && matches!(v.ty, 0 | 2) {
-        v.ty = if g.chance(0.5) { 1 } else { 3 };
+        v.ty = if v.lo > 0.0 { 3 } else { 1 };
     }
     if g.chance(0.5) && j.enabled() > 1 {
         j.vars[i].on = false;

@@ -112,8 +112,8 @@ fn lengths(kind: u8) -> Vec<Job> {
     v
 }
 
-/// Each variable, enabled or not, with a follower of each sign at each of a list of surfaces (request 9); and a bad one beside what gives a number before it, and
-/// after it.
+/// Each variable, enabled or not, with a follower of each sign at each of a list of surfaces (request 9); and a bad one beside what gives a number before it,
+/// and after it.
 fn followers(kind: u8) -> Vec<Job> {
     let mut v = vec![];
     for (variable, minus, surf) in (0..4).flat_map(|i| [false, true].map(|minus| (i, minus))).flat_map(|(i, minus)| COUNTS.map(|surf| (i, minus, surf))) {
