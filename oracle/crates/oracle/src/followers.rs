@@ -95,6 +95,17 @@ fn stores(v: &Var, ty: u8, surf: usize) -> bool {
     v.on && v.ty == ty && (v.surf == surf || v.follower.is_some_and(|f| f.surf == surf))
 }
 
+/// Whether no follower can show: each is a disabled variable's, the named surface itself with plus, or stored over by a later variable that names it. Such a run
+/// is the original's without followers.
+pub fn idle(j: &Job) -> bool {
+    j.vars.iter().enumerate().all(|(i, v)| {
+        v.follower.is_none_or(|f| {
+            let named_later = j.vars[i + 1..].iter().any(|w| w.on && w.ty == v.ty && w.surf == f.surf);
+            !v.on || named_later || (f.surf == v.surf && !f.minus)
+        })
+    })
+}
+
 #[derive(Default)]
 pub struct Reached {
     pub plus: bool,
