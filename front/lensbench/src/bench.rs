@@ -64,7 +64,7 @@ impl fmt::Debug for Bench {
 }
 
 impl Bench {
-    /// An empty bench: 18 kB on the heap, and 1 kB of scratch.
+    /// An empty bench: 19 kB on the heap, and 1 kB of scratch.
     ///
     /// # Panics
     /// Where another version of the library is linked than this crate was written for.
