@@ -156,9 +156,10 @@ impl Variable {
         Variable { follower: Some(Follower::Minus(surface)), ..self }
     }
 
-    /// The surfaces whose quantity it changes: its own, and its follower.
+    /// The surfaces whose quantity it changes, each once: its own, and its follower.
     pub fn surfaces(&self) -> impl Iterator<Item = usize> {
-        [Some(self.surface), self.follower.map(Follower::surface)].into_iter().flatten()
+        let follower = self.follower.map(Follower::surface).filter(|surface| *surface != self.surface);
+        [Some(self.surface), follower].into_iter().flatten()
     }
 }
 
