@@ -126,13 +126,14 @@ static void admit(size_t place, const LensRequest *asked, uint32_t wanted, const
 /* numbers that are no kind, no mark, no count and no bit: 1, whatever else is wrong */
 static void admit_none(size_t place) {
     static const uint64_t none[] = {8, 11, 64, 1ull << 32, UINT64_MAX}, past[] = {17, 18, 1ull << 32, 1ull << 63, UINT64_MAX};
+    static const uint64_t no_sign[] = {3, 4, 7, 1ull << 32, UINT64_MAX};
     LensRequest asked = line.request;
     LensJob *j = &asked.job;
     struct { uint64_t *at; const uint64_t *values; const char *what; } tries[] = {
         {&asked.kind, none, "a kind of job that is none"},
         {&j->variables[0].kind, none, "a kind of variable that is none"},
         {&j->variables[0].enabled, none, "a mark that is none"},
-        {&j->variables[0].follows, none, "a sign that is none"},
+        {&j->variables[0].follows, no_sign, "a sign that is none"},
         {&j->operands[0].kind, none, "a kind of operand that is none"},
         {&j->surface_count, past, "surfaces past the limit"},
         {&j->slot_count, past, "slots past the limit"},
