@@ -72,10 +72,14 @@ Flat s rest new = new ≡ withRadius s (inf false) ∷ rest
 abbrev pub Bent : OpticalSurface → (rest new : Surfaces) → Type 0
 Bent s rest new = finiteOf (surfaceAt new 0 .«radius_mm») ≡ true
 
--- The first surface's curvature, within bounds, set to x: its radius, and that of the second, which follows. Nothing else changes.
-abbrev pub Followed : (lo hi : Float) → Follower → (x named follower : Float) → Type 0
-Followed lo hi f x named follower = (u : Unused) (s t : OpticalSurface) (rest : Surfaces) (more : List Float)
-    → applied (curvatureWithin u lo hi f) (x ∷ more) (s ∷ t ∷ rest) ≡ withRadius s named ∷ withRadius t follower ∷ rest
+-- The first surface's curvature, within bounds, set to x: all surfaces afterwards, out of the first, the second and the rest.
+abbrev pub Followed : (lo hi : Float) → Follower → (x : Float) → (OpticalSurface → OpticalSurface → Surfaces → Surfaces) → Type 0
+Followed lo hi f x new = (u : Unused) (s t : OpticalSurface) (rest : Surfaces) (more : List Float)
+    → applied (curvatureWithin u lo hi f) (x ∷ more) (s ∷ t ∷ rest) ≡ new s t rest
+
+-- both with a radius of their own
+abbrev pub radii : (named follower : Float) → OpticalSurface → OpticalSurface → Surfaces → Surfaces
+radii named follower s t rest = withRadius s named ∷ withRadius t follower ∷ rest
 
 -- Each value holds whatever stands past the counts (u).
 pub record Known : Type 0 where
@@ -117,10 +121,12 @@ pub record Known : Type 0 where
       × (t .heights ≡ exactly n4 ∷ ends threeAndQuarter fourLessQuarter ∷ replicate 14 zeroInterval)
       × (t .slopes ≡ exactly (neg thirtySecond) ∷ exactly (neg sixteenth) ∷ replicate 14 zeroInterval))
   -- Request 9: curvature 0.125, as it comes and from beyond the bound: radii 8 and -8 with minus, 8 and 8 with plus. -1e-13 with minus: both plus infinity.
-  pub minus : Followed zero64 eighth (Minus 1) eighth n8 (neg n8)
-  pub minus-clamped : Followed zero64 eighth (Minus 1) n1 n8 (neg n8)
-  pub plus : Followed zero64 eighth (Plus 1) eighth n8 n8
-  pub minus-flat : Followed (neg tenthOfLeast) least (Minus 1) (neg tenthOfLeast) (inf false) (inf false)
+  pub minus : Followed zero64 eighth (Minus 1) eighth (radii n8 (neg n8))
+  pub minus-clamped : Followed zero64 eighth (Minus 1) n1 (radii n8 (neg n8))
+  pub plus : Followed zero64 eighth (Plus 1) eighth (radii n8 n8)
+  pub minus-flat : Followed (neg tenthOfLeast) least (Minus 1) (neg tenthOfLeast) (radii (inf false) (inf false))
+  -- "straight after the named surface": one that follows itself with minus is left with -8
+  pub minus-itself : Followed zero64 eighth (Minus 0) eighth (λ s t rest. withRadius s (neg n8) ∷ t ∷ rest)
   -- a damped run moves: 2 thick where 3 is wanted, damping 1, one iteration: 2.5 thick, merit 1/4
   pub moves : (u : Unused) → (thickened u .«final_merit» ≡ quarter) × (surfaceAt (thickened u .surfaces) 0 .«thickness_mm» ≡ twoAndHalf)
   -- "Iteration limit 0: one turn, not converged." Whatever the job and the other settings are.
@@ -161,6 +167,7 @@ known = record {
   minus-clamped = λ u s t rest more. refl;
   plus = λ u s t rest more. refl;
   minus-flat = λ u s t rest more. refl;
+  minus-itself = λ u s t rest more. refl;
   moves = half-way;
   a-turn = λ s job. refl;
   one-turn = λ f s job. refl;
