@@ -3,10 +3,10 @@
 -- is stored. All that the proof knows of `begun`, `turn` and `moved` is that they meet their contracts. Assumes nothing.
 use mathlib.Core.Path.{_≡_, refl, sym, _∙_, ap, subst}
 use mathlib.Core.Bool.{Bool, true, false}
-use Prim.Native.Nat.{ℕ, _+_, _<_, _≤_, _^_}
+use Prim.Native.Nat.{ℕ, _<_, _≤_, _^_}
 use mathlib.Core.List.{[], _∷_, List}
 use lib.ListN.{length}
-use lib.Dec.{T, ltb}
+use lib.Dec.{ltb}
 use lib.WfN.{Nat·lt-wfRel}
 use lib.Ieee.{Float, binary64}
 use borrow.Author.Tests.{lt-ltb, le-ltb, ltb-true, ltb-false}

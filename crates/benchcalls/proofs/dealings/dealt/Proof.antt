@@ -1,7 +1,7 @@
 -- `dealt` meets its contract: a walk of its MIR, by hand. The local bench is lent to `deal` for a lifetime that is made for the call, and comes back at the
 -- last value that `deal`'s contract says. Scratch is passed on at its own lifetime, share and name, and given up for good. All that the proof knows of `deal`
 -- is that it meets its contract. Assumes nothing.
-use mathlib.Core.Path.{_≡_, refl, sym, ap, subst}
+use mathlib.Core.Path.{_≡_, refl, ap}
 use Prim.Native.Nat.{ℕ, _<_, _^_}
 use mathlib.Core.List.{[], _∷_, List}
 use lib.ListN.{length}

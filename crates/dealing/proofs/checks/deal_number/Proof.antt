@@ -1,6 +1,5 @@
 -- `dealing::checks::deal_number` meets its contract. Assumes nothing.
-use mathlib.Core.Path.{refl, sym, ap, _∙_}
-use mathlib.Core.Bool.{not}
+use mathlib.Core.Path.{refl, sym, _∙_}
 use native.Mathlib.Omega.{arith}
 use borrow.Author.Needs.{needs}
 use borrow.Author.Tests.{lt-ltb, le-ltb}
