@@ -14,7 +14,6 @@ use Rattle.merit.specs.Calls.{unlessRefused}
 use Rattle.jobs.specs.declared.types.JobRequest.{JobRequest}
 use Rattle.jobs.specs.Kept.{jobFrom}
 use Rattle.runs.specs.declared.types.Row.{Row}
-use Rattle.runs.specs.JobRun.{Result}
 use Rattle.runs.specs.Rows as Rows
 use Rattle.runs.specs.Damage.{damaged}
 use Rattle.held.specs.RowFrom.{rowFrom}

@@ -6,9 +6,9 @@ use mathlib.Core.Logic.{_⊎_, _≢_, inl, inr}
 use Prim.Native.Nat.{ℕ, zero, suc, _+_, _≤_, _<_}
 use native.Mathlib.Omega.{arith}
 use lib.Dec.{ltb}
-use lib.ListN.{length, take, set, replicate, getD}
+use lib.ListN.{length, take, replicate}
 use lib.Seq.{getD-set-other}
-use borrow.Author.Tests.{ltb-true, lt-ltb, le-ltb, not-true, not-false}
+use borrow.Author.Tests.{ltb-true, lt-ltb, not-false}
 use Rattle.lists.specs.Refusals.{NoneOf, answers-none, none-of}
 use Rattle.merit.specs.Calls.{unlessRefused}
 use Rattle.runs.specs.Damage.{damaged}
@@ -21,7 +21,7 @@ use Rattle.held.specs.declared.types.HeldRow.{HeldRow}
 use Rattle.bench.specs.declared.types.Bench.{Bench}
 use Rattle.bench.specs.Refusals.{noPlace, scratchShort}
 use Rattle.bench.specs.Dealing.{placeAfter, nowhere, nextServed, served, Throughout, nextAfter, times}
-use Rattle.bench.specs.Book.{Call, admit, turn, fetch, release, listing, deal, Answer, number, leftBy, answersBy}
+use Rattle.bench.specs.Book.{Call, admit, turn, fetch, release, listing, deal, number, leftBy, answersBy}
 use Rattle.bench.specs.Benches.{noRow, rowAt, withRow}
 use Rattle.bench.specs.Calls.{isVacant, isLive, admitNumber, turnRefusals, turnNumber, releaseNumber, dealRefusals, dealNumber, benchDealer, servedBench}
 use Rattle.bench.specs.Calls.{servedIn, benchAnswer, benchStep}

@@ -1,13 +1,13 @@
 -- Dealt turns are fair, whoever deals by the rule. Assumes nothing.
 use mathlib.Core.Path.{_≡_, refl, sym, ap, _∙_, subst}
 use mathlib.Core.Logic.{_⊎_, inl, inr, _≢_}
-use mathlib.Core.Bool.{Bool, true, false, cond}
-use mathlib.Core.List.{List, [], _∷_, _++_}
+use mathlib.Core.Bool.{Bool, true, false}
+use mathlib.Core.List.{List, _∷_}
 use Prim.Native.Nat.{ℕ, zero, suc, _+_, _<_, _≤_}
 use native.Mathlib.Omega.{arith}
 use lib.ListN.{length, take}
 use lib.Dec.{eqb}
-use borrow.Author.Tests.{eq-eqb, eqb-true, eqb-false}
+use borrow.Author.Tests.{eqb-true, eqb-false}
 use Rattle.bench.specs.Dealing.{placeAfter, Found, at, nowhere, Dealer, nextServed, servedIf, served, Throughout, times}
 use Rattle.bench.specs.Rounds.{split, distance, Nearest, Says, found, nearer, keeps-order, turned-over, strictly, after-small}
 

@@ -1,5 +1,5 @@
 -- The first place found going round: it has a job to serve, and no other that has one lies nearer. Assumes nothing.
-use mathlib.Core.Path.{_≡_, refl, sym, ap, _∙_, subst}
+use mathlib.Core.Path.{_≡_, refl, sym, _∙_, subst}
 use mathlib.Core.Logic.{_⊎_, inl, inr, _≢_}
 use mathlib.Core.Bool.{Bool, true, false, not, cond, _&&_, false≢true}
 use Prim.Native.Nat.{ℕ, zero, suc, _+_, _-_, _%_, _<_, _≤_}
