@@ -5,10 +5,10 @@ use Rattle.damage.proofs.examine.examine_row.Statement.{statement}
 use Rattle.damage.proofs.examine.examine_row.Tie as tie
 
 abbrev Inv-loop : tie.InvT-loop
-Inv-loop case tally₀ e₀ tally e = e ≤ 52
+Inv-loop case tally₀ e₀ tally e = e ≤ 56
 
 abbrev μ-loop : tie.MeasureT-loop
-μ-loop case tally₀ e₀ tally e = 52 - e
+μ-loop case tally₀ e₀ tally e = 56 - e
 
 loop-holds : tie.Need-loop-holds Inv-loop μ-loop
 loop-holds c = search needs

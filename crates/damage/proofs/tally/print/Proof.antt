@@ -7,10 +7,10 @@ use Rattle.damage.proofs.tally.print.Statement.{statement}
 use Rattle.damage.proofs.tally.print.Tie as tie
 
 abbrev Inv-loop : tie.InvT-loop
-Inv-loop out₀ tried right waiting₀ e₀ out waiting e = (e ≤ 52) × (length out ≡ length out₀)
+Inv-loop out₀ tried right waiting₀ e₀ out waiting e = (e ≤ 56) × (length out ≡ length out₀)
 
 abbrev μ-loop : tie.MeasureT-loop
-μ-loop out₀ tried right waiting₀ e₀ out waiting e = 52 - e
+μ-loop out₀ tried right waiting₀ e₀ out waiting e = 56 - e
 
 loop-holds : tie.Need-loop-holds Inv-loop μ-loop
 loop-holds c = search needs
