@@ -23,6 +23,7 @@ use Rattle.variables.specs.declared.types.Follower.{Follower}
 use Rattle.variables.specs.declared.types.Follower.the-variants.{Plus, Minus}
 use Rattle.variables.specs.Active.{enabledOf}
 use Rattle.variables.specs.Kinds.{radiusOf}
+use Rattle.variables.specs.Taken.{followersTaken}
 use Rattle.variables.specs.Values.{appliedTo, applied}
 use Rattle.edges.specs.Edges.{sagOf}
 use Rattle.merit.specs.Operands.{tenThousand, hundred, penalty, finiteOr, isFocalLength, isMagnified, track, shortfall, valueOf}
@@ -127,6 +128,9 @@ pub record Known : Type 0 where
   pub minus-flat : Followed (neg tenthOfLeast) least (Minus 1) (neg tenthOfLeast) (radii (inf false) (inf false))
   -- "straight after the named surface": one that follows itself with minus is left with -8
   pub minus-itself : Followed zero64 eighth (Minus 0) eighth (λ s t rest. withRadius s (neg n8) ∷ t ∷ rest)
+  -- a follower of two surfaces is taken, one that is absent is not
+  pub follower-there : (u : Unused) → followersTaken 2 (curvatureWithin u zero64 eighth (Minus 1)) ≡ true
+  pub follower-absent : (u : Unused) → followersTaken 1 (curvatureWithin u zero64 eighth (Minus 1)) ≡ false
   -- a damped run moves: 2 thick where 3 is wanted, damping 1, one iteration: 2.5 thick, merit 1/4
   pub moves : (u : Unused) → (thickened u .«final_merit» ≡ quarter) × (surfaceAt (thickened u .surfaces) 0 .«thickness_mm» ≡ twoAndHalf)
   -- "Iteration limit 0: one turn, not converged." Whatever the job and the other settings are.
@@ -139,7 +143,7 @@ pub record Known : Type 0 where
 pub known : Known
 unfolding traceNumber traceAnswer stepOf seeded stepTimes radiusOf lt magnitude finiteOf ofBits neg div tab allBelow Curvature.curvature arriving paraxialOf
     within aboveZeroUpTo surfaceTaken lensTaken finiteOr isFocalLength isMagnified track shortfall sagOf valueOf difference residual term total countedTotal
-    kindTaken weightTaken operandTaken evaluateNumber sqrtOf le sub mul isNan enabledOf appliedTo applied runBy DampedRun.damped iterations bind afterMerits
+    kindTaken weightTaken operandTaken evaluateNumber sqrtOf le sub mul isNan enabledOf followersTaken appliedTo applied runBy DampedRun.damped iterations bind afterMerits
     afterMerit isDone value
     lesser greater endsFinite refractionFinite transferFinite trackLimits arrivalFinite Limits.arriving limitsTaken limitsNumber add
 known = record {
@@ -168,6 +172,8 @@ known = record {
   plus = λ u s t rest more. refl;
   minus-flat = λ u s t rest more. refl;
   minus-itself = λ u s t rest more. refl;
+  follower-there = λ u. refl;
+  follower-absent = λ u. refl;
   moves = half-way;
   a-turn = λ s job. refl;
   one-turn = λ f s job. refl;
