@@ -119,7 +119,7 @@ fn first_held(bench: Bench) -> HeldRow {
 }
 
 fn first_row(bench: Bench) -> Row {
-    held::row_of(first_held(bench))
+    heldrows::row_of(first_held(bench))
 }
 
 // The bench after so many turns of place 0, or as many as there are.

@@ -9,14 +9,14 @@ use runs::Row;
 
 fn with_row(bench: Bench, place: usize, row: Row) -> Bench {
     let mut b = bench;
-    let held = held::held_of(row);
+    let held = heldrows::held_of(row);
     b.rows[place % 4] = held;
     b
 }
 
 fn row_of(bench: Bench, place: usize) -> Row {
     let held = bench.rows[place % 4];
-    held::row_of(held)
+    heldrows::row_of(held)
 }
 
 // The changed row at its place, finished ones at the others; the place to go next is two further.

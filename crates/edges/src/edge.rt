@@ -19,7 +19,7 @@ fn sag_of(c: f64, r: f64, k: f64) -> Sag
     if t != t {
         return Sag::Missing;
     }
-    Sag::Is(c * r * r / (1.0 + floats::sqrt(t)))
+    Sag::Is(c * r * r / (1.0 + roots::sqrt(t)))
 }
 
 fn surface_sag(surface: OpticalSurface, r: f64) -> Sag

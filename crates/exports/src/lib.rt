@@ -24,7 +24,7 @@ pub extern "C" fn lens_abi() -> u32
 pub extern "C" fn lens_sqrt(x: f64) -> f64
     ensures { λ r. ⌜ r ≡ sqrtOf x ⌝ }
 {
-    floats::sqrt(x)
+    roots::sqrt(x)
 }
 
 #[no_mangle]

@@ -2,7 +2,6 @@
 ghost use mathlib.Core.Path.{_≡_};
 ghost use Prim.Native.Nat.{_*_, _≤_, _<_};
 ghost use lib.ListN.{length, set};
-ghost use Rattle.optics.specs.Flat.{laidFlat};
 ghost use Rattle.held.specs.JobFrom.{standing};
 ghost use Rattle.held.specs.Standing.{Behind};
 use optics::OpticalSurface;
@@ -44,13 +43,4 @@ pub(crate) fn put_surface(flat: &mut [f64], i: usize, s: OpticalSurface)
     flat[4 * i + 1] = s.conic_constant;
     flat[4 * i + 2] = s.thickness_mm;
     flat[4 * i + 3] = s.semi_diameter_mm;
-}
-
-// Surfaces as flat numbers.
-pub(crate) fn laid(surfaces: [OpticalSurface; 16]) -> [f64; 64]
-    ensures { λ r. ⌜ r ≡ laidFlat surfaces 16 ⌝ }
-{
-    let mut flat = [0.0; 64];
-    optics::lay_flat(surfaces, 16, &mut flat);
-    flat
 }

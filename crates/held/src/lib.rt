@@ -1,18 +1,14 @@
-// A row as the bench holds it: arrays of numbers. Where an entry stands, what a job's numbers are read as, and how a row is written.
+// A row as the bench holds it: arrays of numbers. Where an entry stands, what a job's numbers are read as, and how values are applied there; how a row
+// is written, and read as a whole, as definitions (`heldrows` has their code).
 // Stands on `runs`; called by all that works on a row. It alone has offsets.
-mod converted;
 mod entries;
 mod flat;
 mod head;
-mod places;
-mod read;
+pub mod places;
 mod sets;
 mod types;
 mod values;
-mod written;
 
-pub use converted::held_of;
-pub use converted::row_of;
 pub use entries::annealing_config;
 pub use entries::dls_config;
 pub use entries::indices;

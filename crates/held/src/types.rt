@@ -19,13 +19,6 @@ pub struct HeldRow {
     pub best_residuals: [f64; 12],
 }
 
-// Its job alone.
-#[repr(C)]
-pub struct HeldJob {
-    pub counts: [u64; 73],
-    pub numbers: [f64; 195],
-}
-
 // The numbers of a damped run that go by value; its arrays are lent.
 #[repr(C)]
 pub struct Head {

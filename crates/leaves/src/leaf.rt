@@ -68,7 +68,7 @@ fn root(line: &[u8], c: Cursor) -> Reply {
         let next = x.next;
         return Reply::Unknown(next);
     }
-    Reply::One(floats::sqrt(x.value))
+    Reply::One(roots::sqrt(x.value))
 }
 
 // ABS x

@@ -41,7 +41,7 @@ pub fn root_of(known: WeightRoot, weight: f64) -> WeightRoot
     }
     WeightRoot {
         weight: weight,
-        root: floats::sqrt(weight),
+        root: roots::sqrt(weight),
     }
 }
 

@@ -11,7 +11,7 @@ use crate::layout::GRADIENT;
 use crate::layout::PRODUCT;
 use crate::layout::jacobian_place;
 use crate::layout::place;
-use floats::sqrt;
+use roots::sqrt;
 
 // The product of columns i and j, over m operands.
 fn column_product(jacobian: &[f64; 96], m: usize, i: usize, j: usize) -> f64

@@ -44,7 +44,7 @@ pub fn admit_row(held: HeldRow, place: usize, request: JobRequest) -> RowAnswer
     let job = defaults::job_from(request);
     let record = jobs::record_of(job);
     let admitted = began(record, job);
-    let left = held::held_of(admitted);
+    let left = heldrows::held_of(admitted);
     RowAnswer {
         row: left,
         number: 0,
