@@ -53,7 +53,7 @@ pub extern "C" fn turn(bench: &mut Bench, place: usize, scratch: &mut [f64]) -> 
         return 2;
     }
     let row = &mut bench.rows[place];
-    rows::turn_parts(
+    rowturns::turn_parts(
         &mut row.words,
         &mut row.scalars,
         &row.counts,

@@ -16,7 +16,7 @@ fn with_pending(hash: u64, bench: Bench, place: usize) -> u64
     requires { ⌜ place < 4 ⌝ }
 {
     let row = bench.rows[place];
-    let pending = rows::pending_of(row);
+    let pending = rowturns::pending_of(row);
     let surfaces = pending.surfaces;
     let counts = row.counts;
     let h = answers::with_surfaces(hash, surfaces, held::surface_count(&counts));

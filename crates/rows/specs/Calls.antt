@@ -4,19 +4,15 @@ use mathlib.Core.Bool.{not}
 use mathlib.Core.List.{List, [], _∷_}
 use lib.Ieee.{Float}
 use lib.ListN.{length}
-use Rattle.floats.specs.Constants.{zero64}
 use Rattle.lists.specs.Refusals.{refusal, firstRefusal}
 use Rattle.merit.specs.Calls.{unlessRefused}
-use Rattle.normal.specs.Layout.{scratchLength}
 use Rattle.jobs.specs.declared.types.JobRequest.{JobRequest}
 use Rattle.jobs.specs.Kept.{jobFrom}
 use Rattle.runs.specs.declared.types.Row.{Row}
 use Rattle.runs.specs.JobRun.{Result}
 use Rattle.runs.specs.Damage.{damaged}
-use Rattle.runs.specs.Rows.{jobOfRow, admitted, pendingSurfaces, resultOf}
-use Rattle.runs.specs.JobMerit.{evaluateOf}
+use Rattle.runs.specs.Rows.{admitted, resultOf}
 use Rattle.runs.specs.Turn.{turned}
-use Rattle.runs.specs.Zeros.{zeroSurfaces}
 use Rattle.runs.specs.Cleared.{cleared}
 use Rattle.held.specs.RowFrom.{rowFrom}
 use Rattle.held.specs.Written.{heldFrom}
@@ -25,7 +21,6 @@ use Rattle.bench.specs.Benches.{zeroRow}
 use Rattle.bench.specs.Refusals.{admitRefusals}
 use Rattle.bench.specs.Calls.{isVacant, rowTurnRefusals, rowFetchRefusals, rowReleaseRefusals}
 use Rattle.rows.specs.declared.types.Fetched.{Fetched}
-use Rattle.rows.specs.declared.types.Pending.{Pending}
 use Rattle.rows.specs.declared.types.RowAnswer.{RowAnswer}
 
 -- a row changed unless a number refuses it
@@ -59,11 +54,3 @@ fetchRowOf h old = record { result = unlessRefused (fetchRowNumber (rowFrom h)) 
 
 unfoldable pub releaseRowOf : HeldRow → RowAnswer
 releaseRowOf h = answered (firstRefusal (rowReleaseRefusals (rowFrom h))) zeroRow h
-
--- the surfaces whose merit a turn works out, and that merit
-unfoldable pub pendingOf : Row → Pending
-pendingOf r = record {
-  surfaces = unlessRefused (turnRowNumber scratchLength r) (pendingSurfaces r) zeroSurfaces;
-  merit = unlessRefused (turnRowNumber scratchLength r) (evaluateOf (jobOfRow r) (pendingSurfaces r) .«total_merit») zero64;
-  number = turnRowNumber scratchLength r;
-}

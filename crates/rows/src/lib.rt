@@ -1,13 +1,10 @@
-// The calls on one row: admission, a turn, fetch, release, listing, and what a turn would work out (01's bench).
-// Stands on `turns`, `helddamage` and `bench`; called by `benchcalls`, `finished` and `dealing`.
+// The calls on one row but for a turn: admission, fetch, release, listing; and the number that a turn is refused with (01's bench).
+// Stands on `helddamage`, `heldrows` and `bench`; called by `benchcalls`, `finished`, `dealing` and `rowturns`.
 mod began;
 mod calls;
 mod fetch;
 mod numbers;
-mod parts;
-mod pending;
 mod results;
-mod scratch;
 mod types;
 mod zeros;
 
@@ -17,10 +14,9 @@ pub use calls::release_row;
 pub use fetch::fetch_row;
 pub use fetch::is_damaged;
 pub use fetch::is_listed;
-pub use parts::turn_parts;
-pub use pending::pending_of;
+pub use numbers::turn_number;
 pub use types::Fetched;
-pub use types::Pending;
 pub use types::RowAnswer;
 pub use zeros::zero_result;
 pub use zeros::zero_row;
+pub use zeros::zero_surfaces;

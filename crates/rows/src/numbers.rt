@@ -27,7 +27,7 @@ fn usable_number(
     0
 }
 
-pub(crate) fn turn_number(
+pub fn turn_number(
     room: usize,
     words: &[u64; 13],
     counts: &[u64; 73],

@@ -7,7 +7,7 @@ use held::HeldRow;
 use optics::OpticalSurface;
 use runs::OptimizationResult;
 
-pub(crate) fn zero_surfaces() -> [OpticalSurface; 16]
+pub fn zero_surfaces() -> [OpticalSurface; 16]
     ensures { λ r. ⌜ r ≡ zeroSurfaces ⌝ }
 {
     let zero = optics::zero_surface();

@@ -54,16 +54,16 @@ use Rattle.held.specs.RowFrom.{rowFrom}
 use Rattle.held.specs.declared.types.HeldRow.{HeldRow}
 use Rattle.bench.specs.Benches.{noRow}
 use Rattle.rows.specs.Calls.{turnRowNumber, turnedRow, scratchOf}
-use Rattle.rows.specs.Parts.{heldOf}
+use Rattle.rowturns.specs.Parts.{heldOf}
 use Rattle.bench.specs.declared.types.Bench.{Bench}
 use Rattle.benchcalls.specs.Placed.{Turned, turn-past, turned-there}
 use Rattle.benchcalls.proofs.Opened.{place-fits, row-size, Rest, rest-of, R, Bn, bn, valsR, opens-row, closes-row}
 use Rattle.benchcalls.proofs.TakenRow.{Back, Parts, long as long-row, taken-apart, put-together}
 use Rattle.benchcalls.proofs.Big.{big-lit}
-use Rattle.rows.proofs.turn_parts as callee
-use Rattle.rows.proofs.turn_parts.Symbol as callee-def
-use Rattle.rows.proofs.turn_parts.Symbol.{name as #callee}
-use Rattle.rows.proofs.turn_parts.Met as callee-thm
+use Rattle.rowturns.proofs.turn_parts as callee
+use Rattle.rowturns.proofs.turn_parts.Symbol as callee-def
+use Rattle.rowturns.proofs.turn_parts.Symbol.{name as #callee}
+use Rattle.rowturns.proofs.turn_parts.Met as callee-thm
 use Rattle.benchcalls.proofs.lent.turn.Key.{name as #turn}
 use Rattle.benchcalls.proofs.lent.turn as f
 use Rattle.benchcalls.proofs.lent.turn.Statement as stated
@@ -623,4 +623,4 @@ turn-spec 𝓤 H 𝓜 𝓖 𝓡 =
     entered 𝓤 H (tripleOf 𝓤 H (𝓖 .A) f.signature (f.spec 𝓤 H (𝓖 .A) (𝓜 .mem) (𝓡 .run)))
     (tables 𝓤 H 𝓜 𝓡 code.env .C) (tables 𝓤 H 𝓜 𝓡 code.env .Λ) #turn code.function (code.unfolded 𝓤 H 𝓜 𝓡)
     (f-meets 𝓤 H (𝓖 .A) (givenOf 𝓤 H 𝓜 𝓖) (𝓜 .mem) (𝓡 .run) (tablesOf 𝓤 H 𝓜 (tables 𝓤 H 𝓜 𝓡 code.env))
-    (cited 𝓤 H (Callee 𝓤 H (𝓖 .A) (𝓜 .mem) (𝓡 .run)) 𝓜 𝓡 code.env #callee callee-def.routine code.calls-rows·turn-parts (callee-thm.met 𝓤 H 𝓜 𝓖 𝓡)))
+    (cited 𝓤 H (Callee 𝓤 H (𝓖 .A) (𝓜 .mem) (𝓡 .run)) 𝓜 𝓡 code.env #callee callee-def.routine code.calls-rowturns·turn-parts (callee-thm.met 𝓤 H 𝓜 𝓖 𝓡)))

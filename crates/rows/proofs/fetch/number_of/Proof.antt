@@ -1,5 +1,5 @@
 -- `rows::fetch::number_of` meets its contract. Assumes nothing.
-use Rattle.rows.specs.Parts.{othersOf}
+use Rattle.rows.specs.Others.{othersOf}
 use borrow.Author.Needs.{needs}
 use Rattle.rows.proofs.fetch.number_of.Statement.{statement}
 use Rattle.rows.proofs.fetch.number_of.Tie as tie

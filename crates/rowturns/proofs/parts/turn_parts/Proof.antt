@@ -1,4 +1,4 @@
--- `rows::parts::turn_parts` meets its contract: a refused turn leaves all, any other is the row's. Assumes nothing.
+-- `rowturns::parts::turn_parts` meets its contract: a refused turn leaves all, any other is the row's. Assumes nothing.
 use Rattle.runs.specs.Turn as Turn
 use Prim.Native.Nat.{ℕ, _+_}
 use mathlib.Core.Path.{ap, _∙_}
@@ -15,13 +15,14 @@ use Rattle.runs.specs.Cleared.{cleared}
 use Rattle.held.specs.JobFrom.{jobRecordFrom, heldJob}
 use Rattle.held.specs.RowFrom.{rowFrom, turnsFrom, stateFrom}
 use Rattle.turns.specs.Turned.{turnedBy}
 use Rattle.rows.specs.Calls.{turnRowNumber, turnedRow, scratchOf}
 use Rattle.rows.proofs.Refused.{kept-by, made-by, zero-by, turnable}
 use Rattle.rows.proofs.Undamaged.{job-taken, column-below, turns-below}
-use Rattle.rows.specs.Parts.{heldOf, othersOf}
+use Rattle.rows.specs.Others.{othersOf}
+use Rattle.rowturns.specs.Parts.{heldOf}
 use borrow.Author.Needs.{needs}
-use Rattle.rows.proofs.parts.turn_parts.Statement.{statement}
-use Rattle.rows.proofs.parts.turn_parts.Tie as tie
+use Rattle.rowturns.proofs.parts.turn_parts.Statement.{statement}
+use Rattle.rowturns.proofs.parts.turn_parts.Tie as tie
 
 turn-number-requires : tie.Need-turn-number-requires
 turn-number-requires c κs = search needs

@@ -1,12 +1,12 @@
--- `rows::pending::merit_at` meets its contract. Assumes nothing.
+-- `rowturns::pending::merit_at` meets its contract. Assumes nothing.
 use Prim.Native.Nat.{_*_}
 use lib.ListN.{drop, replicate}
 use Rattle.floats.specs.Constants.{zero64}
 use Rattle.held.specs.JobFrom.{surfaceCountFrom}
 use Rattle.heldmerit.specs.HeldOver.{merit-held}
 use borrow.Author.Needs.{needs}
-use Rattle.rows.proofs.pending.merit_at.Statement.{statement}
-use Rattle.rows.proofs.pending.merit_at.Tie as tie
+use Rattle.rowturns.proofs.pending.merit_at.Statement.{statement}
+use Rattle.rowturns.proofs.pending.merit_at.Tie as tie
 
 surface-count-requires : tie.Need-surface-count-requires
 surface-count-requires c κs = search needs

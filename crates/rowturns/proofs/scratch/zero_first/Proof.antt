@@ -1,4 +1,4 @@
--- `rows::scratch::zero_first` meets its contract. Assumes nothing.
+-- `rowturns::scratch::zero_first` meets its contract. Assumes nothing.
 use Prim.Native.Nat.{ℕ, _-_, _≤_}
 use mathlib.Core.Path.{_≡_, refl, sym, ap, _∙_}
 use mathlib.Core.List.{List, _++_}
@@ -10,8 +10,8 @@ use borrow.Author.Needs.{needs}
 use Rattle.floats.specs.Constants.{zero64}
 use Rattle.normal.specs.Layout.{scratchLength}
 use Rattle.lists.specs.Tab.{tab, length-tab, getD-tab, tab-step}
-use Rattle.rows.proofs.scratch.zero_first.Statement.{statement}
-use Rattle.rows.proofs.scratch.zero_first.Tie as tie
+use Rattle.rowturns.proofs.scratch.zero_first.Statement.{statement}
+use Rattle.rowturns.proofs.scratch.zero_first.Tie as tie
 
 same-zeros : (n : ℕ) → tab (λ (k : ℕ). zero64) n ≡ replicate n zero64
 same-zeros n =

@@ -2,10 +2,10 @@
 ghost use mathlib.Core.Path.{_≡_};
 ghost use lib.ListN.{length};
 ghost use Rattle.held.specs.RowFrom.{rowFrom};
 ghost use Rattle.rows.specs.Calls.{turnRowNumber, turnedRow, scratchOf};
-ghost use Rattle.rows.specs.Parts.{heldOf};
-use crate::numbers::turn_number;
+ghost use Rattle.rowturns.specs.Parts.{heldOf};
 use crate::scratch::zero_first;
+use rows::turn_number;
 
 pub fn turn_parts(
     words: &mut [u64; 13],

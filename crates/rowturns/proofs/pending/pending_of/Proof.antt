@@ -1,7 +1,7 @@
--- `rows::pending::pending_of` meets its contract. Assumes nothing.
+-- `rowturns::pending::pending_of` meets its contract. Assumes nothing.
 use borrow.Author.Needs.{needs}
-use Rattle.rows.proofs.pending.pending_of.Statement.{statement}
-use Rattle.rows.proofs.pending.pending_of.Tie as tie
+use Rattle.rowturns.proofs.pending.pending_of.Statement.{statement}
+use Rattle.rowturns.proofs.pending.pending_of.Tie as tie
 
 pending-parts-requires : tie.Need-pending-parts-requires
 pending-parts-requires c κs = search needs

@@ -1,4 +1,4 @@
--- `rows::pending::pending_parts` meets its contract. Assumes nothing.
+-- `rowturns::pending::pending_parts` meets its contract. Assumes nothing.
 use mathlib.Core.Path.{_≡_, ap, _∙_}
 use mathlib.Core.List.{[]}
 use Prim.Native.Nat.{ℕ}
@@ -16,13 +16,15 @@ use Rattle.held.specs.JobFrom.{heldJob}
 use Rattle.held.specs.RowFrom.{kindFrom, stateFrom, rowFrom}
 use Rattle.held.specs.declared.types.RowHead.{RowHead}
 use Rattle.turns.proofs.Laid.{operands-known}
-use Rattle.rows.specs.Calls.{turnRowNumber, pendingOf}
-use Rattle.rows.specs.Parts.{heldOf, othersOf}
+use Rattle.rows.specs.Calls.{turnRowNumber}
+use Rattle.rows.specs.Others.{othersOf}
+use Rattle.rowturns.specs.Parts.{heldOf}
+use Rattle.rowturns.specs.Next.{pendingOf}
 use Rattle.rows.proofs.Refused.{kept-by, made-by, zero-by, turnable}
 use Rattle.rows.proofs.Undamaged.{job-taken, column-below}
 use borrow.Author.Needs.{needs}
-use Rattle.rows.proofs.pending.pending_parts.Statement.{statement}
-use Rattle.rows.proofs.pending.pending_parts.Tie as tie
+use Rattle.rowturns.proofs.pending.pending_parts.Statement.{statement}
+use Rattle.rowturns.proofs.pending.pending_parts.Tie as tie
 
 turn-number-requires : tie.Need-turn-number-requires
 turn-number-requires c κs = search needs

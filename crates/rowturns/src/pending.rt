@@ -8,13 +8,13 @@ ghost use Rattle.merit.specs.Steps.{SlotsKnown};
 ghost use Rattle.runs.specs.JobMerit.{evaluateOf};
 ghost use Rattle.held.specs.JobFrom.{surfaceCountFrom, operandCountFrom, operandsFrom, heldJob};
 ghost use Rattle.held.specs.RowFrom.{rowFrom};
-ghost use Rattle.rows.specs.Calls.{pendingOf};
-ghost use Rattle.rows.specs.Parts.{heldOf};
-use crate::numbers::turn_number;
+ghost use Rattle.rowturns.specs.Next.{pendingOf};
+ghost use Rattle.rowturns.specs.Parts.{heldOf};
 use crate::types::Pending;
-use crate::zeros::zero_surfaces;
 use held::HeldRow;
 use optics::OpticalSurface;
+use rows::turn_number;
+use rows::zero_surfaces;
 
 // The merit of surfaces under a held job, worked out where they are laid flat.
 fn merit_at(lens: [OpticalSurface; 16], counts: &[u64; 73], numbers: &[f64]) -> f64
