@@ -51,7 +51,7 @@ pub(crate) fn limits_traced(held: JobRecord, limits: ThicknessLimits, slot: usiz
     ensures { λ r. ⌜ r ≡ limitsTraced (lensOf held) limits slot ⌝ }
 {
     let prescription = lens_of(held);
-    intervals::limits_traced(prescription, limits, slot)
+    intervalcalls::limits_traced(prescription, limits, slot)
 }
 
 // The number of a trace's answer.

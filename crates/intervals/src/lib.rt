@@ -1,13 +1,11 @@
-// Thicknesses known only within limits: the trace worked with intervals.
-// Stands on `meritcalls`, whose refusals of a trace it takes over; called by `exports` and `replay`.
-mod calls;
-mod ends;
-mod surfaces;
+// Thicknesses known only within limits: definitions and laws of the trace worked with intervals (request 13), and the types.
+// Stands on `merit`; `intervalcalls` has the code.
 mod types;
 
-pub use calls::limits_traced;
-pub use calls::trace_limits;
+pub use types::ArrivingLimits;
 pub use types::Interval;
+pub use types::PassedLimits;
 pub use types::ThicknessLimits;
 pub use types::TraceLimits;
 pub use types::TracedLimits;
+pub use types::WorkedLimits;

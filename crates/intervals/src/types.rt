@@ -22,21 +22,21 @@ pub struct TraceLimits {
 }
 
 // A paraxial ray within limits as it arrives at a surface: its height there, its slope and the index in front.
-pub(crate) struct ArrivingLimits {
+pub struct ArrivingLimits {
     pub y: Interval,
     pub u: Interval,
     pub n: f64,
 }
 
 // The ray as it arrives at the next surface, and whether every interval of the refraction, and of the transfer, has finite ends.
-pub(crate) struct PassedLimits {
+pub struct PassedLimits {
     pub ray: ArrivingLimits,
     pub refracted: bool,
     pub transferred: bool,
 }
 
 // What a lens comes to within limits, and whether every interval on the way has finite ends.
-pub(crate) struct WorkedLimits {
+pub struct WorkedLimits {
     pub traced: TraceLimits,
     pub finite: bool,
 }

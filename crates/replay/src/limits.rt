@@ -43,7 +43,7 @@ fn put_limits(
     known: ThicknessLimits,
     slot: usize,
 ) -> Waiting {
-    let t = intervals::limits_traced(prescription, known, slot);
+    let t = intervalcalls::limits_traced(prescription, known, slot);
     if t.number > 0 {
         return job::put_refused(out, waiting, t.number, true);
     }

@@ -1,7 +1,7 @@
 // Arrays entry by entry.
 ghost use mathlib.Core.Path.{_≡_};
 ghost use mathlib.Core.Bool.{_&&_};
-ghost use Rattle.same.specs.Same.{sameFloat, sameFloats, sameWords};
+ghost use Rattle.alike.specs.Same.{sameFloat, sameFloats, sameWords};
 use text::numbers::bits_of;
 
 pub(crate) fn both(a: bool, b: bool) -> bool

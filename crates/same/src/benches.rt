@@ -1,6 +1,6 @@
 // Held rows array by array, and benches row by row.
 ghost use mathlib.Core.Path.{_≡_};
-ghost use Rattle.same.specs.Same.{sameJob, sameHead, sameLens, sameStep, sameBest, sameRow, sameRows, sameBench};
+ghost use Rattle.alike.specs.Same.{sameJob, sameHead, sameLens, sameStep, sameBest, sameRow, sameRows, sameBench};
 use crate::arrays::both;
 use crate::arrays::same_eight;
 use crate::arrays::same_flat;

@@ -1,5 +1,5 @@
 // Rows as they are held, benches and results, compared bit by bit; every NaN is one.
-// Stands on `bench` and `text`; called by `damage`.
+// Stands on `alike`, which has the definitions; called by `damage`.
 mod arrays;
 mod benches;
 mod results;

@@ -1,7 +1,7 @@
 // Results.
 ghost use mathlib.Core.Path.{_≡_};
 ghost use mathlib.Core.List.{List};
-ghost use Rattle.same.specs.Same.{sameSurface, sameSurfaces, sameMerits, sameResult};
+ghost use Rattle.alike.specs.Same.{sameSurface, sameSurfaces, sameMerits, sameResult};
 use crate::arrays::both;
 use crate::arrays::same_float;
 use crate::arrays::same_twelve;

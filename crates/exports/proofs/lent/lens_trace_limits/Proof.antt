@@ -43,7 +43,7 @@ use Rattle.intervals.specs.declared.types.ThicknessLimits.{ThicknessLimits}
 use Rattle.intervals.specs.declared.types.TracedLimits.{TracedLimits}
 use Rattle.intervals.specs.declared.types.TraceLimits.{TraceLimits}
 use Rattle.intervals.specs.Calls.{limitsNumber, limitsAs, limitsTraced}
-use Rattle.intervals.proofs.Answers.{limits-kept, limits-stored}
+use Rattle.intervalcalls.proofs.Answers.{limits-kept, limits-stored}
 use Rattle.intervals.proofs.types.ThicknessLimits as L
 use Rattle.intervals.proofs.types.ThicknessLimits.Laws as L′
 use Rattle.intervals.proofs.types.TracedLimits as Ev

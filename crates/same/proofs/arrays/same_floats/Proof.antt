@@ -8,9 +8,9 @@ use lib.ListN.{length, getD}
 use borrow.Author.Needs.{needs}
 use borrow.Author.Tests.{not-true, not-false}
 use Rattle.lists.specs.All.{allBelow, all-more}
-use Rattle.same.specs.SameLaws.{unlike-lengths, unlike, all-alike}
+use Rattle.alike.specs.SameLaws.{unlike-lengths, unlike, all-alike}
 use lib.Ieee.{Float, nan}
-use Rattle.same.specs.Same.{sameFloat}
+use Rattle.alike.specs.Same.{sameFloat}
 use Rattle.same.proofs.arrays.same_floats.Statement.{statement}
 use Rattle.same.proofs.arrays.same_floats.Tie as tie
 

@@ -9,7 +9,7 @@ use lib.ListN.{length, getD}
 use borrow.Author.Needs.{needs}
 use borrow.Author.Tests.{eq-eqb, ne-eqb}
 use Rattle.lists.specs.All.{allBelow, all-more}
-use Rattle.same.specs.SameLaws.{unlike-lengths, unlike, all-alike}
+use Rattle.alike.specs.SameLaws.{unlike-lengths, unlike, all-alike}
 use Rattle.same.proofs.arrays.same_words.Statement.{statement}
 use Rattle.same.proofs.arrays.same_words.Tie as tie
 

@@ -8,7 +8,7 @@ use borrow.Author.Tests.{not-true, not-false}
 use Rattle.lists.specs.All.{allBelow, all-more, not-all}
 use Rattle.bench.specs.declared.types.Bench.{Bench}
 use Rattle.bench.specs.Benches.{heldAt}
-use Rattle.same.specs.Same.{sameRow}
+use Rattle.alike.specs.Same.{sameRow}
 use Rattle.same.proofs.benches.same_rows.Statement.{statement}
 use Rattle.same.proofs.benches.same_rows.Tie as tie
 

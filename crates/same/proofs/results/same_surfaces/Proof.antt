@@ -9,7 +9,7 @@ use borrow.Author.Tests.{not-true, not-false}
 use Rattle.lists.specs.All.{allBelow, all-more, not-all}
 use Rattle.optics.specs.declared.types.OpticalSurface.{OpticalSurface}
 use Rattle.optics.specs.Types.{surfaceAt}
-use Rattle.same.specs.Same.{sameSurface}
+use Rattle.alike.specs.Same.{sameSurface}
 use Rattle.same.proofs.results.same_surfaces.Statement.{statement}
 use Rattle.same.proofs.results.same_surfaces.Tie as tie
 
