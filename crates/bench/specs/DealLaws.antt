@@ -3,8 +3,9 @@ use mathlib.Core.Path.{_≡_, refl, sym, ap, _∙_, subst}
 use mathlib.Core.Bool.{Bool, true, false, true≢false}
 use mathlib.Core.List.{List, [], _∷_, _++_}
 use mathlib.Core.Logic.{_⊎_, inl, inr}
-use Prim.Native.Nat.{ℕ, zero, suc, _+_, _<_}
+use Prim.Native.Nat.{ℕ, zero, suc, _+_, _≤_, _<_}
 use native.Mathlib.Nat.{zero-add, suc-add}
+use native.Mathlib.Omega.{arith}
 use lib.ListN.{length}
 use Rattle.bench.specs.Dealing.{placeAfter, Found, at, nowhere, Dealer, nextServed, servedIf, served, nextAfter}
 use Rattle.bench.specs.Book.{leftBy}
@@ -49,6 +50,16 @@ module _ {S : Type 0} (d : Dealer S) where
           → Both m n s (nextServed d s)
       go nowhere e more = subst (Both m n s) (sym e) (none-left n s e)
       go (at k) e more = subst (Both m n s) (sym e) (ap (λ (ps : List ℕ). k ∷ ps) (more (d .serve s k)))
+
+  -- "hands out N working turns": no more
+  pub at-most : (n : ℕ) (s : S) → length (served d n s) ≤ n
+  unfolding served
+  at-most zero s = omega arith
+  at-most (suc n) s = go (nextServed d s) (at-most n)
+    where
+      go : (f : Found) → ((s : S) → length (served d n s) ≤ n) → length (servedIf d f (λ place. served d n (d .serve s place))) ≤ suc n
+      go nowhere more = omega arith
+      go (at k) more = let h : length (served d n (d .serve s k)) ≤ n = more (d .serve s k) in omega arith
 
   -- "until N are spent or no job is left"
   pub until : (n : ℕ) (s : S) → (length (served d n s) ≡ n) ⊎ (nextServed d (leftBy (d .serve) s (served d n s)) ≡ nowhere)

@@ -21,13 +21,13 @@ use Rattle.held.specs.declared.types.HeldRow.{HeldRow}
 use Rattle.bench.specs.declared.types.Bench.{Bench}
 use Rattle.bench.specs.Refusals.{noPlace, scratchShort}
 use Rattle.bench.specs.Dealing.{placeAfter, nowhere, nextServed, served, Throughout, nextAfter, times}
-use Rattle.bench.specs.Book.{Call, admit, turn, fetch, release, listing, deal, number, leftBy, answersBy}
+use Rattle.bench.specs.Book.{Call, admit, turn, fetch, release, listing, deal, number, dealt, answerUnless, leftBy, answersBy}
 use Rattle.bench.specs.Benches.{noRow, rowAt, withRow}
 use Rattle.bench.specs.Calls.{isVacant, isLive, admitNumber, turnRefusals, turnNumber, releaseNumber, dealRefusals, dealNumber, benchDealer, servedBench}
 use Rattle.bench.specs.Calls.{servedIn, benchAnswer, benchStep}
 use Rattle.bench.specs.Rounds.{split, Says, found}
 use Rattle.bench.specs.Fair.{fair, within-four}
-use Rattle.bench.specs.DealLaws.{some-are, EachLive, each-live, one-after-another, until, behind, next-after, next-below}
+use Rattle.bench.specs.DealLaws.{some-are, EachLive, each-live, one-after-another, at-most, until, behind, next-after, next-below}
 use Rattle.bench.specs.Theorem.{dealtTo, servedBy, turnsAt}
 
 moves : (b : Bench) (place : ℕ) → servedBench b place .«next_place» ≡ placeAfter place
@@ -119,6 +119,18 @@ module _ (b : Bench) (n m : ℕ) where
   pub dealt-rows : benchStep b (deal n m) .rows ≡ leftBy benchStep b (turnsAt m (servedIn b n m)) .rows
   unfolding benchStep
   dealt-rows = by-number (dealNumber b m) refl .1
+
+  -- also where the dealing is refused
+  pub most-dealt : length (servedIn b n m) ≤ n
+  most-dealt = by (dealNumber b m)
+    where
+      by : (k : ℕ) → length (unlessRefused k (served benchDealer n b) []) ≤ n
+      by zero = at-most benchDealer n b
+      by (suc k) = omega arith
+
+  pub how-many : dealNumber b m ≡ 0 → benchAnswer b (deal n m) ≡ dealt (length (servedIn b n m))
+  unfolding benchAnswer
+  how-many e = ap (λ (k : ℕ). answerUnless k (dealt (length (servedIn b n m)))) e
 
   pub spent : dealNumber b m ≡ 0 → (length (servedIn b n m) ≡ n) ⊎ ((i : ℕ) → i < 4 → isLive (rowAt (benchStep b (deal n m)) i) ≡ false)
   unfolding benchStep

@@ -62,7 +62,7 @@ use Rattle.bench.specs.Places.{KeptRow, not-vacant, undamaged, zero-vaca
 use Rattle.bench.specs.OrderLaws.{ordered-perm, rising-ordered}
 use Rattle.bench.specs.Agreement.{Agree, kept-at, same-answer, agree-step}
 use Rattle.bench.specs.Results.{evaluable, returned}
-use Rattle.bench.specs.Dealings.{dealt-turns, dealt-rows, spent, next-place, fair-run, within-run}
+use Rattle.bench.specs.Dealings.{dealt-turns, dealt-rows, most-dealt, how-many, spent, next-place, fair-run, within-run}
 use Rattle.bench.specs.Theorem.{benchAfter, SameBench, RowHolds, SamePlace, Returned, ReturnedBy, Demand3}
 
 -- ---- lists of calls
@@ -291,7 +291,9 @@ demand3 = record {
   nextPlace = next-place;
   dealtTurns = dealt-turns;
   dealtRows = dealt-rows;
+  atMost = most-dealt;
   spent = spent;
+  howMany = how-many;
   fair = fair-run;
   withinFour = within-run;
 }

@@ -36,7 +36,7 @@ use Rattle.runs.specs.declared.types.Row.{Row}
 use Rattle.bench.specs.declared.types.Bench.{Bench}
 use Rattle.runs.specs.JobMerit.{lensWith, evaluateOf}
 use Rattle.bench.specs.Dealing.{Throughout, nextAfter, times}
-use Rattle.bench.specs.Book.{Call, admit, turn, fetch, release, listing, deal, Answer, number, fetched, Entry, empty, holds, countOf, Book, entryAt}
+use Rattle.bench.specs.Book.{Call, admit, turn, fetch, release, listing, deal, Answer, number, fetched, dealt, Entry, empty, holds, countOf, Book, entryAt}
 use Rattle.bench.specs.Book.{placesWhere, runAfter, leftBy, answersBy, bookAfter, bookAnswers}
 use Rattle.bench.specs.Book as Book
 use Rattle.bench.specs.Benches.{zeroRow, emptyBench, rowAt, withRow}
@@ -164,9 +164,13 @@ pub record Demand3 : Type 0 where
   pub dealtTurns : (b : Bench) (n scratch : ℕ) →
       answersBy benchAnswer benchStep b (turnsAt scratch (servedIn b n scratch)) ≡ replicate (length (servedIn b n scratch)) (number 0)
   pub dealtRows : (b : Bench) (n scratch : ℕ) → SameBench (benchStep b (deal n scratch)) (leftBy benchStep b (turnsAt scratch (servedIn b n scratch)))
+  -- "hands out N working turns": no more than N
+  pub atMost : (b : Bench) (n scratch : ℕ) → length (servedIn b n scratch) ≤ n
   -- "until N are spent or no job is left"
   pub spent : (b : Bench) (n scratch : ℕ) → dealNumber b scratch ≡ 0
       → (length (servedIn b n scratch) ≡ n) ⊎ ((i : ℕ) → i < 4 → isLive (rowAt (benchStep b (deal n scratch)) i) ≡ false)
+  -- "and answers how many were dealt"
+  pub howMany : (b : Bench) (n scratch : ℕ) → dealNumber b scratch ≡ 0 → benchAnswer b (deal n scratch) ≡ dealt (length (servedIn b n scratch))
   -- "two jobs unfinished and undamaged throughout differ by at most one in the turns dealt to them"
   pub fair : (b : Bench) (ds : List (ℕ × ℕ)) (i j : ℕ) → i < 4 → j < 4 → Throughout benchDealer i b (servedBy b ds) → Throughout benchDealer j b (servedBy b ds)
       → times i (servedBy b ds) ≤ times j (servedBy b ds) + 1

@@ -15,12 +15,14 @@ use Rattle.optics.specs.Curvature
 use Rattle.optics.specs.Trace.{rayOf, arriving}
 use Rattle.optics.specs.Properties.{paraxialOf}
 use Rattle.optics.specs.Check.{within, aboveZeroUpTo, surfaceTaken, lensTaken}
-use Rattle.optics.specs.Types.{withRadius, surfaceAt}
+use Rattle.optics.specs.Types.{withRadius, withConic, withThickness, withSemiDiameter, surfaceAt}
 use Rattle.optics.specs.declared.types.OpticalPrescription.{OpticalPrescription}
 use Rattle.optics.specs.declared.types.OpticalSurface.{OpticalSurface}
 use Rattle.optics.specs.declared.types.ParaxialRay.{ParaxialRay}
 use Rattle.variables.specs.declared.types.Follower.{Follower}
 use Rattle.variables.specs.declared.types.Follower.the-variants.{Plus, Minus}
+use Rattle.variables.specs.declared.types.VariableType.{VariableType}
+use Rattle.variables.specs.declared.types.VariableType.the-variants.{Curvature, Thickness, Conic, SemiDiameter}
 use Rattle.variables.specs.Active.{enabledOf}
 use Rattle.variables.specs.Kinds.{radiusOf}
 use Rattle.variables.specs.Taken.{followersTaken}
@@ -52,7 +54,7 @@ use Rattle.bench.specs.Accepted.{Admitted, drawings-admitted}
 use Rattle.known.specs.Samples.{Settings, limitZero, n10, n12, n13, n56, sevenEighths, tenthOfLeast, least, pastFive, pastOne, firstAlone, kinds}
 use Rattle.known.specs.Samples.{threeAndHalf, sixteenth, thirtySecond, n19880, n395214400}
 use Rattle.known.specs.Samples.{n24, threeAndQuarter, fourLessQuarter, shopLimits}
-use Rattle.known.specs.Samples.{atLeastThree, halfBall, edgeAtLeast, eighth, curvatureWithin, curvature}
+use Rattle.known.specs.Samples.{atLeastThree, halfBall, edgeAtLeast, eighth, variableWithin, curvatureWithin, curvature}
 
 -- `evaluate` takes the lens and the operands, and its answer has a property
 abbrev pub Evaluates : OpticalPrescription → MeritFunction → (MeritEvaluation → Type 0) → Type 0
@@ -73,10 +75,14 @@ Flat s rest new = new ≡ withRadius s (inf false) ∷ rest
 abbrev pub Bent : OpticalSurface → (rest new : Surfaces) → Type 0
 Bent s rest new = finiteOf (surfaceAt new 0 .«radius_mm») ≡ true
 
--- The first surface's curvature, within bounds, set to x: all surfaces afterwards, out of the first, the second and the rest.
+-- A variable, within bounds, set to x: all surfaces afterwards, out of the first, the second and the rest.
+abbrev pub Led : VariableType → (lo hi : Float) → Follower → (x : Float) → (OpticalSurface → OpticalSurface → Surfaces → Surfaces) → Type 0
+Led kind lo hi f x new = (u : Unused) (s t : OpticalSurface) (rest : Surfaces) (more : List Float)
+    → applied (variableWithin u true kind lo hi f) (x ∷ more) (s ∷ t ∷ rest) ≡ new s t rest
+
+-- the first surface's curvature
 abbrev pub Followed : (lo hi : Float) → Follower → (x : Float) → (OpticalSurface → OpticalSurface → Surfaces → Surfaces) → Type 0
-Followed lo hi f x new = (u : Unused) (s t : OpticalSurface) (rest : Surfaces) (more : List Float)
-    → applied (curvatureWithin u lo hi f) (x ∷ more) (s ∷ t ∷ rest) ≡ new s t rest
+Followed lo hi f x new = Led (Curvature 0) lo hi f x new
 
 -- both with a radius of their own
 abbrev pub radii : (named follower : Float) → OpticalSurface → OpticalSurface → Surfaces → Surfaces
@@ -128,9 +134,18 @@ pub record Known : Type 0 where
   pub minus-flat : Followed (neg tenthOfLeast) least (Minus 1) (neg tenthOfLeast) (radii (inf false) (inf false))
   -- "straight after the named surface": one that follows itself with minus is left with -8
   pub minus-itself : Followed zero64 eighth (Minus 0) eighth (λ s t rest. withRadius s (neg n8) ∷ t ∷ rest)
-  -- a follower of two surfaces is taken, one that is absent is not
+  -- the follower gets the quantity that the variable names, whichever it is
+  pub thickness-follows : Led (Thickness 0) n1 n4 (Plus 1) n3 (λ s t rest. withThickness s n3 ∷ withThickness t n3 ∷ rest)
+  pub conic-follows : Led (Conic 0) n1 n4 (Minus 1) n3 (λ s t rest. withConic s n3 ∷ withConic t (neg n3) ∷ rest)
+  pub semi-diameter-follows : Led (SemiDiameter 0) n1 n4 (Plus 1) n3 (λ s t rest. withSemiDiameter s n3 ∷ withSemiDiameter t n3 ∷ rest)
+  -- 17: a follower of two surfaces is taken, one that is absent is not, "enabled or not"; minus of a conic is taken, "of a semi-diameter or thickness" it is not
   pub follower-there : (u : Unused) → followersTaken 2 (curvatureWithin u zero64 eighth (Minus 1)) ≡ true
   pub follower-absent : (u : Unused) → followersTaken 1 (curvatureWithin u zero64 eighth (Minus 1)) ≡ false
+  pub disabled-absent : (u : Unused) → followersTaken 1 (variableWithin u false (Curvature 0) zero64 eighth (Plus 1)) ≡ false
+  pub conic-minus : (u : Unused) → followersTaken 2 (variableWithin u true (Conic 0) n1 n4 (Minus 1)) ≡ true
+  pub thickness-minus : (u : Unused) → followersTaken 2 (variableWithin u true (Thickness 0) n1 n4 (Minus 1)) ≡ false
+  pub semi-diameter-minus : (u : Unused) → followersTaken 2 (variableWithin u true (SemiDiameter 0) n1 n4 (Minus 1)) ≡ false
+  pub thickness-plus : (u : Unused) → followersTaken 2 (variableWithin u true (Thickness 0) n1 n4 (Plus 1)) ≡ true
   -- a damped run moves: 2 thick where 3 is wanted, damping 1, one iteration: 2.5 thick, merit 1/4
   pub moves : (u : Unused) → (thickened u .«final_merit» ≡ quarter) × (surfaceAt (thickened u .surfaces) 0 .«thickness_mm» ≡ twoAndHalf)
   -- "Iteration limit 0: one turn, not converged." Whatever the job and the other settings are.
@@ -172,8 +187,16 @@ known = record {
   plus = λ u s t rest more. refl;
   minus-flat = λ u s t rest more. refl;
   minus-itself = λ u s t rest more. refl;
+  thickness-follows = λ u s t rest more. refl;
+  conic-follows = λ u s t rest more. refl;
+  semi-diameter-follows = λ u s t rest more. refl;
   follower-there = λ u. refl;
   follower-absent = λ u. refl;
+  disabled-absent = λ u. refl;
+  conic-minus = λ u. refl;
+  thickness-minus = λ u. refl;
+  semi-diameter-minus = λ u. refl;
+  thickness-plus = λ u. refl;
   moves = half-way;
   a-turn = λ s job. refl;
   one-turn = λ f s job. refl;

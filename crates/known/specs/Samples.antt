@@ -1,6 +1,6 @@
 -- What the known values of document 01 are worked out of, beside the lens and the requests of `jobs` (Sample.antt). Definitions only.
 use Prim.Native.Nat.{ℕ}
-use mathlib.Core.Bool.{true, false}
+use mathlib.Core.Bool.{Bool, true, false}
 use mathlib.Core.List.{List, [], _∷_}
 use lib.Ieee.{Float, inf, binary64, neg, ofBits}
 use Rattle.floats.specs.Constants.{zero64}
@@ -9,6 +9,7 @@ use Rattle.optics.specs.declared.types.OpticalSurface.{OpticalSurface}
 use Rattle.variables.specs.declared.types.Follower.{Follower}
 use Rattle.variables.specs.declared.types.Follower.the-variants.{None}
 use Rattle.variables.specs.declared.types.VariableSet.{VariableSet}
+use Rattle.variables.specs.declared.types.VariableType.{VariableType}
 use Rattle.variables.specs.declared.types.VariableType.the-variants.{Curvature}
 use Rattle.merit.specs.declared.types.MeritFunction.{MeritFunction}
 use Rattle.merit.specs.declared.types.OperandType.the-variants.{EffectiveFocalLength, WorkingFNumber, TotalTrack, BackFocalLength, ParaxialMagnification}
@@ -123,12 +124,16 @@ module _ (u : Unused) where
   abbrev pub edgeAtLeast : (i : ℕ) (limit : Float) → MeritFunction
   edgeAtLeast i limit = record { operands = operand (MinEdgeThickness i limit) zero64 zero64 ∷ u .operands; «operand_count» = 1 }
 
-  -- the first curvature, from a bound to another, and its follower
-  abbrev pub curvatureWithin : (lo hi : Float) → Follower → VariableSet
-  curvatureWithin lo hi f = record {
-    variables = record { «var_type» = Curvature 0; «min_value» = lo; «max_value» = hi; «step_size» = n1; enabled = true; follower = f } ∷ u .variables;
+  -- one variable, enabled or not, from a bound to another, and its follower
+  abbrev pub variableWithin : Bool → VariableType → (lo hi : Float) → Follower → VariableSet
+  variableWithin on kind lo hi f = record {
+    variables = record { «var_type» = kind; «min_value» = lo; «max_value» = hi; «step_size» = n1; enabled = on; follower = f } ∷ u .variables;
     «variable_count» = 1;
   }
+
+  -- the first curvature
+  abbrev pub curvatureWithin : (lo hi : Float) → Follower → VariableSet
+  curvatureWithin lo hi f = variableWithin true (Curvature 0) lo hi f
 
   -- from -1e-13 to 1e-12, without one
   abbrev pub curvature : VariableSet
