@@ -1,29 +1,24 @@
 // Lines that ask for the finished places.
-use answers::put_unknown;
-use bench::Bench;
+use crate::pieces;
+use crate::types::Answered;
 use bench::Finished;
-use text::cursor;
-use text::cursor::Cursor;
 use text::output;
 use text::output::Waiting;
 
 // L
-pub(crate) fn list(
-    out: &mut [u8],
-    waiting: Waiting,
-    bench: Bench,
-    line: &[u8],
-    at: usize,
-    number: u64,
-) -> Waiting {
-    let c = Cursor::new(at);
-    if !cursor::is_done(line, c) {
-        return put_unknown(out, waiting, line, number, c);
+pub(crate) fn list(out: &mut [u8], state: Answered) -> Answered {
+    let bench = state.bench;
+    Answered {
+        bench: bench,
+        waiting: put_finished(out, state.waiting, finished::listed(bench)),
     }
-    let finished = finished::listed(bench);
+}
+
+// L count {place}
+fn put_finished(out: &mut [u8], waiting: Waiting, finished: Finished) -> Waiting {
     let waiting = answers::put_number(out, waiting, b"L", finished.count as u64);
     let waiting = put_places(out, waiting, finished);
-    output::put(out, waiting, b"\n")
+    pieces::end_line(out, waiting)
 }
 
 // The places in the order that the call gave.
@@ -33,7 +28,7 @@ fn put_places(out: &mut [u8], waiting: Waiting, finished: Finished) -> Waiting {
     let mut held = waiting;
     let mut i = 0;
     while i < n {
-        held = answers::put_number(out, held, b"", places[i] as u64);
+        held = pieces::put_more(out, held, places[i] as u64);
         i += 1;
     }
     held

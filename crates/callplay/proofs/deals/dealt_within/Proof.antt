@@ -9,17 +9,14 @@ use Rattle.callplay.proofs.deals.dealt_within.Tie as tie
 least-requires : tie.Need-least-requires
 least-requires c κs = search needs
 
-slice-relend-prefix-dealt : tie.Need-slice-relend-prefix-dealt
-slice-relend-prefix-dealt c = search needs
+array-borrow-prefix-scratch : tie.Need-array-borrow-prefix-scratch
+array-borrow-prefix-scratch c = search needs
 
 slice-aggregate-dealt : tie.Need-slice-aggregate-dealt
 slice-aggregate-dealt c = sym (length-take-le _ _ (omega arith))
 
 dealt-requires : tie.Need-dealt-requires
 dealt-requires c κs = search needs
-
-same-length : tie.Need-same-length
-same-length c = search needs
 
 returns : tie.Need-returns
 returns c = search needs
@@ -29,8 +26,7 @@ dealt-within-spec =
     tie.close
     (tie.spec
     least-requires
-    slice-relend-prefix-dealt
+    array-borrow-prefix-scratch
     slice-aggregate-dealt
     dealt-requires
-    same-length
     returns)

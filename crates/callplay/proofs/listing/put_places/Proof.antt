@@ -7,10 +7,10 @@ use Rattle.callplay.proofs.listing.put_places.Statement.{statement}
 use Rattle.callplay.proofs.listing.put_places.Tie as tie
 
 abbrev Inv-loop : tie.InvT-loop
-Inv-loop out₀ places n held₀ i₀ t8 out held i = (i ≤ n) × (length out ≡ length out₀)
+Inv-loop out₀ places n held₀ i₀ out held i = (i ≤ n) × (length out ≡ length out₀)
 
 abbrev μ-loop : tie.MeasureT-loop
-μ-loop out₀ places n held₀ i₀ t8 out held i = n - i
+μ-loop out₀ places n held₀ i₀ out held i = n - i
 
 least-requires : tie.Need-least-requires Inv-loop μ-loop
 least-requires c κs = search needs
@@ -18,17 +18,14 @@ least-requires c κs = search needs
 loop-holds : tie.Need-loop-holds Inv-loop μ-loop
 loop-holds c = search needs
 
-slice-aggregate-put-number : tie.Need-slice-aggregate-put-number Inv-loop μ-loop
-slice-aggregate-put-number c = search needs
+mul-put-more : tie.Need-mul-put-more Inv-loop μ-loop
+mul-put-more c = search needs
 
-mul-put-number : tie.Need-mul-put-number Inv-loop μ-loop
-mul-put-number c = search needs
+array-read-put-more : tie.Need-array-read-put-more Inv-loop μ-loop
+array-read-put-more c = search needs
 
-array-read-put-number : tie.Need-array-read-put-number Inv-loop μ-loop
-array-read-put-number c = search needs
-
-put-number-requires : tie.Need-put-number-requires Inv-loop μ-loop
-put-number-requires c κs = search needs
+put-more-requires : tie.Need-put-more-requires Inv-loop μ-loop
+put-more-requires c κs = search needs
 
 add-i : tie.Need-add-i Inv-loop μ-loop
 add-i c = search needs
@@ -53,10 +50,9 @@ put-places-spec =
     μ-loop
     least-requires
     loop-holds
-    slice-aggregate-put-number
-    mul-put-number
-    array-read-put-number
-    put-number-requires
+    mul-put-more
+    array-read-put-more
+    put-more-requires
     add-i
     loop-less
     loop-again

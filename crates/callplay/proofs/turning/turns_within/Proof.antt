@@ -9,17 +9,14 @@ use Rattle.callplay.proofs.turning.turns_within.Tie as tie
 least-requires : tie.Need-least-requires
 least-requires c κs = search needs
 
-slice-relend-prefix-play-turns : tie.Need-slice-relend-prefix-play-turns
-slice-relend-prefix-play-turns c = search needs
+array-borrow-prefix-scratch : tie.Need-array-borrow-prefix-scratch
+array-borrow-prefix-scratch c = search needs
 
 slice-aggregate-play-turns : tie.Need-slice-aggregate-play-turns
 slice-aggregate-play-turns c = sym (length-take-le _ _ (omega arith))
 
 play-turns-requires : tie.Need-play-turns-requires
 play-turns-requires c κs = search needs
-
-same-length : tie.Need-same-length
-same-length c = search needs
 
 returns : tie.Need-returns
 returns c = search needs
@@ -29,8 +26,7 @@ turns-within-spec =
     tie.close
     (tie.spec
     least-requires
-    slice-relend-prefix-play-turns
+    array-borrow-prefix-scratch
     slice-aggregate-play-turns
     play-turns-requires
-    same-length
     returns)
