@@ -1,13 +1,18 @@
 // The leaf lines: a name, and the numbers that the function of that name is asked at.
-ghost use Prim.Native.Nat.{_≤_};
-ghost use lib.ListN.{length};
+use crate::names::ABS;
+use crate::names::CLAMP;
+use crate::names::DRAW;
+use crate::names::E;
+use crate::names::JUMP;
+use crate::names::SQRT;
+use crate::names::UNIFORM;
+use crate::pieces;
 use answers::put_unknown;
 use text::cursor;
 use text::cursor::Cursor;
 use text::cursor::Why;
 use text::output;
 use text::output::Waiting;
-use text::words::Word;
 
 // What a leaf line is answered with; one that is out of form, with where it is.
 enum Reply {
@@ -18,67 +23,34 @@ enum Reply {
     Unknown(Cursor),
 }
 
-// The answer to a line whose first word is w.
-fn reply_to(line: &[u8], w: Word) -> Reply
-    requires { ⌜ w .from ≤ w .to ⌝ }
-    requires { ⌜ w .to ≤ length (now line) ⌝ }
-{
-    let from = w.from;
-    let to = w.to;
-    let name = &line[from..to];
-    let c = Cursor::new(to);
-    if check::same(name, b"E") {
-        return exponential(line, c);
+// The answer to a line of that name, from where the name ends.
+fn reply_to(line: &[u8], c: Cursor, name: u64) -> Reply {
+    match name {
+        E | SQRT | ABS => value(line, c, name),
+        DRAW => draw(line, c),
+        JUMP => jumped(line, c),
+        UNIFORM => uniform(line, c),
+        CLAMP => clamp(line, c),
+        _ => Reply::Unknown(cursor::out_of_form(Cursor::new(0), Why::Kind)),
     }
-    if check::same(name, b"SQRT") {
-        return root(line, c);
-    }
-    if check::same(name, b"ABS") {
-        return absolute(line, c);
-    }
-    if check::same(name, b"DRAW") {
-        return draw(line, c);
-    }
-    if check::same(name, b"JUMP") {
-        return jumped(line, c);
-    }
-    if check::same(name, b"UNIFORM") {
-        return uniform(line, c);
-    }
-    if check::same(name, b"CLAMP") {
-        return clamp(line, c);
-    }
-    Reply::Unknown(cursor::out_of_form(Cursor::new(0), Why::Kind))
 }
 
-// E x
-fn exponential(line: &[u8], c: Cursor) -> Reply {
+// E x, SQRT x, ABS x
+fn value(line: &[u8], c: Cursor, name: u64) -> Reply {
     let x = cursor::float(line, c);
     if !cursor::is_done(line, x.next) {
         let next = x.next;
         return Reply::Unknown(next);
     }
-    Reply::One(floats::exp_stand_in(x.value))
+    Reply::One(value_at(name, x.value))
 }
 
-// SQRT x
-fn root(line: &[u8], c: Cursor) -> Reply {
-    let x = cursor::float(line, c);
-    if !cursor::is_done(line, x.next) {
-        let next = x.next;
-        return Reply::Unknown(next);
+fn value_at(name: u64, x: f64) -> f64 {
+    match name {
+        E => floats::exp_stand_in(x),
+        SQRT => roots::sqrt(x),
+        _ => floats::abs(x),
     }
-    Reply::One(roots::sqrt(x.value))
-}
-
-// ABS x
-fn absolute(line: &[u8], c: Cursor) -> Reply {
-    let x = cursor::float(line, c);
-    if !cursor::is_done(line, x.next) {
-        let next = x.next;
-        return Reply::Unknown(next);
-    }
-    Reply::One(floats::abs(x.value))
 }
 
 // DRAW seed n: the state after n draws, and its unit draw; zeros where n is 0, as the oracle has it.
@@ -147,42 +119,41 @@ fn apply_clamp(x: f64, lo: f64, hi: f64) -> f64 {
 
 // Puts a line and its answer.
 fn put_reply(out: &mut [u8], waiting: Waiting, line: &[u8], reply: Reply) -> Waiting {
-    let waiting = output::put(out, waiting, line);
-    let waiting = output::put(out, waiting, b" = ");
+    let waiting = pieces::put_line(out, waiting, line);
     let waiting = put_values(out, waiting, reply);
-    output::put(out, waiting, b"\n")
+    pieces::end_line(out, waiting)
 }
 
 fn put_values(out: &mut [u8], waiting: Waiting, reply: Reply) -> Waiting {
     match reply {
-        Reply::One(x) => output::put_float(out, waiting, x),
-        Reply::Two(x, y) => {
-            let waiting = output::put_float(out, waiting, x);
-            let waiting = output::put(out, waiting, b" ");
-            output::put_float(out, waiting, y)
-        }
-        Reply::Draw(x, y) => {
-            let waiting = output::put_hex(out, waiting, x);
-            let waiting = output::put(out, waiting, b" ");
-            output::put_float(out, waiting, y)
-        }
-        Reply::State(x) => output::put_hex(out, waiting, x),
+        Reply::One(x) => pieces::put_one(out, waiting, x),
+        Reply::Two(x, y) => put_two(out, waiting, x, y),
+        Reply::Draw(x, y) => put_draw(out, waiting, x, y),
+        Reply::State(x) => pieces::put_state(out, waiting, x),
         Reply::Unknown(_) => waiting,
     }
 }
 
-// Answers a line whose first word is w.
+fn put_two(out: &mut [u8], waiting: Waiting, x: f64, y: f64) -> Waiting {
+    let row = [x, y];
+    output::put_floats(out, waiting, &row)
+}
+
+fn put_draw(out: &mut [u8], waiting: Waiting, state: u64, unit: f64) -> Waiting {
+    let waiting = pieces::put_state(out, waiting, state);
+    pieces::put_one(out, waiting, unit)
+}
+
+// Answers a line of that name, from where the name ends.
 pub(crate) fn answer_leaf(
     out: &mut [u8],
     waiting: Waiting,
     line: &[u8],
-    w: Word,
+    at: usize,
+    name: u64,
     number: u64,
-) -> Waiting
-    requires { ⌜ w .from ≤ w .to ⌝ }
-    requires { ⌜ w .to ≤ length (now line) ⌝ }
-{
-    let reply = reply_to(line, w);
+) -> Waiting {
+    let reply = reply_to(line, Cursor::new(at), name);
     match reply {
         Reply::Unknown(c) => put_unknown(out, waiting, line, number, c),
         _ => put_reply(out, waiting, line, reply),

@@ -3,6 +3,9 @@ ghost use Prim.Native.Nat.{_≤_};
 ghost use lib.ListN.{length};
 use crate::leaf;
 use crate::matrix;
+use crate::names;
+use crate::names::NORMAL;
+use crate::names::SOLVE;
 use text::input;
 use text::input::Input;
 use text::input::Line;
@@ -19,14 +22,12 @@ fn answer_line(out: &mut [u8], waiting: Waiting, line: &[u8], number: u64) -> Wa
     if from == to {
         return waiting;
     }
-    let name = &line[from..to];
-    if check::same(name, b"SOLVE") {
-        return matrix::answer_solve(out, waiting, line, to, number);
+    let name = names::number_of(&line[from..to]);
+    match name {
+        SOLVE => matrix::answer_solve(out, waiting, line, to, number),
+        NORMAL => matrix::answer_normal(out, waiting, line, to, number),
+        _ => leaf::answer_leaf(out, waiting, line, to, name, number),
     }
-    if check::same(name, b"NORMAL") {
-        return matrix::answer_normal(out, waiting, line, to, number);
-    }
-    leaf::answer_leaf(out, waiting, line, w, number)
 }
 
 // Answers a line of the input; while none is there, what waits is written.

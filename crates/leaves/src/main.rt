@@ -5,6 +5,8 @@
 mod leaf;
 mod lines;
 mod matrix;
+mod names;
+mod pieces;
 
 fn main() {
     let mut buf = io::large_buffer();

@@ -1,7 +1,8 @@
 // The lines on small matrices: a system solved, and the normal equations of a Jacobian.
-ghost use Prim.Native.Nat.{_≤_, _<_};
+ghost use Prim.Native.Nat.{_+_, _≤_, _<_};
 ghost use lib.ListN.{length};
 ghost use Rattle.normal.specs.Layout.{scratchLength, mostOperands, mostVariables};
+use crate::pieces;
 use answers::put_unknown;
 use normal::GRADIENT;
 use normal::PRODUCT;
@@ -43,7 +44,7 @@ fn read_right_side(line: &[u8], c: Cursor, scratch: &mut [f64], p: usize) -> Cur
     next
 }
 
-// SOLVE p {entries by rows} {right side}: the solution, or `none`.
+// SOLVE p {entries by rows} {right side}: the solution, or `none`. A size out of range is out of form, whatever is read after it.
 pub(crate) fn answer_solve(
     out: &mut [u8],
     waiting: Waiting,
@@ -51,36 +52,36 @@ pub(crate) fn answer_solve(
     at: usize,
     number: u64,
 ) -> Waiting {
-    let r = cursor::within(line, Cursor::new(at), 1, 8, Why::Range);
-    let p = r.value as usize;
-    if p == 0 || p > 8 {
-        return put_unknown(out, waiting, line, number, r.next);
-    }
+    let size = cursor::within(line, Cursor::new(at), 1, 8, Why::Range);
+    let p = output::least(size.value as usize, 8);
     let mut scratch = [0.0; 128];
-    let c = read_system(line, r.next, &mut scratch, p);
+    let c = read_system(line, size.next, &mut scratch, p);
     if !cursor::is_done(line, c) {
         return put_unknown(out, waiting, line, number, c);
     }
+    let waiting = pieces::put_line(out, waiting, line);
+    put_solved(out, waiting, scratch, p)
+}
+
+// Of the system that stands in scratch.
+fn put_solved(out: &mut [u8], waiting: Waiting, system: [f64; 128], p: usize) -> Waiting
+    requires { ⌜ p ≤ mostVariables ⌝ }
+{
+    let mut scratch = system;
     let solved = normal::solve(&mut scratch, p);
-    let waiting = put_line(out, waiting, line);
     let Solved::Yes = solved else {
         return output::put(out, waiting, b" none\n");
     };
-    put_solution(out, waiting, &scratch, p)
+    let waiting = put_part(out, waiting, &scratch, STEP, p);
+    pieces::end_line(out, waiting)
 }
 
-fn put_solution(out: &mut [u8], waiting: Waiting, scratch: &[f64], p: usize) -> Waiting
-    requires { ⌜ scratchLength ≤ length (now scratch) ⌝ ∗ ⌜ p ≤ mostVariables ⌝ }
+// So many floats of scratch.
+fn put_part(out: &mut [u8], waiting: Waiting, scratch: &[f64], from: usize, p: usize) -> Waiting
+    requires { ⌜ from + p ≤ length (now scratch) ⌝ ∗ ⌜ from ≤ 128 ⌝ ∗ ⌜ p ≤ mostVariables ⌝ }
 {
-    let to = STEP + p;
-    let waiting = output::put_floats(out, waiting, &scratch[STEP..to]);
-    output::put(out, waiting, b"\n")
-}
-
-// A line that is in form, up to its answer.
-fn put_line(out: &mut [u8], waiting: Waiting, line: &[u8]) -> Waiting {
-    let waiting = output::put(out, waiting, line);
-    output::put(out, waiting, b" =")
+    let to = from + p;
+    output::put_floats(out, waiting, &scratch[from..to])
 }
 
 // The Jacobian of m operands, a column for each of p variables.
@@ -97,7 +98,29 @@ fn read_columns(line: &[u8], c: Cursor, jacobian: &mut [f64], m: usize, p: usize
     next
 }
 
-// NORMAL m p {entries by columns} {residuals}: J^T J by rows, J^T r, and its norm.
+// A Jacobian and the residuals, and where their line goes on.
+struct NormalRead {
+    pub jacobian: [f64; 96],
+    pub residuals: [f64; 12],
+    pub next: Cursor,
+}
+
+fn read_normal(line: &[u8], c: Cursor, m: usize, p: usize) -> NormalRead
+    requires { ⌜ m ≤ mostOperands ⌝ ∗ ⌜ p ≤ mostVariables ⌝ }
+{
+    let mut jacobian = [0.0; 96];
+    let mut residuals = [0.0; 12];
+    let next = read_columns(line, c, &mut jacobian, m, p);
+    let next = cursor::floats(line, next, &mut residuals, m);
+    NormalRead {
+        jacobian: jacobian,
+        residuals: residuals,
+        next: next,
+    }
+}
+
+// NORMAL m p {entries by columns} {residuals}: J^T J by rows, J^T r, and its norm. A size out of range is out of form, whatever
+// is read after it.
 pub(crate) fn answer_normal(
     out: &mut [u8],
     waiting: Waiting,
@@ -105,23 +128,25 @@ pub(crate) fn answer_normal(
     at: usize,
     number: u64,
 ) -> Waiting {
-    let r = cursor::within(line, Cursor::new(at), 1, 12, Why::Range);
-    let m = r.value as usize;
-    let r = cursor::within(line, r.next, 1, 8, Why::Range);
-    let p = r.value as usize;
-    if m == 0 || m > 12 || p == 0 || p > 8 {
-        return put_unknown(out, waiting, line, number, r.next);
+    let operands = cursor::within(line, Cursor::new(at), 1, 12, Why::Range);
+    let variables = cursor::within(line, operands.next, 1, 8, Why::Range);
+    let m = output::least(operands.value as usize, 12);
+    let p = output::least(variables.value as usize, 8);
+    let read = read_normal(line, variables.next, m, p);
+    if !cursor::is_done(line, read.next) {
+        return put_unknown(out, waiting, line, number, read.next);
     }
-    let mut jacobian = [0.0; 96];
-    let mut residuals = [0.0; 12];
-    let c = read_columns(line, r.next, &mut jacobian, m, p);
-    let c = cursor::floats(line, c, &mut residuals, m);
-    if !cursor::is_done(line, c) {
-        return put_unknown(out, waiting, line, number, c);
-    }
+    let waiting = pieces::put_line(out, waiting, line);
+    put_normal(out, waiting, read, m, p)
+}
+
+fn put_normal(out: &mut [u8], waiting: Waiting, read: NormalRead, m: usize, p: usize) -> Waiting
+    requires { ⌜ m ≤ mostOperands ⌝ ∗ ⌜ p ≤ mostVariables ⌝ }
+{
+    let jacobian = read.jacobian;
+    let residuals = read.residuals;
     let mut scratch = [0.0; 128];
     let norm = normal::normal_equations(&mut scratch, &jacobian, &residuals, m, p);
-    let waiting = put_line(out, waiting, line);
     put_equations(out, waiting, &scratch, p, norm)
 }
 
@@ -129,11 +154,9 @@ fn put_equations(out: &mut [u8], waiting: Waiting, scratch: &[f64], p: usize, no
     requires { ⌜ scratchLength ≤ length (now scratch) ⌝ ∗ ⌜ p ≤ mostVariables ⌝ }
 {
     let waiting = put_product(out, waiting, scratch, p);
-    let to = GRADIENT + p;
-    let waiting = output::put_floats(out, waiting, &scratch[GRADIENT..to]);
-    let last = [norm];
-    let waiting = output::put_floats(out, waiting, &last);
-    output::put(out, waiting, b"\n")
+    let waiting = put_part(out, waiting, scratch, GRADIENT, p);
+    let waiting = pieces::put_one(out, waiting, norm);
+    pieces::end_line(out, waiting)
 }
 
 fn put_product(out: &mut [u8], waiting: Waiting, scratch: &[f64], p: usize) -> Waiting
@@ -156,8 +179,7 @@ fn put_product_row(out: &mut [u8], waiting: Waiting, scratch: &[f64], p: usize, 
     let mut j = 0;
     while j < p {
         let at = PRODUCT + place(i, j);
-        let entry = [scratch[at]];
-        held = output::put_floats(out, held, &entry);
+        held = pieces::put_one(out, held, scratch[at]);
         j += 1;
     }
     held

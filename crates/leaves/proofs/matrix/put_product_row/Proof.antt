@@ -21,17 +21,14 @@ place-requires c κs = search needs
 add-at : tie.Need-add-at Inv-loop μ-loop
 add-at c = search needs
 
-mul-t11 : tie.Need-mul-t11 Inv-loop μ-loop
-mul-t11 c = search needs
+mul-put-one : tie.Need-mul-put-one Inv-loop μ-loop
+mul-put-one c = search needs
 
-shared-slice-read-t13 : tie.Need-shared-slice-read-t13 Inv-loop μ-loop
-shared-slice-read-t13 c = search needs
+shared-slice-read-put-one : tie.Need-shared-slice-read-put-one Inv-loop μ-loop
+shared-slice-read-put-one c = search needs
 
-slice-aggregate-put-floats : tie.Need-slice-aggregate-put-floats Inv-loop μ-loop
-slice-aggregate-put-floats c = search needs
-
-put-floats-requires : tie.Need-put-floats-requires Inv-loop μ-loop
-put-floats-requires c κs = search needs
+put-one-requires : tie.Need-put-one-requires Inv-loop μ-loop
+put-one-requires c κs = search needs
 
 add-j : tie.Need-add-j Inv-loop μ-loop
 add-j c = search needs
@@ -57,10 +54,9 @@ put-product-row-spec =
     loop-holds
     place-requires
     add-at
-    mul-t11
-    shared-slice-read-t13
-    slice-aggregate-put-floats
-    put-floats-requires
+    mul-put-one
+    shared-slice-read-put-one
+    put-one-requires
     add-j
     loop-less
     loop-again
