@@ -2,7 +2,6 @@
 use crate::call;
 use crate::types::Answered;
 use joblines::RequestRead;
-use jobs::JobRequest;
 use text::cursor;
 use text::cursor::Cursor;
 use text::cursor::NumberRead;
@@ -17,8 +16,8 @@ pub(crate) fn admit(
     number: u64,
 ) -> Answered {
     let place = cursor::decimal(line, Cursor::new(at));
-    let read = read_job(line, read_kind(line, place.next));
-    admit_read(out, state, line, number, place.value as usize, read)
+    let kind = read_kind(line, place.next);
+    admit_kind(out, state, line, number, place.value as usize, kind)
 }
 
 // J id kind
@@ -33,22 +32,23 @@ fn read_job(line: &[u8], kind: NumberRead) -> RequestRead {
     joblines::read_request(line, kind.value, job)
 }
 
-fn admit_read(
+fn admit_kind(
     out: &mut [u8],
     state: Answered,
     line: &[u8],
     number: u64,
     place: usize,
-    read: RequestRead,
+    kind: NumberRead,
 ) -> Answered {
+    let read = read_job(line, kind);
     if !cursor::is_done(line, read.next) {
         return call::unknown(out, state, line, number, read.next);
     }
-    let request = read.request;
-    admit_request(out, state, place, request)
+    admit_job(out, state, place, read)
 }
 
-fn admit_request(out: &mut [u8], state: Answered, place: usize, request: JobRequest) -> Answered {
+fn admit_job(out: &mut [u8], state: Answered, place: usize, read: RequestRead) -> Answered {
+    let request = read.request;
     let bench = state.bench;
     let answer = benchcalls::admitted(bench, place, request);
     call::answered(out, state.waiting, b'A', answer)

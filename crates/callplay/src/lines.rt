@@ -11,6 +11,15 @@ use text::output::Waiting;
 use text::session;
 use text::words;
 
+// An answer that leaves the bench as it is.
+fn with_waiting(state: Answered, waiting: Waiting) -> Answered {
+    let bench = state.bench;
+    Answered {
+        bench: bench,
+        waiting: waiting,
+    }
+}
+
 // The letter that is all of a name, or 0.
 fn letter_of(name: &[u8]) -> u8 {
     if name.len() == 1 { name[0] } else { 0 }
@@ -28,33 +37,21 @@ fn answer_line(out: &mut [u8], state: Answered, line: &[u8], number: u64) -> Ans
     call::answer_call(out, state, line, to, letter, number)
 }
 
-// Answers a line of the input.
+// Answers a line of the input; while none is there, what waits is written.
 fn answer_found(out: &mut [u8], state: Answered, buf: &[u8], line: Line) -> Answered
     requires { ⌜ line .from ≤ line .to ⌝ }
     requires { ⌜ line .to ≤ length (now buf) ⌝ }
 {
-    if line.is_cut || !line.is_there {
-        return without_line(out, state, line);
+    let waiting = state.waiting;
+    if !line.is_there {
+        return with_waiting(state, output::flush(out, waiting));
+    }
+    if line.is_cut {
+        return with_waiting(state, answers::put_cut(out, waiting, line.number));
     }
     let from = line.from;
     let to = line.to;
     answer_line(out, state, &buf[from..to], line.number)
-}
-
-// Of a line that is cut only its number is told; while none is there, what waits is written. The bench stays as it is.
-fn without_line(out: &mut [u8], state: Answered, line: Line) -> Answered {
-    let bench = state.bench;
-    Answered {
-        bench: bench,
-        waiting: put_none(out, state.waiting, line.is_there, line.number),
-    }
-}
-
-fn put_none(out: &mut [u8], waiting: Waiting, is_there: bool, number: u64) -> Waiting {
-    if is_there {
-        return answers::put_cut(out, waiting, number);
-    }
-    output::flush(out, waiting)
 }
 
 // The empty bench, and nothing waits.
