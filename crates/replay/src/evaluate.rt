@@ -1,6 +1,4 @@
 // Job lines of kind 4: a lens evaluated under its operands.
-ghost use Prim.Native.Nat.{_≤_};
-ghost use lib.ListN.{length};
 use crate::job;
 use crate::marks;
 use answers::put_unknown;
@@ -11,27 +9,21 @@ use optics::OpticalPrescription;
 use text::cursor;
 use text::output;
 use text::output::Waiting;
-use text::words::Word;
 
 // Kind 4 has no settings.
 pub(crate) fn evaluate(
     out: &mut [u8],
     waiting: Waiting,
     line: &[u8],
-    id: Word,
     job: JobLine,
     number: u64,
-) -> Waiting
-    requires { ⌜ id .from ≤ id .to ⌝ }
-    requires { ⌜ id .to ≤ length (now line) ⌝ }
-{
+) -> Waiting {
     if !cursor::is_done(line, job.next) {
         return put_unknown(out, waiting, line, number, job.next);
     }
     let prescription = job.prescription;
     let function = job.merit_function;
-    let waiting = job::put_head(out, waiting, line, id);
-    let waiting = output::put(out, waiting, b" 4");
+    let waiting = job::put_head(out, waiting, line, 4);
     put_evaluated(out, waiting, prescription, function)
 }
 

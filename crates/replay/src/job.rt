@@ -1,12 +1,9 @@
 // The job lines: what they have in common, and which is whose.
-ghost use Prim.Native.Nat.{_≤_};
-ghost use lib.ListN.{length};
 use crate::evaluate;
 use crate::limits;
 use crate::run;
 use crate::trace;
 use crate::types::Answered;
-use bench::Bench;
 use text::cursor;
 use text::cursor::Cursor;
 use text::cursor::NumberRead;
@@ -14,26 +11,24 @@ use text::cursor::Why;
 use text::output;
 use text::output::Waiting;
 use text::words;
-use text::words::Word;
 
 // J id kind ..: evaluations and traces stand by themselves, runs are played on the bench.
-pub(crate) fn answer_job(
-    out: &mut [u8],
-    waiting: Waiting,
-    bench: Bench,
-    line: &[u8],
-    number: u64,
-) -> Answered {
-    let head = cursor::tag(line, Cursor::new(0), b"J");
-    let id = words::next_word(line, head.at);
-    let kind = cursor::within(line, cursor::word(line, head), 1, 6, Why::Kind);
-    if kind.next.is_good && kind.value < 4 {
-        return run::run(out, waiting, bench, line, id, kind, number);
+pub(crate) fn answer_job(out: &mut [u8], state: Answered, line: &[u8], number: u64) -> Answered {
+    let kind = read_kind(line);
+    if kind.value < 4 {
+        return run::run(out, state, line, kind, number);
     }
+    let bench = state.bench;
     Answered {
         bench: bench,
-        waiting: put_plain(out, waiting, line, id, kind, number),
+        waiting: put_plain(out, state.waiting, line, kind, number),
     }
+}
+
+// A kind that is out of form is told by whoever reads on.
+fn read_kind(line: &[u8]) -> NumberRead {
+    let named = cursor::word(line, cursor::tag(line, Cursor::new(0), b"J"));
+    cursor::within(line, named, 1, 6, Why::Kind)
 }
 
 // The kinds that need no bench.
@@ -41,38 +36,33 @@ fn put_plain(
     out: &mut [u8],
     waiting: Waiting,
     line: &[u8],
-    id: Word,
     kind: NumberRead,
     number: u64,
-) -> Waiting
-    requires { ⌜ id .from ≤ id .to ⌝ }
-    requires { ⌜ id .to ≤ length (now line) ⌝ }
-{
+) -> Waiting {
     let job = joblines::read_job(line, kind.next);
     if kind.value == 4 {
-        return evaluate::evaluate(out, waiting, line, id, job, number);
+        return evaluate::evaluate(out, waiting, line, job, number);
     }
     if kind.value == 6 {
-        return limits::limits(out, waiting, line, id, job, number);
+        return limits::limits(out, waiting, line, job, number);
     }
-    trace::trace(out, waiting, line, id, job, number)
+    trace::trace(out, waiting, line, job, number)
 }
 
-// R id
-pub(crate) fn put_head(out: &mut [u8], waiting: Waiting, line: &[u8], id: Word) -> Waiting
-    requires { ⌜ id .from ≤ id .to ⌝ }
-    requires { ⌜ id .to ≤ length (now line) ⌝ }
-{
+// R id kind, of a line that is in form: its id is its second word.
+pub(crate) fn put_head(out: &mut [u8], waiting: Waiting, line: &[u8], kind: u64) -> Waiting {
+    let tag = words::next_word(line, 0);
+    let id = words::next_word(line, tag.to);
     let from = id.from;
     let to = id.to;
     let waiting = output::put(out, waiting, b"R ");
-    output::put(out, waiting, &line[from..to])
+    answers::put_number(out, waiting, &line[from..to], kind)
 }
 
 // `changed` where what was lent is not as it was, which the oracle never says.
 pub(crate) fn put_refused(out: &mut [u8], waiting: Waiting, number: u32, is_kept: bool) -> Waiting {
-    let waiting = output::put(out, output::counted(waiting, true), b" refused ");
-    let waiting = output::put_decimal(out, waiting, number as u64);
+    let waiting = output::counted(waiting, true);
+    let waiting = answers::put_number(out, waiting, b" refused", number as u64);
     if !is_kept {
         return output::put(out, waiting, b" changed\n");
     }

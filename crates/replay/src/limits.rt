@@ -1,6 +1,4 @@
 // Job lines of kind 6: a lens traced in one slot, its thicknesses within limits.
-ghost use Prim.Native.Nat.{_≤_};
-ghost use lib.ListN.{length};
 use crate::job;
 use answers::put_unknown;
 use intervals::Interval;
@@ -11,28 +9,22 @@ use optics::OpticalPrescription;
 use text::cursor;
 use text::output;
 use text::output::Waiting;
-use text::words::Word;
 
 // Kind 6 has a slot and a pair for each surface as its settings.
 pub(crate) fn limits(
     out: &mut [u8],
     waiting: Waiting,
     line: &[u8],
-    id: Word,
     job: JobLine,
     number: u64,
-) -> Waiting
-    requires { ⌜ id .from ≤ id .to ⌝ }
-    requires { ⌜ id .to ≤ length (now line) ⌝ }
-{
+) -> Waiting {
     let read = joblines::read_limits(line, job.next, job.prescription.surface_count);
     if !cursor::is_done(line, read.next) {
         return put_unknown(out, waiting, line, number, read.next);
     }
     let prescription = job.prescription;
     let known = read.limits;
-    let waiting = job::put_head(out, waiting, line, id);
-    let waiting = output::put(out, waiting, b" 6");
+    let waiting = job::put_head(out, waiting, line, 6);
     put_limits(out, waiting, prescription, known, read.slot)
 }
 
@@ -49,7 +41,7 @@ fn put_limits(
     }
     let traced = t.traced;
     let waiting = put_track(out, waiting, traced.track);
-    let waiting = output::put(out, waiting, b" T ");
+    let waiting = answers::put_number(out, waiting, b" T", prescription.surface_count as u64);
     let waiting = put_surfaces(out, waiting, traced, prescription.surface_count);
     output::put(out, waiting, b"\n")
 }
@@ -67,12 +59,12 @@ fn put_surface(out: &mut [u8], waiting: Waiting, height: Interval, slope: Interv
     output::put_floats(out, waiting, &row)
 }
 
-// A count, and the ends of each surface's height and slope.
+// The ends of each surface's height and slope.
 fn put_surfaces(out: &mut [u8], waiting: Waiting, traced: TraceLimits, count: usize) -> Waiting {
     let heights = traced.heights;
     let slopes = traced.slopes;
-    let mut held = output::put_decimal(out, waiting, count as u64);
     let n = output::least(count, 16);
+    let mut held = waiting;
     let mut i = 0;
     while i < n {
         let height = heights[i];

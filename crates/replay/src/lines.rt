@@ -25,9 +25,7 @@ fn answer_line(out: &mut [u8], state: Answered, line: &[u8], number: u64) -> Ans
     if words::is_end(line, 0) {
         return state;
     }
-    let waiting = state.waiting;
-    let bench = state.bench;
-    job::answer_job(out, waiting, bench, line, number)
+    job::answer_job(out, state, line, number)
 }
 
 // Answers a line of the input; while none is there, what waits is written.

@@ -1,48 +1,77 @@
 // Job lines of kinds 1 to 3, played on a bench. A job that was played is admitted to its place once more, so that it takes
 // turns while the jobs of the next three lines are played.
-ghost use Prim.Native.Nat.{_≤_, _<_};
-ghost use lib.ListN.{length};
+ghost use Prim.Native.Nat.{_<_};
 use crate::job;
 use crate::play;
 use crate::play::Play;
 use crate::types::Answered;
 use answers::put_unknown;
 use bench::Bench;
+use benchcalls::BenchAnswer;
+use joblines::RequestRead;
 use jobs::JobRequest;
 use text::cursor;
+use text::cursor::Cursor;
 use text::cursor::NumberRead;
 use text::output::Waiting;
-use text::words::Word;
+
+pub(crate) fn run(
+    out: &mut [u8],
+    state: Answered,
+    line: &[u8],
+    kind: NumberRead,
+    number: u64,
+) -> Answered {
+    let read = read_run(line, kind);
+    if !cursor::is_done(line, read.next) {
+        return unknown(out, state, line, number, read.next);
+    }
+    let waiting = job::put_head(out, state.waiting, line, kind.value);
+    admit(out, waiting, state.bench, number, read.request)
+}
+
+fn read_run(line: &[u8], kind: NumberRead) -> RequestRead {
+    let job = joblines::read_job(line, kind.next);
+    joblines::read_request(line, kind.value, job)
+}
+
+// A line out of form leaves the bench as it is.
+fn unknown(out: &mut [u8], state: Answered, line: &[u8], number: u64, c: Cursor) -> Answered {
+    let bench = state.bench;
+    Answered {
+        bench: bench,
+        waiting: put_unknown(out, state.waiting, line, number, c),
+    }
+}
 
 // Each line has the place of its number.
-pub(crate) fn run(
+fn admit(
     out: &mut [u8],
     waiting: Waiting,
     bench: Bench,
-    line: &[u8],
-    id: Word,
-    kind: NumberRead,
     number: u64,
-) -> Answered
-    requires { ⌜ id .from ≤ id .to ⌝ }
-    requires { ⌜ id .to ≤ length (now line) ⌝ }
-{
-    let job = joblines::read_job(line, kind.next);
-    let read = joblines::read_request(line, kind.value, job);
-    if !cursor::is_done(line, read.next) {
+    request: JobRequest,
+) -> Answered {
+    let place = (number % 4) as usize;
+    let answer = admitted(bench, place, request);
+    let left = answer.bench;
+    if answer.number > 0 {
         return Answered {
-            bench: bench,
-            waiting: put_unknown(out, waiting, line, number, read.next),
+            bench: left,
+            waiting: job::put_refused(out, waiting, answer.number, true),
         };
     }
-    let request = read.request;
-    let waiting = job::put_head(out, waiting, line, id);
-    let waiting = answers::put_number(out, waiting, b"", kind.value);
-    admit(out, waiting, bench, (number % 4) as usize, request)
+    play_admitted(out, waiting, left, place, request)
 }
 
 // Admits the job to the place, from which another's may have to go.
-fn admit(
+fn admitted(bench: Bench, place: usize, request: JobRequest) -> BenchAnswer {
+    let emptied = benchcalls::released(bench, place).bench;
+    benchcalls::admitted(emptied, place, request)
+}
+
+// Plays the job that the bench has at the place, and leaves it there at its start.
+fn play_admitted(
     out: &mut [u8],
     waiting: Waiting,
     bench: Bench,
@@ -51,29 +80,14 @@ fn admit(
 ) -> Answered
     requires { ⌜ place < 4 ⌝ }
 {
-    let emptied = benchcalls::released(bench, place).bench;
-    let answer = benchcalls::admitted(emptied, place, request);
-    let admitted = answer.bench;
-    if answer.number > 0 {
-        return Answered {
-            bench: admitted,
-            waiting: job::put_refused(out, waiting, answer.number, true),
-        };
-    }
-    let played = play::played(admitted, place);
+    let played = play::played(bench, place);
     let waiting = put_played(out, waiting, played, place, request);
     let left = played.bench;
+    let again = admitted(left, place, request).bench;
     Answered {
-        bench: again(left, place, request),
+        bench: again,
         waiting: waiting,
     }
-}
-
-// The bench with the job at its start.
-fn again(bench: Bench, place: usize, request: JobRequest) -> Bench {
-    let emptied = benchcalls::released(bench, place).bench;
-    let admitted = benchcalls::admitted(emptied, place, request).bench;
-    admitted
 }
 
 // M first final N iterations converged turns S .. V .. D .. H digest

@@ -1,6 +1,4 @@
 // Job lines of kind 5: a lens traced in one slot.
-ghost use Prim.Native.Nat.{_≤_};
-ghost use lib.ListN.{length};
 use crate::job;
 use crate::marks;
 use answers::put_unknown;
@@ -13,27 +11,21 @@ use optics::ParaxialRay;
 use text::cursor;
 use text::output;
 use text::output::Waiting;
-use text::words::Word;
 
 // Kind 5 has a slot as its setting.
 pub(crate) fn trace(
     out: &mut [u8],
     waiting: Waiting,
     line: &[u8],
-    id: Word,
     job: JobLine,
     number: u64,
-) -> Waiting
-    requires { ⌜ id .from ≤ id .to ⌝ }
-    requires { ⌜ id .to ≤ length (now line) ⌝ }
-{
+) -> Waiting {
     let slot = cursor::decimal(line, job.next);
     if !cursor::is_done(line, slot.next) {
         return put_unknown(out, waiting, line, number, slot.next);
     }
     let prescription = job.prescription;
-    let waiting = job::put_head(out, waiting, line, id);
-    let waiting = output::put(out, waiting, b" 5");
+    let waiting = job::put_head(out, waiting, line, 5);
     put_trace(out, waiting, prescription, slot.value as usize)
 }
 
@@ -73,7 +65,7 @@ fn put_done(
     if !marks::are_marked(rays, count) || !lengths_refused(prescription, slot) {
         return output::put(out, waiting, b" changed\n");
     }
-    let waiting = output::put(out, waiting, b" ok T ");
+    let waiting = answers::put_number(out, waiting, b" ok T", count as u64);
     let waiting = put_rays(out, waiting, rays, count);
     let q = paraxial(prescription, slot);
     let Paraxial::Traced(properties) = q else {
@@ -109,10 +101,10 @@ fn put_ray(out: &mut [u8], waiting: Waiting, ray: ParaxialRay) -> Waiting {
     output::put_floats(out, waiting, &row)
 }
 
-// A count, and the height and slope of each surface.
+// The height and slope of each surface.
 fn put_rays(out: &mut [u8], waiting: Waiting, rays: [ParaxialRay; 16], count: usize) -> Waiting {
-    let mut held = output::put_decimal(out, waiting, count as u64);
     let n = output::least(count, 16);
+    let mut held = waiting;
     let mut i = 0;
     while i < n {
         let ray = rays[i];

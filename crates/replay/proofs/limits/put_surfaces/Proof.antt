@@ -7,13 +7,10 @@ use Rattle.replay.proofs.limits.put_surfaces.Statement.{statement}
 use Rattle.replay.proofs.limits.put_surfaces.Tie as tie
 
 abbrev Inv-loop : tie.InvT-loop
-Inv-loop out₀ count heights slopes held₀ n i₀ out held i = (i ≤ n) × (length out ≡ length out₀)
+Inv-loop out₀ count heights slopes n held₀ i₀ out held i = (i ≤ n) × (length out ≡ length out₀)
 
 abbrev μ-loop : tie.MeasureT-loop
-μ-loop out₀ count heights slopes held₀ n i₀ out held i = n - i
-
-put-decimal-requires : tie.Need-put-decimal-requires Inv-loop μ-loop
-put-decimal-requires c κs = search needs
+μ-loop out₀ count heights slopes n held₀ i₀ out held i = n - i
 
 least-requires : tie.Need-least-requires Inv-loop μ-loop
 least-requires c κs = search needs
@@ -57,7 +54,6 @@ put-surfaces-spec =
     (tie.spec
     Inv-loop
     μ-loop
-    put-decimal-requires
     least-requires
     loop-holds
     mul-height
