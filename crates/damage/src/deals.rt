@@ -4,11 +4,7 @@ use bench::Bench;
 
 // Damage: 12, with no turn too, and nothing is changed.
 pub(crate) fn refuses(bench: Bench) -> bool {
-    verdict::all(
-        answers(bench, 0, 0, 12, bench),
-        answers(bench, 5, 0, 12, bench),
-        true,
-    )
+    answers(bench, 0, 0, 12, bench) & answers(bench, 5, 0, 12, bench)
 }
 
 // No job is left: none is dealt, and nothing is changed.
@@ -16,20 +12,22 @@ pub(crate) fn deals_none(bench: Bench) -> bool {
     answers(bench, 5, 0, 0, bench)
 }
 
-// The place is served, if a turn there is taken; and a place to go next that is none gives 12.
+// A place to go next that is none gives 12.
+pub(crate) fn refuses_past(bench: Bench) -> bool {
+    refuses(with_next(bench, 4))
+        & refuses(with_next(bench, 5))
+        & refuses(with_next(bench, usize::MAX))
+}
+
+// The place is served, if a turn there is taken.
 pub(crate) fn serves(bench: Bench, place: usize, turn: u32) -> bool {
-    let past = verdict::all(
-        refuses(with_next(bench, 4)),
-        refuses(with_next(bench, 5)),
-        refuses(with_next(bench, usize::MAX)),
-    );
     if turn > 0 {
-        return verdict::all(deals_none(bench), past, true);
+        return deals_none(bench);
     }
     let mut scratch = [0.5; 256];
     let turned = benchcalls::turned(bench, place, &mut scratch);
-    let after = with_next(turned.bench, (place % 4 + 1) % 4);
-    verdict::all(answers(bench, 1, 1, 0, after), past, true)
+    let left = turned.bench;
+    answers(bench, 1, 1, 0, with_next(left, (place % 4 + 1) % 4))
 }
 
 fn with_next(bench: Bench, next: usize) -> Bench {
@@ -40,16 +38,10 @@ fn with_next(bench: Bench, next: usize) -> Bench {
 
 // Whether a dealing of so many turns deals so many, answers the number and leaves that bench, with scratch as its turns leave it.
 fn answers(bench: Bench, turns: u16, dealt: u32, number: u32, after: Bench) -> bool {
-    let before = [0.5; 256];
-    let mut scratch = before;
+    let mut scratch = [0.5; 256];
     let dealing = benchcalls::dealt(bench, turns, &mut scratch);
     let left = dealing.bench;
     let is_left = same::same_benches(left, after);
-    let is_scratch = if dealt > 0 {
-        verdict::is_cleared(scratch, before)
-    } else {
-        same::same_floats(&scratch, &before)
-    };
-    let is_answer = dealing.dealt == dealt && dealing.number == number;
-    verdict::all(is_left, is_scratch, is_answer)
+    let is_scratch = verdict::is_scratch(scratch, dealt > 0);
+    is_left & is_scratch & (dealing.dealt == dealt) & (dealing.number == number)
 }

@@ -5,10 +5,11 @@ use crate::examine;
 use crate::examine::Case;
 use crate::tally;
 use crate::tally::Tally;
+use crate::verdict;
 use bench::Bench;
 use held::HeldRow;
+use joblines::RequestRead;
 use jobs::JobRequest;
-use runs::Row;
 use text::cursor;
 use text::cursor::Cursor;
 use text::cursor::Why;
@@ -27,48 +28,48 @@ pub(crate) struct Examined {
 }
 
 fn with_waiting(state: Examined, waiting: Waiting) -> Examined {
-    let tally = state.tally;
-    Examined {
-        tally: tally,
-        waiting: waiting,
-    }
+    let mut s = state;
+    s.waiting = waiting;
+    s
 }
 
-// J id kind ..; blanks alone have no answer.
+// J id kind ..
+fn read_line(line: &[u8]) -> RequestRead {
+    let named = cursor::word(line, cursor::tag(line, Cursor::new(0), b"J"));
+    let kind = cursor::within(line, named, 1, 3, Why::Kind);
+    let job = joblines::read_job(line, kind.next);
+    joblines::read_request(line, kind.value, job)
+}
+
+// Blanks alone have no answer.
 fn examine_line(out: &mut [u8], state: Examined, line: &[u8], number: u64) -> Examined {
     if words::is_end(line, 0) {
         return state;
     }
-    let waiting = state.waiting;
-    let named = cursor::word(line, cursor::tag(line, Cursor::new(0), b"J"));
-    let kind = cursor::within(line, named, 1, 3, Why::Kind);
-    let job = joblines::read_job(line, kind.next);
-    let read = joblines::read_request(line, kind.value, job);
+    let read = read_line(line);
     if !cursor::is_done(line, read.next) {
+        let waiting = state.waiting;
         return with_waiting(
             state,
             answers::put_unknown(out, waiting, line, number, read.next),
         );
     }
     let request = read.request;
-    let tally = state.tally;
-    examine_request(tally, waiting, request)
+    examine_request(state, request)
 }
 
 // A job that is refused leaves no rows.
-fn examine_request(tally: Tally, waiting: Waiting, request: JobRequest) -> Examined {
+fn examine_request(state: Examined, request: JobRequest) -> Examined {
     let answer = benchcalls::admitted(benchcalls::empty_bench(), 0, request);
     if answer.number > 0 {
-        return Examined {
-            tally: tally,
-            waiting: output::counted(waiting, true),
-        };
+        return with_waiting(state, output::counted(state.waiting, true));
     }
     let bench = answer.bench;
-    Examined {
-        tally: examine_job(tally, bench, request),
-        waiting: waiting,
-    }
+    let tally = state.tally;
+    let mut s = state;
+    let t = examine_job(tally, bench, request);
+    s.tally = t;
+    s
 }
 
 // Examines a line of the input; while none is there, what waits is written.
@@ -89,8 +90,12 @@ fn examine_found(out: &mut [u8], state: Examined, buf: &[u8], line: Line) -> Exa
 }
 
 fn at_start() -> Examined {
+    let tally = Tally {
+        tried: [0; 56],
+        right: [0; 56],
+    };
     Examined {
-        tally: Tally::new(),
+        tally: tally,
         waiting: Waiting::new(),
     }
 }
@@ -112,16 +117,6 @@ pub(crate) fn examine_all(buf: &mut [u8], out: &mut [u8]) {
     session::finish(out, waiting, input);
 }
 
-// The row at place 0, as it is held and as a run's.
-fn first_held(bench: Bench) -> HeldRow {
-    let held = bench.rows[0];
-    held
-}
-
-fn first_row(bench: Bench) -> Row {
-    heldrows::row_of(first_held(bench))
-}
-
 // The bench after so many turns of place 0, or as many as there are.
 fn played(bench: Bench, count: u64) -> Bench {
     let mut scratch = [0.0; 128];
@@ -130,23 +125,38 @@ fn played(bench: Bench, count: u64) -> Bench {
     left
 }
 
+// Each stop has the next place for the damaged row; the place to go next is two further.
+fn examine_stop(
+    tally: Tally,
+    row: HeldRow,
+    finished: HeldRow,
+    request: JobRequest,
+    stop: usize,
+) -> Tally {
+    let place = stop % 4;
+    let rows = [finished; 4];
+    let bench = Bench {
+        rows: rows,
+        next_place: (place + 2) % 4,
+    };
+    let case = Case {
+        row: row,
+        bench: bench,
+        request: request,
+        place: place,
+    };
+    examine::examine_row(tally, case)
+}
+
 // The run's rows after 0, 1, 3, 7, .. turns, up to the last, which may come more than once.
 fn examine_job(tally: Tally, admitted: Bench, request: JobRequest) -> Tally {
     let mut bench = admitted;
-    let finished = first_held(played(bench, u64::MAX));
+    let finished = verdict::row_at(played(bench, u64::MAX), 0);
     let mut t = tally;
     let mut stop: usize = 0;
-    let mut count = 1;
     while stop < 12 {
-        let case = Case {
-            row: first_row(bench),
-            finished: finished,
-            request: request,
-            place: stop % 4,
-        };
-        t = examine::examine_row(t, case);
-        bench = played(bench, count);
-        count = std::num::wrapping_add_u64(count, count);
+        t = examine_stop(t, verdict::row_at(bench, 0), finished, request, stop);
+        bench = played(bench, 1 << stop);
         stop += 1;
     }
     t

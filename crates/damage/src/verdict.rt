@@ -2,151 +2,133 @@
 use crate::deals;
 use crate::examine::Case;
 use bench::Bench;
+use held::HeldRow;
 use jobs::JobRequest;
 use optics::OpticalSurface;
 use runs::OptimizationResult;
-use runs::Row;
 
-fn with_row(bench: Bench, place: usize, row: Row) -> Bench {
-    let mut b = bench;
-    let held = heldrows::held_of(row);
-    b.rows[place % 4] = held;
-    b
-}
+// What stands for the number of a call that did not leave what it must.
+const WRONG: u32 = 99;
 
-fn row_of(bench: Bench, place: usize) -> Row {
-    let held = bench.rows[place % 4];
-    heldrows::row_of(held)
-}
-
-// The changed row at its place, finished ones at the others; the place to go next is two further.
-fn bench_with(case: Case, changed: Row) -> Bench {
-    let finished = case.finished;
-    let rows = [finished; 4];
-    let bench = Bench {
-        rows: rows,
-        next_place: (case.place % 4 + 2) % 4,
-    };
-    with_row(bench, case.place, changed)
-}
-
-pub(crate) fn is_right(case: Case, changed: Row, e: usize) -> bool {
-    let bench = bench_with(case, changed);
+pub(crate) fn is_right(case: Case, changed: HeldRow, e: usize) -> bool {
+    let place = case.place;
+    let around = case.bench;
     let request = case.request;
-    let answers = answers_of(bench, case.place);
+    let bench = with_row(around, place, changed);
     match e {
-        50 | 55 => is_taken(answers) && deals::serves(bench, case.place, answers.turn),
-        51 => is_empty(bench, case.place, request, answers) && deals::deals_none(bench),
-        _ => is_refused(bench, case.place, request, answers) && deals::refuses(bench),
+        50 | 55 => is_taken(bench, place),
+        51 => is_empty(bench, place, request),
+        _ => is_refused(bench, place, request),
     }
+}
+
+// A turn and a fetch give the number and change nothing, and the place is not listed.
+fn is_out(bench: Bench, place: usize, number: u32) -> bool {
+    let turn = turn_number(bench, place);
+    let fetch = fetch_number(bench, place);
+    (turn == number) & (fetch == number) & lists_others(bench, place)
+}
+
+// Whether an admission answers the number and leaves that bench.
+fn admits(bench: Bench, place: usize, request: JobRequest, number: u32, after: Bench) -> bool {
+    let answer = benchcalls::admitted(bench, place, request);
+    let left = answer.bench;
+    (answer.number == number) & same::same_benches(left, after)
+}
+
+// The same of a release.
+fn releases(bench: Bench, place: usize, number: u32, after: Bench) -> bool {
+    let answer = benchcalls::released(bench, place);
+    let left = answer.bench;
+    (answer.number == number) & same::same_benches(left, after)
 }
 
 // Damage: a turn and a fetch give 12, an admission 10, the place is not listed, and a release empties it.
-fn is_refused(bench: Bench, place: usize, request: JobRequest, a: Answers) -> bool {
-    let answer = benchcalls::admitted(bench, place, request);
-    let left = answer.bench;
-    let refused = answer.number == 10;
-    let kept = same::same_benches(left, bench);
-    let damaged = keeps(a, 12);
-    let unlisted = lists_others(a, place);
-    let released = empties(bench, place);
-    all(all(refused, kept, damaged), unlisted, released)
+fn is_refused(bench: Bench, place: usize, request: JobRequest) -> bool {
+    let out = is_out(bench, place, 12);
+    let kept = admits(bench, place, request, 10, bench);
+    let zero = row_at(benchcalls::empty_bench(), 0);
+    let released = releases(bench, place, 0, with_row(bench, place, zero));
+    out & kept & released & deals::refuses(bench)
 }
 
-pub(crate) fn all(a: bool, b: bool, c: bool) -> bool {
-    a && b && c
+// The row of a job that is admitted to an empty bench.
+fn fresh(place: usize, request: JobRequest) -> HeldRow {
+    let answer = benchcalls::admitted(benchcalls::empty_bench(), place, request);
+    let left = answer.bench;
+    row_at(left, place)
 }
 
 // An empty place: a turn, a fetch and a release give 11, and an admission leaves nothing of what the row had.
-fn is_empty(bench: Bench, place: usize, request: JobRequest, a: Answers) -> bool {
-    let answer = benchcalls::released(bench, place);
-    let left = answer.bench;
-    let refused = answer.number == 11;
-    let kept = same::same_benches(left, bench);
-    let empty = keeps(a, 11);
-    let unlisted = lists_others(a, place);
-    let admitted = admits(bench, place, request);
-    all(all(refused, kept, empty), unlisted, admitted)
+fn is_empty(bench: Bench, place: usize, request: JobRequest) -> bool {
+    let out = is_out(bench, place, 11);
+    let kept = releases(bench, place, 11, bench);
+    let after = with_row(bench, place, fresh(place, request));
+    out & kept & admits(bench, place, request, 0, after) & deals::deals_none(bench)
 }
 
-// What a turn, a fetch and the listing answer; whether bench, scratch and result are what they were; and whether scratch is
-// as a turn leaves it.
-struct Answers {
-    turn: u32,
-    fetch: u32,
-    listed: usize,
-    places: [usize; 4],
-    is_kept: bool,
-    is_cleared: bool,
-}
-
-// The first 128 are +0.0, and the others what they were (request 11).
-pub(crate) fn is_cleared(scratch: [f64; 256], before: [f64; 256]) -> bool {
-    let zeros = [0.0; 128];
-    same::same_floats(&scratch[0..128], &zeros)
-        && same::same_floats(&scratch[128..256], &before[128..256])
-}
-
-fn answers_of(bench: Bench, place: usize) -> Answers {
-    let before = [0.5; 256];
-    let mut scratch = before;
-    let turn = benchcalls::turned(bench, place, &mut scratch);
-    let fetch = benchcalls::fetched(bench, place, marked());
-    let left = turn.bench;
-    let result = fetch.result;
+// No damage: a place is at its end or not, and all calls say the same of it.
+fn is_taken(bench: Bench, place: usize) -> bool {
+    let turn = turn_number(bench, place);
+    let fetch = fetch_number(bench, place);
     let finished = finished::listed(bench);
-    let places = finished.places;
-    let bench_kept = same::same_benches(left, bench);
-    let scratch_kept = same::same_floats(&scratch, &before);
-    let result_kept = same::same_results(result, marked());
-    let is_kept = all(bench_kept, scratch_kept, result_kept);
-    Answers {
-        turn: turn.number,
-        fetch: fetch.number,
-        listed: finished.count,
-        places: places,
-        is_kept: is_kept,
-        is_cleared: is_cleared(scratch, before),
-    }
+    let on_way = (turn == 0) & (fetch == 14) & (finished.count == 3);
+    let at_end = (turn == 13) & (fetch == 0) & (finished.count == 4);
+    (on_way | at_end) & deals::serves(bench, place, turn) & deals::refuses_past(bench)
 }
 
-// No damage: a place is at its end or not, and all three calls say the same of it.
-fn is_taken(a: Answers) -> bool {
-    let turn = a.turn;
-    match turn {
-        0 => a.fetch == 14 && a.listed == 3 && a.is_cleared,
-        13 => a.fetch == 0 && a.listed == 4,
-        _ => false,
-    }
+fn if_so(is_so: bool, number: u32) -> u32 {
+    if is_so { number } else { WRONG }
 }
 
-// A turn and a fetch give the number, and nothing is changed.
-fn keeps(a: Answers, number: u32) -> bool {
-    a.turn == number && a.fetch == number && a.is_kept
+// The number of a turn. If it is refused, nothing is changed; if not, scratch is cleared.
+fn turn_number(bench: Bench, place: usize) -> u32 {
+    let mut scratch = [0.5; 256];
+    let turn = benchcalls::turned(bench, place, &mut scratch);
+    let left = turn.bench;
+    let done = turn.number == 0;
+    let kept = same::same_benches(left, bench);
+    if_so((kept | done) & is_scratch(scratch, done), turn.number)
+}
+
+// As a call leaves it: the first 128 are +0.0 if a turn was taken, and all others what they were (request 11).
+pub(crate) fn is_scratch(scratch: [f64; 256], is_cleared: bool) -> bool {
+    let first = if is_cleared { 0.0 } else { 0.5 };
+    let front = [first; 128];
+    let back = [0.5; 128];
+    same::same_floats(&scratch[0..128], &front) & same::same_floats(&scratch[128..256], &back)
+}
+
+// The number of a fetch. If it is refused, the result is not changed.
+fn fetch_number(bench: Bench, place: usize) -> u32 {
+    let fetch = benchcalls::fetched(bench, place, marked());
+    let result = fetch.result;
+    let kept = same::same_results(result, marked());
+    if_so(kept | (fetch.number == 0), fetch.number)
+}
+
+fn sum(places: [usize; 4]) -> usize {
+    let low = std::num::wrapping_add_usize(places[0], places[1]);
+    let high = std::num::wrapping_add_usize(places[2], places[3]);
+    std::num::wrapping_add_usize(low, high)
 }
 
 // The listing has the three other places: 0 to 3 but this one make 6 less this one.
-fn lists_others(a: Answers, place: usize) -> bool {
-    let places = a.places;
-    let low = std::num::wrapping_add_usize(places[0], places[1]);
-    let high = std::num::wrapping_add_usize(places[2], places[3]);
-    let all = std::num::wrapping_add_usize(low, high);
-    a.listed == 3 && std::num::wrapping_add_usize(all, place) == 6
+fn lists_others(bench: Bench, place: usize) -> bool {
+    let finished = finished::listed(bench);
+    let places = finished.places;
+    (finished.count == 3) & (std::num::wrapping_add_usize(sum(places), place) == 6)
 }
 
-fn empties(bench: Bench, place: usize) -> bool {
-    let answer = benchcalls::released(bench, place);
-    let left = answer.bench;
-    let zero = row_of(benchcalls::empty_bench(), 0);
-    answer.number == 0 && same::same_benches(left, with_row(bench, place, zero))
+fn with_row(bench: Bench, place: usize, row: HeldRow) -> Bench {
+    let mut b = bench;
+    b.rows[place % 4] = row;
+    b
 }
 
-fn admits(bench: Bench, place: usize, request: JobRequest) -> bool {
-    let answer = benchcalls::admitted(bench, place, request);
-    let left = answer.bench;
-    let fresh = benchcalls::admitted(benchcalls::empty_bench(), place, request);
-    let admitted = row_of(fresh.bench, place);
-    answer.number == 0 && same::same_benches(left, with_row(bench, place, admitted))
+pub(crate) fn row_at(bench: Bench, place: usize) -> HeldRow {
+    let row = bench.rows[place % 4];
+    row
 }
 
 // A result that no run leaves.

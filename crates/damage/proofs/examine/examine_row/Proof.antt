@@ -5,19 +5,19 @@ use Rattle.damage.proofs.examine.examine_row.Statement.{statement}
 use Rattle.damage.proofs.examine.examine_row.Tie as tie
 
 abbrev Inv-loop : tie.InvT-loop
-Inv-loop case tally₀ e₀ tally e = e ≤ 56
+Inv-loop case t₀ k₀ t k = k ≤ 17920
 
 abbrev μ-loop : tie.MeasureT-loop
-μ-loop case tally₀ e₀ tally e = 56 - e
+μ-loop case t₀ k₀ t k = 17920 - k
 
 loop-holds : tie.Need-loop-holds Inv-loop μ-loop
 loop-holds c = search needs
 
-examine-entry-requires : tie.Need-examine-entry-requires Inv-loop μ-loop
-examine-entry-requires c κs = search needs
+examine-value-requires : tie.Need-examine-value-requires Inv-loop μ-loop
+examine-value-requires c κs = search needs
 
-add-e : tie.Need-add-e Inv-loop μ-loop
-add-e c = search needs
+add-k : tie.Need-add-k Inv-loop μ-loop
+add-k c = search needs
 
 loop-less : tie.Need-loop-less Inv-loop μ-loop
 loop-less c = search needs
@@ -31,4 +31,4 @@ returns c = search needs
 pub examine-row-spec : {M : Type 1} → statement M
 examine-row-spec =
     tie.close
-    (tie.spec Inv-loop μ-loop loop-holds examine-entry-requires add-e loop-less loop-again returns)
+    (tie.spec Inv-loop μ-loop loop-holds examine-value-requires add-k loop-less loop-again returns)

@@ -5,31 +5,31 @@ use Rattle.damage.proofs.lines.examine_job.Statement.{statement}
 use Rattle.damage.proofs.lines.examine_job.Tie as tie
 
 abbrev Inv-loop : tie.InvT-loop
-Inv-loop request bench₀ finished t₀ stop₀ count₀ bench t stop count = stop ≤ 12
+Inv-loop request bench₀ finished t₀ stop₀ bench t stop = stop ≤ 12
 
 abbrev μ-loop : tie.MeasureT-loop
-μ-loop request bench₀ finished t₀ stop₀ count₀ bench t stop count = 12 - stop
+μ-loop request bench₀ finished t₀ stop₀ bench t stop = 12 - stop
 
 played-requires : tie.Need-played-requires Inv-loop μ-loop
 played-requires c κs = search needs
 
-first-held-requires : tie.Need-first-held-requires Inv-loop μ-loop
-first-held-requires c κs = search needs
+row-at-requires : tie.Need-row-at-requires Inv-loop μ-loop
+row-at-requires c κs = search needs
 
 loop-holds : tie.Need-loop-holds Inv-loop μ-loop
 loop-holds c = search needs
 
-first-row-requires : tie.Need-first-row-requires Inv-loop μ-loop
-first-row-requires c κs = search needs
+row-at-requires-2 : tie.Need-row-at-requires-2 Inv-loop μ-loop
+row-at-requires-2 c κs = search needs
 
-examine-row-requires : tie.Need-examine-row-requires Inv-loop μ-loop
-examine-row-requires c κs = search needs
+examine-stop-requires : tie.Need-examine-stop-requires Inv-loop μ-loop
+examine-stop-requires c κs = search needs
+
+shl-played : tie.Need-shl-played Inv-loop μ-loop
+shl-played c = search needs
 
 played-requires-2 : tie.Need-played-requires-2 Inv-loop μ-loop
 played-requires-2 c κs = search needs
-
-wrapping-add-u64-requires : tie.Need-wrapping-add-u64-requires Inv-loop μ-loop
-wrapping-add-u64-requires c κs = search needs
 
 add-stop : tie.Need-add-stop Inv-loop μ-loop
 add-stop c = search needs
@@ -50,12 +50,12 @@ examine-job-spec =
     Inv-loop
     μ-loop
     played-requires
-    first-held-requires
+    row-at-requires
     loop-holds
-    first-row-requires
-    examine-row-requires
+    row-at-requires-2
+    examine-stop-requires
+    shl-played
     played-requires-2
-    wrapping-add-u64-requires
     add-stop
     loop-less
     loop-again

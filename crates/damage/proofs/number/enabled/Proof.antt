@@ -5,10 +5,10 @@ use Rattle.damage.proofs.number.enabled.Statement.{statement}
 use Rattle.damage.proofs.number.enabled.Tie as tie
 
 abbrev Inv-loop : tie.InvT-loop
-Inv-loop variables count n₀ i₀ n i = (i ≤ 8) × (n ≤ i)
+Inv-loop counts n₀ i₀ n i = (i ≤ 8) × (n ≤ i)
 
 abbrev μ-loop : tie.MeasureT-loop
-μ-loop variables count n₀ i₀ n i = 8 - i
+μ-loop counts n₀ i₀ n i = 8 - i
 
 loop-holds : tie.Need-loop-holds Inv-loop μ-loop
 loop-holds c = search needs

@@ -7,25 +7,16 @@ use Rattle.damage.proofs.tally.print.Statement.{statement}
 use Rattle.damage.proofs.tally.print.Tie as tie
 
 abbrev Inv-loop : tie.InvT-loop
-Inv-loop out₀ tried right waiting₀ e₀ out waiting e = (e ≤ 56) × (length out ≡ length out₀)
+Inv-loop out₀ tally waiting₀ e₀ names out waiting e = (e ≤ 56) × (length out ≡ length out₀)
 
 abbrev μ-loop : tie.MeasureT-loop
-μ-loop out₀ tried right waiting₀ e₀ out waiting e = 56 - e
+μ-loop out₀ tally waiting₀ e₀ names out waiting e = 56 - e
 
 loop-holds : tie.Need-loop-holds Inv-loop μ-loop
 loop-holds c = search needs
 
-mul-put-entry : tie.Need-mul-put-entry Inv-loop μ-loop
-mul-put-entry c = search needs
-
-array-read-put-entry : tie.Need-array-read-put-entry Inv-loop μ-loop
-array-read-put-entry c = search needs
-
-mul-put-entry-2 : tie.Need-mul-put-entry-2 Inv-loop μ-loop
-mul-put-entry-2 c = search needs
-
-array-read-put-entry-2 : tie.Need-array-read-put-entry-2 Inv-loop μ-loop
-array-read-put-entry-2 c = search needs
+slice-aggregate-put-entry : tie.Need-slice-aggregate-put-entry Inv-loop μ-loop
+slice-aggregate-put-entry c = search needs
 
 put-entry-requires : tie.Need-put-entry-requires Inv-loop μ-loop
 put-entry-requires c κs = search needs
@@ -52,10 +43,7 @@ print-spec =
     Inv-loop
     μ-loop
     loop-holds
-    mul-put-entry
-    array-read-put-entry
-    mul-put-entry-2
-    array-read-put-entry-2
+    slice-aggregate-put-entry
     put-entry-requires
     add-e
     loop-less
