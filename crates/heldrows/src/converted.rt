@@ -1,21 +1,14 @@
-// A row as a held row, and back: for the calls that are not in a hurry.
+// A row as a held row: for admission, which is not in a hurry.
 ghost use mathlib.Core.Path.{_≡_};
 ghost use Rattle.optics.specs.Flat.{laidFlat};
 ghost use Rattle.runs.specs.State.{stateOf};
-ghost use Rattle.held.specs.JobFrom.{jobRecordFrom};
-ghost use Rattle.held.specs.RowFrom.{dampedFrom, resultFrom, rowFrom};
 ghost use Rattle.held.specs.Written.{headOf, heldFrom};
-use crate::read;
 use crate::written;
 use held::BestHead;
 use held::Head;
 use held::HeldRow;
 use held::RowHead;
-use jobs::JobRecord;
-use merit::MeritEvaluation;
 use optics::OpticalSurface;
-use runs::DampedState;
-use runs::OptimizationResult;
 use runs::Row;
 
 // The numbers of a row that are no arrays.
@@ -103,91 +96,5 @@ pub fn held_of(row: Row) -> HeldRow
         best_surfaces,
         best_values,
         best_residuals,
-    }
-}
-
-fn job_from(held: HeldRow) -> JobRecord
-    ensures { λ r. ⌜ r ≡ jobRecordFrom (held .counts) (held .numbers) ⌝ }
-{
-    let counts = held.counts;
-    let numbers = held.numbers;
-    read::job_record(&counts, &numbers)
-}
-
-fn damped_from(h: Head, held: HeldRow) -> DampedState
-    ensures { λ r.
-        ⌜ r ≡ dampedFrom h (held .surfaces) (held .jacobian) (held .values) (held .residuals) (held .«plus_residuals») (held .params) (held .candidate) ⌝ }
-{
-    let flat_surfaces = held.surfaces;
-    let surfaces = held::stand(&flat_surfaces);
-    let jacobian = held.jacobian;
-    let values = held.values;
-    let residuals = held.residuals;
-    let plus_residuals = held.plus_residuals;
-    let params = held.params;
-    let candidate = held.candidate;
-    let evaluation = MeritEvaluation {
-        values,
-        residuals,
-        total_merit: h.total_merit,
-    };
-    DampedState {
-        surfaces,
-        jacobian,
-        evaluation,
-        plus_residuals,
-        params,
-        candidate,
-        initial_merit: h.initial_merit,
-        damping: h.damping,
-        phase: h.phase,
-        iteration: h.iteration,
-        column: h.column,
-        attempt: h.attempt,
-        converged: h.converged,
-    }
-}
-
-fn result_from(b: BestHead, held: HeldRow) -> OptimizationResult
-    ensures { λ r. ⌜ r ≡ resultFrom b (held .«best_surfaces») (held .«best_values») (held .«best_residuals») ⌝ }
-{
-    let flat_surfaces = held.best_surfaces;
-    let surfaces = held::stand(&flat_surfaces);
-    let values = held.best_values;
-    let residuals = held.best_residuals;
-    OptimizationResult {
-        surfaces,
-        values,
-        residuals,
-        initial_merit: b.initial_merit,
-        final_merit: b.final_merit,
-        iterations: b.iterations,
-        converged: b.converged,
-    }
-}
-
-pub fn row_of(held: HeldRow) -> Row
-    ensures { λ r. ⌜ r ≡ rowFrom held ⌝ }
-{
-    let words = held.words;
-    let scalars = held.scalars;
-    let h = held::head_of(&words, &scalars);
-    let dh = h.damped;
-    let bh = h.best;
-    let job = job_from(held);
-    let damped = damped_from(dh, held);
-    let best = result_from(bh, held);
-    Row {
-        job,
-        damped,
-        best,
-        kind: held::kind(&words),
-        turns: held::turns(&words),
-        generator: h.generator,
-        trial: h.trial,
-        cycle: h.cycle,
-        step: h.step,
-        temperature: h.temperature,
-        current_merit: h.current_merit,
     }
 }
