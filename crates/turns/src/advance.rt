@@ -110,7 +110,7 @@ fn advance_annealing(
     let phase = h.damped.phase;
     if phase == 5 {
         let merit = merit_of(found, counts, numbers);
-        return global::advance_walk_first(
+        return annealing::advance_walk_first(
             config,
             merit,
             counts,
@@ -129,7 +129,7 @@ fn advance_annealing(
     }
     if phase == 6 {
         let merit = merit_of(found, counts, numbers);
-        return global::advance_walk(
+        return annealing::advance_walk(
             h,
             config,
             merit,
@@ -218,7 +218,7 @@ pub(crate) fn advance_run(
         );
     }
     if kind == 2 {
-        return global::advance_trials(
+        return multistart::advance_trials(
             h,
             counts,
             numbers,

@@ -10,7 +10,7 @@ ghost use Rattle.runs.specs.Rows.{pendingBy};
 ghost use Rattle.held.specs.JobFrom.{standing, variableCountFrom, variablesFrom, heldJob};
 ghost use Rattle.held.specs.RowFrom.{stateFrom};
 ghost use Rattle.held.specs.Standing.{Behind};
-ghost use Rattle.global.specs.Parts.{ForAnnealer};
+ghost use Rattle.draws.specs.Parts.{ForAnnealer};
 use held::RowHead;
 
 // Annealing: the base, a step's trial, or the polish's.

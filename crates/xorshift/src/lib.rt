@@ -1,5 +1,5 @@
 // Marsaglia's xorshift generator of 2003, 13/7/17: the step on plain numbers, the generator lent by `&mut`, and a draw for those who keep its state.
-// Stands on `lists`; called by `global`, `rows`, `jump` and `leaves`.
+// Stands on `lists`; called by `draws`, `rows`, `jump` and `leaves`.
 ghost use mathlib.Core.Path.{_≡_};
 ghost use Rattle.xorshift.specs.Xorshift.{stepOf, seeded, stepTimes};
 ghost use Rattle.xorshift.specs.Draws.{advanced, unitOf, uniformOf, drawOf};
