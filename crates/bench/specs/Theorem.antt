@@ -36,8 +36,8 @@ use Rattle.runs.specs.declared.types.Row.{Row}
 use Rattle.bench.specs.declared.types.Bench.{Bench}
 use Rattle.runs.specs.JobMerit.{lensWith, evaluateOf}
 use Rattle.bench.specs.Dealing.{Throughout, nextAfter, times}
-use Rattle.bench.specs.Book.{Call, admit, turn, fetch, release, listing, deal, Answer, number, fetched, dealt, Entry, empty, holds, countOf, Book, entryAt}
-use Rattle.bench.specs.Book.{placesWhere, runAfter, leftBy, answersBy, bookAfter, bookAnswers}
+use Rattle.bench.specs.Book.{Call, admit, turn, fetch, release, listing, deal, Answer, number, fetched, dealt, Entry, empty, holds, countOf}
+use Rattle.bench.specs.Book.{Book, entryAt, placesWhere, runAfter, leftBy, answersBy, bookAfter, bookAnswers}
 use Rattle.bench.specs.Book as Book
 use Rattle.bench.specs.Benches.{zeroRow, emptyBench, rowAt, withRow}
 use Rattle.bench.specs.Order.{Rising}

@@ -138,10 +138,11 @@ pub record Known : Type 0 where
   pub thickness-follows : Led (Thickness 0) n1 n4 (Plus 1) n3 (λ s t rest. withThickness s n3 ∷ withThickness t n3 ∷ rest)
   pub conic-follows : Led (Conic 0) n1 n4 (Minus 1) n3 (λ s t rest. withConic s n3 ∷ withConic t (neg n3) ∷ rest)
   pub semi-diameter-follows : Led (SemiDiameter 0) n1 n4 (Plus 1) n3 (λ s t rest. withSemiDiameter s n3 ∷ withSemiDiameter t n3 ∷ rest)
-  -- 17: a follower of two surfaces is taken, one that is absent is not, "enabled or not"; minus of a conic is taken, "of a semi-diameter or thickness" it is not
+  -- 17: a follower of two surfaces is taken, one that is absent is not, "enabled or not"
   pub follower-there : (u : Unused) → followersTaken 2 (curvatureWithin u zero64 eighth (Minus 1)) ≡ true
   pub follower-absent : (u : Unused) → followersTaken 1 (curvatureWithin u zero64 eighth (Minus 1)) ≡ false
   pub disabled-absent : (u : Unused) → followersTaken 1 (variableWithin u false (Curvature 0) zero64 eighth (Plus 1)) ≡ false
+  -- minus of a conic is taken, "of a semi-diameter or thickness" it is not, and plus is
   pub conic-minus : (u : Unused) → followersTaken 2 (variableWithin u true (Conic 0) n1 n4 (Minus 1)) ≡ true
   pub thickness-minus : (u : Unused) → followersTaken 2 (variableWithin u true (Thickness 0) n1 n4 (Minus 1)) ≡ false
   pub semi-diameter-minus : (u : Unused) → followersTaken 2 (variableWithin u true (SemiDiameter 0) n1 n4 (Minus 1)) ≡ false
@@ -158,8 +159,8 @@ pub record Known : Type 0 where
 pub known : Known
 unfolding traceNumber traceAnswer stepOf seeded stepTimes radiusOf lt magnitude finiteOf ofBits neg div tab allBelow Curvature.curvature arriving paraxialOf
     within aboveZeroUpTo surfaceTaken lensTaken finiteOr isFocalLength isMagnified track shortfall sagOf valueOf difference residual term total countedTotal
-    kindTaken weightTaken operandTaken evaluateNumber sqrtOf le sub mul isNan enabledOf followersTaken appliedTo applied runBy DampedRun.damped iterations bind afterMerits
-    afterMerit isDone value
+    kindTaken weightTaken operandTaken evaluateNumber sqrtOf le sub mul isNan enabledOf followersTaken appliedTo applied runBy DampedRun.damped iterations bind
+    afterMerits afterMerit isDone value
     lesser greater endsFinite refractionFinite transferFinite trackLimits arrivalFinite Limits.arriving limitsTaken limitsNumber add
 known = record {
   values = λ u. (refl, refl);
