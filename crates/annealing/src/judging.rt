@@ -9,7 +9,7 @@ use jobs::SimulatedAnnealingConfig;
 use merit::MeritEvaluation;
 
 // The numbers that `optimize` holds from one step to the next.
-#[derive(Drop)]
+#[derive(Clone, Copy)]
 pub(crate) struct WalkHead {
     pub current_merit: f64,
     pub best_merit: f64,

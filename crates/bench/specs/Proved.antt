@@ -55,7 +55,7 @@ use Rattle.bench.specs.Places.{KeptRow, not-vacant, undamaged, zero-vacant, held
 use Rattle.bench.specs.OrderLaws.{ordered-perm, rising-ordered}
 use Rattle.bench.specs.Agreement.{Agree, kept_at, same_answer, agree-step}
 use Rattle.bench.specs.Results.{evaluable, returned}
-use Rattle.bench.specs.Dealings.{dealt-turns, dealt-rows, most-dealt, how-many, spent, next_place, fair-run, within-run}
+use Rattle.bench.specs.Dealings.{dealt-turns, dealt-rows, most-dealt, how-many, spent, place-next, fair-run, within-run}
 use Rattle.bench.specs.Theorem.{bench_after, SameBench, RowHolds, SamePlace, Returned, ReturnedBy, Demand3}
 
 -- ---- lists of calls
@@ -281,7 +281,7 @@ demand3 = record {
   results = fetched-returned;
   next_places = λ calls. (agree_after calls).next;
   next_below = λ calls. subst (λ (n : ℕ). n < 4) (sym (agree_after calls).next) (agree_after calls).below;
-  next_place = next_place;
+  next_place = place-next;
   dealt_turns = dealt-turns;
   dealt_rows = dealt-rows;
   at_most = most-dealt;

@@ -94,6 +94,7 @@ implies false b = true
 
 then : (a b : Bool) → T (implies a b) → T a → T b
 then true b t s = t
+then false b t s = elim s [ ]
 
 -- while k is served, what lies behind it comes nearer, and two places keep their order
 abbrev nearer_test : ℕ → ℕ → ℕ → Bool

@@ -2,14 +2,14 @@
 use bench::Bench;
 
 // The bench that a call leaves, and 01's number, 0 where the call is done.
-#[derive(Drop)]
+#[derive(Clone, Copy)]
 pub struct BenchAnswer {
     pub bench: Bench,
     pub number: u32,
 }
 
 // The bench after turns of one place, how many were taken, and the number of the one that was refused, or 0.
-#[derive(Drop)]
+#[derive(Clone, Copy)]
 pub struct Played {
     pub bench: Bench,
     pub taken: u64,
@@ -17,7 +17,7 @@ pub struct Played {
 }
 
 // The bench after a dealing, how many turns were dealt, and 01's number, 0 where the dealing was done.
-#[derive(Drop)]
+#[derive(Clone, Copy)]
 pub struct Dealing {
     pub bench: Bench,
     pub dealt: u32,

@@ -3,7 +3,7 @@ use text::cursor;
 use text::cursor::{Cursor, Why};
 
 // The place, the length of scratch and the turns, 0 where a call names none, and where its line goes on.
-#[derive(Drop)]
+#[derive(Clone, Copy)]
 pub(crate) struct Asked {
     pub place: usize,
     pub room: usize,

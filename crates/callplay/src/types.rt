@@ -3,7 +3,7 @@ use bench::Bench;
 use streams::output::Waiting;
 
 // The bench as the calls so far have left it, and what waits of the output.
-#[derive(Drop)]
+#[derive(Clone, Copy)]
 pub(crate) struct Answered {
     pub bench: Bench,
     pub waiting: Waiting,

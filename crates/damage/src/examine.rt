@@ -6,7 +6,7 @@ use held::HeldRow;
 use jobs::JobRequest;
 
 // A row that a run left, a bench that holds the same run's last row at each place, and the place for the damaged one.
-#[derive(Drop)]
+#[derive(Clone, Copy)]
 pub(crate) struct Case {
     pub row: HeldRow,
     pub bench: Bench,

@@ -15,7 +15,7 @@ use text::cursor::{Cursor, Why};
 use text::{cursor, words};
 
 // What the lines so far have come to, and what waits of the output.
-#[derive(Drop)]
+#[derive(Clone, Copy)]
 pub(crate) struct Examined {
     pub tally: Tally,
     pub waiting: Waiting,

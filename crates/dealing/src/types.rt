@@ -2,7 +2,7 @@
 
 // The place to try and the place to go next; how many places in a row had no job to serve; how many turns were dealt and how
 // many are at most; and 01's number, 0 where the dealing is not refused.
-#[derive(Drop)]
+#[derive(Clone, Copy)]
 pub struct Round {
     pub at: usize,
     pub next: usize,

@@ -9,7 +9,7 @@ ghost use Rattle.draws.specs.Parts.{TriedBy};
 use held::{variable_at, variable_count};
 
 // What was drawn, and the generator after it.
-#[derive(Drop)]
+#[derive(Clone, Copy)]
 pub struct Drawn {
     pub params: [f64; 8],
     pub generator: u64,

@@ -45,6 +45,7 @@ or_split false b t = inr t
 
 or_l : (a b : Bool) → T a → T (a || b)
 or_l true b t = tt
+or_l false b t = elim t [ ]
 
 or_r : (a b : Bool) → T b → T (a || b)
 or_r true b t = tt

@@ -1,7 +1,7 @@
 -- The nearest is one: of two unlike ones each would be nearer than the other. Assumes nothing.
 use Rattle.std.specs.Prelude.{◌≡◌, ℕ, ◌+◌, ◌-◌, ◌*◌, ◌/◌, ◌^◌, ◌≤◌, ◌<◌, true, false, ℤ, T, ltb, Float}
 use Rattle.std.proofs.Common.{sym, ap, ◌∙◌, subst, le_antisymm, lt_irrefl, lt_trans, add_comm, mul_comm, mul_right_comm, nltb→le}
-use Rattle.std.proofs.Math.Dec.{not_t}
+use Rattle.std.proofs.Math.Dec.{not_T}
 use Rattle.std.specs.Float.{nan, inf, fin, binary64}
 use Rattle.std.specs.Float.Ieee.{up, down, size, lt, of_bits, to_bits}
 use Rattle.std.specs.Float.Ieee.Bits.{of_bits-to_bits}
@@ -45,4 +45,4 @@ only-nearest x (fin false m e) (fin false n d) p q =
     sym (of_bits-to_bits binary64 r p.fitting) ∙ ap (of_bits binary64) (same_bits m n e d (le_antisymm a b)) ∙ of_bits-to_bits binary64 s q.fitting
   where
     not-less : (a b : ℕ) → (T (ltb a b) → ⊥) → b ≤ a
-    not-less a b h = nltb→le a b (not_t (ltb a b) h)
+    not-less a b h = nltb→le a b (not_T (ltb a b) h)

@@ -122,6 +122,7 @@ lt→le x y t = go (lt x y) (eq x y) t
   where
     go : (a b : Bool) → T a → T (a || b)
     go true b t = tt
+    go false b t = elim t [ ]
 
 pub le-numbers : (x y : Float) → T (le x y) → Number x × Number y
 unfolding le is_nan

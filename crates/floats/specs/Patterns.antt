@@ -1,11 +1,13 @@
 -- The bit pattern of an `f64` above zero, the number of units of 2 ^ -1074 that it stands for, and the root of such a number. Assumes nothing.
+use Rattle.std.specs.Float.{inf}
+use Rattle.std.specs.Float.{nan}
 use Rattle.std.specs.Prelude.{◌≡◌, refl, Bool, true, not, ◌&&◌, cond, ℤ, pos, negsuc, T, ltb, leb, eqb, Float}
 use Rattle.std.proofs.Common.{sym, ◌∙◌, subst, inl, inr, le_trans, le_of_eq, le_antisymm, lt_of_not-le, lt_of_lt_of_le, lt_of_le_of_lt, lt_irrefl, eq-or-lt_of_le, zero-lt-suc, zero-add, mul-one, mul-pos, mul_assoc, mul_right_comm, mul-le-mul_right, mul-lt-mul_of_pos_right, lt_of_mul-lt-mul_right, mul-div_cancel, le-div_iff_mul-le, div-one, pow-suc, true≢false, lt→ltb, ltb→lt, leb→le, nltb→le, pow-add, pow_pos, pow_mono, shl_lt}
 use Rattle.std.proofs.Math.Path.{ap}
 use Prim.Native.Nat.{ℕ, zero, suc, ◌+◌, ◌-◌, ◌*◌, ◌/◌, ◌%◌, ◌^◌, ◌≤◌, ◌<◌}
 use native.Mathlib.Omega.{arith}
 use Rattle.std.proofs.Math.Bool.{false}
-use Rattle.std.proofs.Math.Dec.{not_t}
+use Rattle.std.proofs.Math.Dec.{not_T}
 use Rattle.std.proofs.Math.Pow.{pow-lt}
 use Rattle.std.specs.Float.{fin, binary64}
 use Rattle.std.specs.Float.Ieee.{up, down, size, odd, fits, of_bits, to_bits}
@@ -44,6 +46,8 @@ bits_of (fin true m e) a h = absurd (true≢false h.0)
 bits_of (fin false m e) a h =
     ap (λ (n : ℕ). 0 + (size n - 53) * 2 ^ 52 + n / 2 ^ (size n - 53)) (ap (λ (x : ℕ). x / down e) h.1 ∙ mul-div_cancel a (down_pos e))
     ∙ ap (λ (z : ℕ). z + a / 2 ^ (size a - 53)) (zero-add ((size a - 53) * 2 ^ 52))
+bits_of nan a h = elim h [ ]
+bits_of (inf _) a h = elim h [ ]
 
 bits-normal : (v : Float) (d k : ℕ) → 2 ^ 52 ≤ d → d < 2 ^ 53 → HasValue v false (d * 2 ^ k) (2 ^ 1074) → to_bits binary64 v ≡ k * 2 ^ 52 + d
 bits-normal v d k lo hi h =
@@ -118,7 +122,7 @@ pub count-high : (b : ℕ) → 2 ^ 52 ≤ b → count b ≡ (b % 2 ^ 52 + 2 ^ 52
 unfolding count
 count-high b h =
     ap (λ (t : Bool). cond t b ((b % 2 ^ 52 + 2 ^ 52) * 2 ^ (b / 2 ^ 52 - 1)))
-    (is_false (ltb b (2 ^ 52)) (not_t (ltb b (2 ^ 52)) (λ t. no (ltb→lt b (2 ^ 52) t))))
+    (is_false (ltb b (2 ^ 52)) (not_T (ltb b (2 ^ 52)) (λ t. no (ltb→lt b (2 ^ 52) t))))
   where
     no : b < 2 ^ 52 → ⊥
     no l = omega arith

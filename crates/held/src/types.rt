@@ -2,7 +2,7 @@
 
 // `places.rt` says where an entry stands. Surfaces are laid flat, four numbers each.
 #[repr(C)]
-#[derive(Drop)]
+#[derive(Clone, Copy)]
 pub struct HeldRow {
     pub words: [u64; 13],
     pub scalars: [f64; 7],
@@ -22,7 +22,7 @@ pub struct HeldRow {
 
 // The numbers of a damped run that go by value; its arrays are lent.
 #[repr(C)]
-#[derive(Drop)]
+#[derive(Clone, Copy)]
 pub struct Head {
     pub total_merit: f64,
     pub initial_merit: f64,
@@ -36,7 +36,7 @@ pub struct Head {
 
 // Those of the best result.
 #[repr(C)]
-#[derive(Drop)]
+#[derive(Clone, Copy)]
 pub struct BestHead {
     pub initial_merit: f64,
     pub final_merit: f64,
@@ -46,7 +46,7 @@ pub struct BestHead {
 
 // Those of a run's state.
 #[repr(C)]
-#[derive(Drop)]
+#[derive(Clone, Copy)]
 pub struct RowHead {
     pub damped: Head,
     pub best: BestHead,

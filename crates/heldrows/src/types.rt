@@ -1,6 +1,6 @@
 // The job of a held row alone.
 #[repr(C)]
-#[derive(Drop)]
+#[derive(Clone, Copy)]
 pub struct HeldJob {
     pub counts: [u64; 73],
     pub numbers: [f64; 195],

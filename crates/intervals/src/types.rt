@@ -2,7 +2,7 @@
 
 // The two ends of an interval.
 #[repr(C)]
-#[derive(Drop)]
+#[derive(Clone, Copy)]
 pub struct Interval {
     pub low: f64,
     pub high: f64,
@@ -10,14 +10,14 @@ pub struct Interval {
 
 // The least and the greatest thickness behind each surface, the last too; entries past the surfaces are not looked at.
 #[repr(C)]
-#[derive(Drop)]
+#[derive(Clone, Copy)]
 pub struct ThicknessLimits {
     pub thicknesses: [Interval; 16],
 }
 
 // The least and the greatest track, and for each surface those of the height at it and of the slope behind it; zero past the surfaces.
 #[repr(C)]
-#[derive(Drop)]
+#[derive(Clone, Copy)]
 pub struct TraceLimits {
     pub track: Interval,
     pub heights: [Interval; 16],
@@ -25,7 +25,7 @@ pub struct TraceLimits {
 }
 
 // A paraxial ray within limits as it arrives at a surface: its height there, its slope and the index in front.
-#[derive(Drop)]
+#[derive(Clone, Copy)]
 pub struct ArrivingLimits {
     pub y: Interval,
     pub u: Interval,
@@ -33,7 +33,7 @@ pub struct ArrivingLimits {
 }
 
 // The ray as it arrives at the next surface, and whether every interval of the refraction, and of the transfer, has finite ends.
-#[derive(Drop)]
+#[derive(Clone, Copy)]
 pub struct PassedLimits {
     pub ray: ArrivingLimits,
     pub refracted: bool,
@@ -41,14 +41,14 @@ pub struct PassedLimits {
 }
 
 // What a lens comes to within limits, and whether every interval on the way has finite ends.
-#[derive(Drop)]
+#[derive(Clone, Copy)]
 pub struct WorkedLimits {
     pub traced: TraceLimits,
     pub finite: bool,
 }
 
 // The same with the refusal's number, 0 where there is none; zero where it is refused.
-#[derive(Drop)]
+#[derive(Clone, Copy)]
 pub struct TracedLimits {
     pub traced: TraceLimits,
     pub number: u32,

@@ -17,7 +17,7 @@ fn read_place(line: &[u8], c: Cursor, count: usize) -> NumberRead
     cursor::within(line, c, 0, count as u64 - 1, Why::Range)
 }
 
-#[derive(Drop)]
+#[derive(Clone, Copy)]
 struct FollowerRead {
     pub place: usize,
     pub follower: Follower,

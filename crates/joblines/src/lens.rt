@@ -6,7 +6,7 @@ use optics::OpticalSurface;
 use text::cursor;
 use text::cursor::Cursor;
 
-#[derive(Drop)]
+#[derive(Clone, Copy)]
 struct SurfaceRead {
     pub surface: OpticalSurface,
     pub next: Cursor,
@@ -33,7 +33,7 @@ fn read_surface(line: &[u8], c: Cursor) -> SurfaceRead
     }
 }
 
-#[derive(Drop)]
+#[derive(Clone, Copy)]
 pub(crate) struct SurfacesRead {
     pub surfaces: [OpticalSurface; 16],
     pub next: Cursor,

@@ -6,7 +6,7 @@ use intervals::{Interval, ThicknessLimits};
 use text::cursor;
 use text::cursor::Cursor;
 
-#[derive(Drop)]
+#[derive(Clone, Copy)]
 struct PairRead {
     pub pair: Interval,
     pub next: Cursor,
@@ -29,7 +29,7 @@ fn read_pair(line: &[u8], c: Cursor) -> PairRead
     }
 }
 
-#[derive(Drop)]
+#[derive(Clone, Copy)]
 struct PairsRead {
     pub pairs: [Interval; 16],
     pub next: Cursor,
@@ -61,7 +61,7 @@ fn read_pairs(line: &[u8], c: Cursor, count: usize) -> PairsRead
     }
 }
 
-#[derive(Drop)]
+#[derive(Clone, Copy)]
 pub struct LimitsRead {
     pub slot: usize,
     pub limits: ThicknessLimits,

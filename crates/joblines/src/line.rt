@@ -9,7 +9,7 @@ use text::cursor;
 use text::cursor::Cursor;
 use variables::VariableSet;
 
-#[derive(Drop)]
+#[derive(Clone, Copy)]
 struct PrescriptionRead {
     pub prescription: OpticalPrescription,
     pub next: Cursor,
@@ -46,7 +46,7 @@ fn read_prescription(line: &[u8], c: Cursor) -> PrescriptionRead
     }
 }
 
-#[derive(Drop)]
+#[derive(Clone, Copy)]
 struct VariableSetRead {
     pub variables: VariableSet,
     pub next: Cursor,
@@ -72,7 +72,7 @@ fn read_variable_set(line: &[u8], c: Cursor) -> VariableSetRead
     }
 }
 
-#[derive(Drop)]
+#[derive(Clone, Copy)]
 struct MeritFunctionRead {
     pub function: MeritFunction,
     pub next: Cursor,
@@ -97,7 +97,7 @@ fn read_merit_function(line: &[u8], c: Cursor) -> MeritFunctionRead
 }
 
 // What a job line gives, and the cursor before its settings.
-#[derive(Drop)]
+#[derive(Clone, Copy)]
 pub struct JobLine {
     pub prescription: OpticalPrescription,
     pub variables: VariableSet,

@@ -6,7 +6,7 @@ use merit::{MeritOperand, OperandType};
 use text::cursor;
 use text::cursor::{Cursor, Why};
 
-#[derive(Drop)]
+#[derive(Clone, Copy)]
 struct OperandRead {
     pub operand: MeritOperand,
     pub next: Cursor,
@@ -34,7 +34,7 @@ fn read_operand(line: &[u8], c: Cursor) -> OperandRead
     }
 }
 
-#[derive(Drop)]
+#[derive(Clone, Copy)]
 pub(crate) struct OperandsRead {
     pub operands: [MeritOperand; 12],
     pub next: Cursor,

@@ -7,7 +7,7 @@ use crate::settings;
 use jobs::JobRequest;
 use text::cursor::Cursor;
 
-#[derive(Drop)]
+#[derive(Clone, Copy)]
 pub struct RequestRead {
     pub request: JobRequest,
     pub next: Cursor,

@@ -6,7 +6,7 @@ use text::cursor;
 use text::cursor::{Cursor, Why};
 use variables::{Follower, VariableDef, VariableType};
 
-#[derive(Drop)]
+#[derive(Clone, Copy)]
 struct VariableRead {
     pub variable: VariableDef,
     pub next: Cursor,
@@ -38,7 +38,7 @@ fn read_variable(line: &[u8], c: Cursor) -> VariableRead
     }
 }
 
-#[derive(Drop)]
+#[derive(Clone, Copy)]
 pub(crate) struct VariablesRead {
     pub variables: [VariableDef; 8],
     pub next: Cursor,

@@ -9,13 +9,13 @@ use jobs::{
 use text::cursor;
 use text::cursor::{Cursor, Why};
 
-#[derive(Drop)]
+#[derive(Clone, Copy)]
 struct CountRead {
     pub setting: CountSetting,
     pub next: Cursor,
 }
 
-#[derive(Drop)]
+#[derive(Clone, Copy)]
 struct NumberSettingRead {
     pub setting: NumberSetting,
     pub next: Cursor,
@@ -76,7 +76,7 @@ fn read_number(line: &[u8], c: Cursor) -> NumberSettingRead
     }
 }
 
-#[derive(Drop)]
+#[derive(Clone, Copy)]
 struct DlsRead {
     pub settings: DlsRequest,
     pub next: Cursor,
@@ -110,7 +110,7 @@ fn read_damped(line: &[u8], c: Cursor) -> DlsRead
     }
 }
 
-#[derive(Drop)]
+#[derive(Clone, Copy)]
 pub(crate) struct MethodRead {
     pub method: MethodRequest,
     pub next: Cursor,

@@ -4,19 +4,19 @@ use optics::{OpticalPrescription, OpticalSurface};
 use variables::VariableSet;
 
 // A setting that may be left out: then the default of the Rust's config is kept in its place.
-#[derive(Drop)]
+#[derive(Clone, Copy)]
 pub enum CountSetting {
     Default,
     Is(u64),
 }
 
-#[derive(Drop)]
+#[derive(Clone, Copy)]
 pub enum NumberSetting {
     Default,
     Is(f64),
 }
 
-#[derive(Drop)]
+#[derive(Clone, Copy)]
 pub struct DlsRequest {
     pub max_iterations: CountSetting,
     pub initial_damping: NumberSetting,
@@ -25,14 +25,14 @@ pub struct DlsRequest {
     pub finite_difference_relative_step: NumberSetting,
 }
 
-#[derive(Drop)]
+#[derive(Clone, Copy)]
 pub struct MultiStartRequest {
     pub local_dls_config: DlsRequest,
     pub num_trials: CountSetting,
     pub seed: CountSetting,
 }
 
-#[derive(Drop)]
+#[derive(Clone, Copy)]
 pub struct SimulatedAnnealingRequest {
     pub initial_temperature: NumberSetting,
     pub cooling_rate: NumberSetting,
@@ -42,7 +42,7 @@ pub struct SimulatedAnnealingRequest {
 }
 
 // "A job is of one kind and gives that kind's settings alone."
-#[derive(Drop)]
+#[derive(Clone, Copy)]
 pub enum MethodRequest {
     Damped(DlsRequest),
     MultiStart(MultiStartRequest),
@@ -50,7 +50,7 @@ pub enum MethodRequest {
 }
 
 // A job as it is asked for. What stands past the counts is not looked at.
-#[derive(Drop)]
+#[derive(Clone, Copy)]
 pub struct JobRequest {
     pub prescription: OpticalPrescription,
     pub variables: VariableSet,
@@ -58,7 +58,7 @@ pub struct JobRequest {
     pub method: MethodRequest,
 }
 
-#[derive(Drop)]
+#[derive(Clone, Copy)]
 pub struct DlsConfig {
     pub max_iterations: u64,
     pub initial_damping: f64,
@@ -67,14 +67,14 @@ pub struct DlsConfig {
     pub finite_difference_relative_step: f64,
 }
 
-#[derive(Drop)]
+#[derive(Clone, Copy)]
 pub struct MultiStartConfig {
     pub local_dls_config: DlsConfig,
     pub num_trials: u64,
     pub seed: u64,
 }
 
-#[derive(Drop)]
+#[derive(Clone, Copy)]
 pub struct SimulatedAnnealingConfig {
     pub initial_temperature: f64,
     pub cooling_rate: f64,
@@ -83,7 +83,7 @@ pub struct SimulatedAnnealingConfig {
     pub seed: u64,
 }
 
-#[derive(Drop)]
+#[derive(Clone, Copy)]
 pub enum Method {
     Damped(DlsConfig),
     MultiStart(MultiStartConfig),
@@ -91,7 +91,7 @@ pub enum Method {
 }
 
 // A job as it is kept: defaults filled in, every unused entry zero.
-#[derive(Drop)]
+#[derive(Clone, Copy)]
 pub struct Job {
     pub prescription: OpticalPrescription,
     pub variables: VariableSet,
@@ -102,7 +102,7 @@ pub struct Job {
 // The same in numbers alone, as a row holds it; the row's kind says which settings are used.
 // `follows` is 0 for no follower, 1 for plus, 2 for minus.
 #[repr(C)]
-#[derive(Drop)]
+#[derive(Clone, Copy)]
 pub struct VariableRecord {
     pub kind: u64,
     pub surface_index: u64,
@@ -115,7 +115,7 @@ pub struct VariableRecord {
 }
 
 #[repr(C)]
-#[derive(Drop)]
+#[derive(Clone, Copy)]
 pub struct OperandRecord {
     pub kind: u64,
     pub at: u64,
@@ -125,7 +125,7 @@ pub struct OperandRecord {
 }
 
 #[repr(C)]
-#[derive(Drop)]
+#[derive(Clone, Copy)]
 pub struct SettingsRecord {
     pub max_iterations: u64,
     pub initial_damping: f64,
@@ -141,7 +141,7 @@ pub struct SettingsRecord {
 }
 
 #[repr(C)]
-#[derive(Drop)]
+#[derive(Clone, Copy)]
 pub struct JobRecord {
     pub surfaces: [OpticalSurface; 16],
     pub indices: [f64; 64],

@@ -8,7 +8,7 @@ use text::cursor;
 use text::cursor::{Cursor, Why};
 
 // What a leaf line is answered with; one that is out of form, with where it is.
-#[derive(Drop)]
+#[derive(Clone, Copy)]
 enum Reply {
     One(f64),
     Two(f64, f64),

@@ -97,7 +97,7 @@ fn read_columns(line: &[u8], c: Cursor, jacobian: &mut [f64], m: usize, p: usize
 }
 
 // A Jacobian and the residuals, and where their line goes on.
-#[derive(Drop)]
+#[derive(Clone, Copy)]
 struct NormalRead {
     pub jacobian: [f64; 96],
     pub residuals: [f64; 12],

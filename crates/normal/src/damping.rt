@@ -5,7 +5,7 @@ ghost use Rattle.normal.specs.Damping.{raised_of, eased_of, damped_diagonal};
 use floats::{abs, max, min};
 
 // A small value that is raised or eased.
-#[derive(Drop)]
+#[derive(Clone, Copy)]
 pub struct Damping {
     pub value: f64,
 }

@@ -11,7 +11,7 @@ use crate::layout::{STEP, system_place};
 use floats::abs;
 
 // Whether there is a solution, which stands beside it.
-#[derive(Drop)]
+#[derive(Clone, Copy)]
 pub enum Solved {
     Yes,
     No,

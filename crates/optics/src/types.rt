@@ -2,7 +2,7 @@
 
 // One surface, in mm; an infinite radius is a flat one.
 #[repr(C)]
-#[derive(Drop)]
+#[derive(Clone, Copy)]
 pub struct OpticalSurface {
     pub radius_mm: f64,
     pub conic_constant: f64,
@@ -12,7 +12,7 @@ pub struct OpticalSurface {
 
 // Surfaces in order, with one refractive index behind each surface for each wavelength slot: that of
 // surface i in slot w stands at `indices[i * 4 + w]`, whatever the slot count.
-#[derive(Drop)]
+#[derive(Clone, Copy)]
 pub struct OpticalPrescription {
     pub surfaces: [OpticalSurface; 16],
     pub indices: [f64; 64],
@@ -23,14 +23,14 @@ pub struct OpticalPrescription {
 
 // The height of a paraxial ray at a surface and its slope behind it.
 #[repr(C)]
-#[derive(Drop)]
+#[derive(Clone, Copy)]
 pub struct ParaxialRay {
     pub y: f64,
     pub u: f64,
 }
 
 // Focal length, back focus and f-number of one slot; the Rust's pupil positions are left out.
-#[derive(Drop)]
+#[derive(Clone, Copy)]
 pub struct ParaxialProperties {
     pub efl_mm: f64,
     pub bfl_mm: f64,
@@ -38,14 +38,14 @@ pub struct ParaxialProperties {
 }
 
 // Fewer than two surfaces are a failed trace.
-#[derive(Drop)]
+#[derive(Clone, Copy)]
 pub enum Paraxial {
     Failed,
     Traced(ParaxialProperties),
 }
 
 // A paraxial ray as it arrives at a surface: its height there, and its slope and the index in front.
-#[derive(Drop)]
+#[derive(Clone, Copy)]
 pub struct ArrivingRay {
     pub y: f64,
     pub u: f64,
@@ -53,7 +53,7 @@ pub struct ArrivingRay {
 }
 
 // The paraxial rays of the last surface but one and of the last.
-#[derive(Drop)]
+#[derive(Clone, Copy)]
 pub(crate) struct LastRays {
     pub before: ParaxialRay,
     pub last: ParaxialRay,

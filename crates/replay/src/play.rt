@@ -5,7 +5,7 @@ use bench::Bench;
 
 // The bench as far as it is played: the digest and the number of the job's turns, and the number of the turn that was
 // refused, or 0.
-#[derive(Drop)]
+#[derive(Clone, Copy)]
 pub(crate) struct Play {
     pub bench: Bench,
     pub hash: u64,

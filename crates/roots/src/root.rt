@@ -7,14 +7,14 @@ ghost use Rattle.floats.specs.Sqrt.{sqrt_of, root_at};
 ghost use Rattle.floats.specs.Steps.{count, Square, Whole, Nears, Mended};
 
 // hi * 2^54 + lo
-#[derive(Drop)]
+#[derive(Clone, Copy)]
 struct Wide {
     pub hi: u64,
     pub lo: u64,
 }
 
 // A number, and whether it is the one that was sought.
-#[derive(Drop)]
+#[derive(Clone, Copy)]
 struct Next {
     pub q: u64,
     pub done: bool,

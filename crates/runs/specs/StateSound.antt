@@ -1,7 +1,7 @@
 -- The state of an undamaged row stays undamaged in a turn, for all three kinds. Assumes nothing but what is named.
 use Rattle.std.specs.Prelude.{Bool, true, false, not, ◌&&◌, ◌||◌, ℕ, max, ◌≤◌, ◌<◌, T, ltb}
 use Rattle.std.proofs.Common.{arith, lt→ltb}
-use Rattle.std.proofs.Math.Dec.{ltb→lt, nltb→le, not_t}
+use Rattle.std.proofs.Math.Dec.{ltb→lt, nltb→le, not_T}
 use Rattle.std.specs.Float.Ieee.Fits.{and_i, and_l, and_r}
 use Rattle.variables.specs.Active.{num_active}
 use Rattle.jobs.specs.declared.types.Job.{Job}
@@ -21,7 +21,7 @@ used-if true taken h = h tt
 used-if false taken h = tt
 
 up-to : (n k : ℕ) → k ≤ n → T (up_to n k)
-up-to n k h = not_t (ltb n k) (λ t. no (ltb→lt n k t))
+up-to n k h = not_T (ltb n k) (λ t. no (ltb→lt n k t))
   where
     no : n < k → ⊥
     no l = omega arith

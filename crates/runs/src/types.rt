@@ -5,7 +5,7 @@ use optics::OpticalSurface;
 
 // As in dls.rs: the best lens, its merit, and each operand's value and residual there; zero past the job's counts.
 #[repr(C)]
-#[derive(Drop)]
+#[derive(Clone, Copy)]
 pub struct OptimizationResult {
     pub surfaces: [OpticalSurface; 16],
     pub values: [f64; 12],
@@ -19,7 +19,7 @@ pub struct OptimizationResult {
 // A damped run between two merits: what `DlsOptimizer::optimize` holds in its locals, and where it stands in its loops.
 // What the phase does not use is zero.
 #[repr(C)]
-#[derive(Drop)]
+#[derive(Clone, Copy)]
 pub struct DampedState {
     pub surfaces: [OpticalSurface; 16],
     pub jacobian: [f64; 96],
@@ -40,7 +40,7 @@ pub struct DampedState {
 // current surfaces and params, and the trial's as the candidate; `best` is multi-start's best result, or the walk's best
 // surfaces and merit with annealing's first merit.
 #[repr(C)]
-#[derive(Drop)]
+#[derive(Clone, Copy)]
 pub struct Row {
     pub job: JobRecord,
     pub damped: DampedState,

@@ -7,7 +7,7 @@ use crate::moves;
 use text::numbers;
 
 // How far the input is read.
-#[derive(Drop)]
+#[derive(Clone, Copy)]
 pub struct Input {
     // What was read and is not taken yet: the bytes of the buffer from `from` up to `to`.
     pub from: usize,
@@ -48,7 +48,7 @@ pub(crate) fn lines_of(input: Input) -> u64
 }
 
 // A line: the bytes of the buffer from `from` up to `to`. None is there while its end has yet to be read.
-#[derive(Drop)]
+#[derive(Clone, Copy)]
 pub struct Line {
     pub from: usize,
     pub to: usize,

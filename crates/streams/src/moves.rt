@@ -6,7 +6,7 @@ use crate::pause::pause;
 use libc::{STDIN_FILENO, STDOUT_FILENO};
 
 // How many bytes were moved, and whether that went well.
-#[derive(Drop)]
+#[derive(Clone, Copy)]
 pub(crate) struct Moved {
     pub bytes: usize,
     pub is_good: bool,

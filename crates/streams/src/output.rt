@@ -6,7 +6,7 @@ use crate::moves;
 use text::numbers;
 
 // What waits to be written, and how the lines so far were answered.
-#[derive(Drop)]
+#[derive(Clone, Copy)]
 pub struct Waiting {
     // How many bytes at the start of the buffer wait.
     pub bytes: usize,

@@ -10,7 +10,7 @@ use crate::fields::{FloatField, NumberField};
 use crate::{fields, words};
 
 // What is wrong with a word that is there.
-#[derive(Drop)]
+#[derive(Clone, Copy)]
 pub enum Why {
     // The line should end before it.
     TooMany,
@@ -26,7 +26,7 @@ pub enum Why {
     Range,
 }
 
-#[derive(Drop)]
+#[derive(Clone, Copy)]
 pub struct Cursor {
     // Where the next field is looked for.
     pub at: usize,
@@ -49,14 +49,14 @@ impl Cursor {
 }
 
 // A number and where the line goes on; 0 where it is out of form.
-#[derive(Drop)]
+#[derive(Clone, Copy)]
 pub struct NumberRead {
     pub value: u64,
     pub next: Cursor,
 }
 
 // The same for a float.
-#[derive(Drop)]
+#[derive(Clone, Copy)]
 pub struct FloatRead {
     pub value: f64,
     pub next: Cursor,

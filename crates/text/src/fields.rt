@@ -5,13 +5,13 @@ ghost use Rattle.text.specs.Fields.{number_field, float_of};
 use crate::numbers::Number;
 use crate::{numbers, words};
 
-#[derive(Drop)]
+#[derive(Clone, Copy)]
 pub(crate) enum NumberField {
     Is(u64, usize),
     Bad,
 }
 
-#[derive(Drop)]
+#[derive(Clone, Copy)]
 pub(crate) enum FloatField {
     Is(f64, usize),
     Bad,

@@ -4,7 +4,7 @@ ghost use Rattle.std.specs.Float.Ieee.{of_bits};
 ghost use Rattle.std.specs.Float.{binary64};
 ghost use Rattle.text.specs.Numbers.{digit_of, digits_from, is_long, number_of, bits_of};
 
-#[derive(Drop)]
+#[derive(Clone, Copy)]
 pub(crate) enum Number {
     Is(u64),
     Bad,

@@ -5,7 +5,7 @@ ghost use Rattle.text.specs.Words.{is_blank, leading, word_from, none_left, begi
 use crate::numbers;
 
 // A word: the bytes of its line from `from` up to `to`. There is none where the two are equal.
-#[derive(Drop)]
+#[derive(Clone, Copy)]
 pub struct Word {
     pub from: usize,
     pub to: usize,

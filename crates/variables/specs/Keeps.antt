@@ -2,7 +2,7 @@
 use Rattle.std.specs.Prelude.{◌≡◌, refl, Bool, true, false, not, cond, List, [], ◌∷◌, T, ltb, ℤ, pos, get_or, set, Float}
 use Rattle.std.proofs.Common.{sym, ◌∙◌, true≢false, arith, lt→ltb}
 use Prim.Native.Nat.{ℕ, zero, suc, ◌*◌, ◌≤◌, ◌<◌}
-use Rattle.std.proofs.Math.Dec.{not_t}
+use Rattle.std.proofs.Math.Dec.{not_T}
 use Rattle.std.specs.Float.{nan, inf, fin, binary64}
 use Rattle.std.specs.Float.Ieee.{neg, div, lt, le, eq, is_nan, of_bits, up, down}
 use Rattle.std.specs.Float.Ieee.Fits.{down_pos, and_r}
@@ -51,7 +51,7 @@ unfolding eq
 not-tiny nan h = tt
 not-tiny (inf s) h = tt
 not-tiny (fin s zero e) h = absurd (true≢false (sym (zero-tiny s e) ∙ h))
-not-tiny (fin s (suc m) e) h = not_t (eq (fin s (suc m) e) (fin false 0 (pos 0))) (λ t. not-zero s m e (is_true (eq (fin s (suc m) e) (fin false 0 (pos 0))) t))
+not-tiny (fin s (suc m) e) h = not_T (eq (fin s (suc m) e) (fin false 0 (pos 0))) (λ t. not-zero s m e (is_true (eq (fin s (suc m) e) (fin false 0 (pos 0))) t))
 
 one-finite : Finite one64
 unfolding of_bits

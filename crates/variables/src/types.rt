@@ -1,7 +1,7 @@
 // The variables of a job. Names are those of variables.rs; its `id` is dropped.
 
 // What is varied, with the number of its surface.
-#[derive(Drop)]
+#[derive(Clone, Copy)]
 pub enum VariableType {
     Curvature(usize),
     Thickness(usize),
@@ -10,7 +10,7 @@ pub enum VariableType {
 }
 
 // Another surface that receives the variable's value straight after the variable's own, as it is or negated.
-#[derive(Drop)]
+#[derive(Clone, Copy)]
 pub enum Follower {
     None,
     Plus(usize),
@@ -18,7 +18,7 @@ pub enum Follower {
 }
 
 // A variable: its bounds and the least step of the finite differences. A disabled one is never read or applied.
-#[derive(Drop)]
+#[derive(Clone, Copy)]
 pub struct VariableDef {
     pub var_type: VariableType,
     pub min_value: f64,
@@ -29,7 +29,7 @@ pub struct VariableDef {
 }
 
 // The first `variable_count` of them are in use.
-#[derive(Drop)]
+#[derive(Clone, Copy)]
 pub struct VariableSet {
     pub variables: [VariableDef; 8],
     pub variable_count: usize,

@@ -4,7 +4,7 @@ ghost use Rattle.std.specs.Prelude.{◌≡◌};
 ghost use Rattle.xorshift.specs.Xorshift.{step_of, seeded, step_times};
 ghost use Rattle.xorshift.specs.Draws.{advanced, unit_of, uniform_of, draw_of};
 
-#[derive(Drop)]
+#[derive(Clone, Copy)]
 pub struct Rng64 {
     pub state: u64,
 }
@@ -63,7 +63,7 @@ impl Rng64 {
 }
 
 // A unit draw, and the generator's state after it.
-#[derive(Drop)]
+#[derive(Clone, Copy)]
 pub struct Draw {
     pub state: u64,
     pub unit: f64,

@@ -3,7 +3,7 @@ use mathlib.Core.Path.{sym, subst}
 use mathlib.Core.Bool.{Bool, not}
 use Prim.Native.Nat.{ℕ, ◌*◌, ◌%◌, ◌^◌, ◌<◌}
 use native.Mathlib.Omega.{arith}
-use lib.Dec.{T, ltb, ltb→lt, not_t}
+use lib.Dec.{T, ltb, ltb→lt, not_T}
 use lib.Ieee.{binary64, ones, hid, top}
 use lib.Ieee.Bits.{nan_bits_above}
 use borrow.Author.Rules.{rules}
@@ -17,7 +17,7 @@ float-from-bits-result : tie.Need-float-from-bits-result
 float-from-bits-result c =
     let n : ℕ = c.args.bits in
     subst (λ (b : Bool). T (not b)) (sym (nan_bits_above binary64 n))
-    (not_t (ltb (ones binary64 * hid binary64) (n % top binary64)) (λ t. no n c.requires (ltb→lt (ones binary64 * hid binary64) (n % top binary64) t)))
+    (not_T (ltb (ones binary64 * hid binary64) (n % top binary64)) (λ t. no n c.requires (ltb→lt (ones binary64 * hid binary64) (n % top binary64) t)))
 
 returns : tie.Need-returns
 returns c = search rules
