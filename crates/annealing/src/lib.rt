@@ -1,5 +1,7 @@
 // Annealing's walk, over lent arrays, from merit to merit (out of global.rs).
 // Stands on `dls`, which has the polish's beginning, and `draws`; called by `turns`.
+#![tactic(auto)]
+
 mod cycles;
 mod judging;
 mod steps;

@@ -4,12 +4,19 @@ ghost use Rattle.streams.specs.Output.{Put, one_refused};
 ghost use Rattle.answers.specs.Heads.{head_texts, kept_text, refused_texts, digest_texts};
 
 use crate::pieces::put_number;
+use streams::console::Console;
 use streams::output;
 use streams::output::Waiting;
 use text::words;
 
 // R id kind, of a line that is in form: its id is its second word.
-pub fn put_head(out: &mut [u8], waiting: Waiting, line: &[u8], kind: u64) -> Waiting
+pub fn put_head(
+    console: Console,
+    out: &mut [u8],
+    waiting: Waiting,
+    line: &[u8],
+    kind: u64,
+) -> Waiting
     ensures bytes_in_bounds { result.bytes ≤ length out.new }
     ensures put { Put waiting out.old (head_texts line.now kind) result out.new }
 {
@@ -17,37 +24,43 @@ pub fn put_head(out: &mut [u8], waiting: Waiting, line: &[u8], kind: u64) -> Wai
     let id = words::next_word(line, tag.to);
     let from = id.from;
     let to = id.to;
-    let waiting = output::put(out, waiting, b"R ");
-    put_number(out, waiting, &line[from..to], kind)
+    let waiting = output::put(console, out, waiting, b"R ");
+    put_number(console, out, waiting, &line[from..to], kind)
 }
 
 // The line's end, after `changed` where what was lent is not as it was, which the oracle never says.
-pub fn put_kept(out: &mut [u8], waiting: Waiting, is_kept: bool) -> Waiting
+pub fn put_kept(console: Console, out: &mut [u8], waiting: Waiting, is_kept: bool) -> Waiting
     ensures bytes_in_bounds { result.bytes ≤ length out.new }
     ensures put { Put waiting out.old (kept_text is_kept ∷ []) result out.new }
 {
     if is_kept {
-        return output::put(out, waiting, b"\n");
+        return output::put(console, out, waiting, b"\n");
     }
-    output::put(out, waiting, b" changed\n")
+    output::put(console, out, waiting, b" changed\n")
 }
 
 // refused N, of a line that is counted so.
-pub fn put_refused(out: &mut [u8], waiting: Waiting, number: u32, is_kept: bool) -> Waiting
+pub fn put_refused(
+    console: Console,
+    out: &mut [u8],
+    waiting: Waiting,
+    number: u32,
+    is_kept: bool,
+) -> Waiting
     ensures bytes_in_bounds { result.bytes ≤ length out.new }
     ensures put { Put (one_refused true waiting) out.old (refused_texts number is_kept) result out.new }
 {
     let waiting = output::counted(waiting, true);
-    let waiting = put_number(out, waiting, b" refused", number as u64);
-    put_kept(out, waiting, is_kept)
+    let waiting = put_number(console, out, waiting, b" refused", number as u64);
+    put_kept(console, out, waiting, is_kept)
 }
 
 // H digest
-pub fn put_digest(out: &mut [u8], waiting: Waiting, hash: u64) -> Waiting
+pub fn put_digest(console: Console, out: &mut [u8], waiting: Waiting, hash: u64) -> Waiting
     ensures bytes_in_bounds { result.bytes ≤ length out.new }
     ensures put { Put waiting out.old (digest_texts hash) result out.new }
 {
-    let waiting = output::put(out, waiting, b" H ");
-    let waiting = output::put_hex(out, waiting, hash);
-    output::put(out, waiting, b"\n")
+    let waiting = output::put(console, out, waiting, b" H ");
+    let waiting = output::put_hex(console, out, waiting, hash);
+    output::put(console, out, waiting, b"\n")
 }

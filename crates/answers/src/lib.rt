@@ -1,5 +1,7 @@
 // What the answers to lines have in common, put in the output piece by piece; oracle/README.md has the formats.
 // Stands on `runs` and `streams`; called by `lensanswers` and the programs.
+#![tactic(auto)]
+
 mod digest;
 mod heads;
 mod pieces;

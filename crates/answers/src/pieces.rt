@@ -3,71 +3,86 @@ ghost use Rattle.std.specs.Prelude.{◌≤◌, [], ◌∷◌, length};
 ghost use Rattle.streams.specs.Output.{Put, one_unknown};
 ghost use Rattle.answers.specs.Pieces.{wrong_text, fault_text, unknown_texts, cut_texts, number_texts, row_texts};
 
+use streams::console::Console;
 use streams::output;
 use streams::output::Waiting;
 use text::cursor::{Cursor, Why};
 use text::words;
 
 // What is wrong with a word.
-fn put_wrong(out: &mut [u8], waiting: Waiting, why: Why) -> Waiting
+fn put_wrong(console: Console, out: &mut [u8], waiting: Waiting, why: Why) -> Waiting
     ensures bytes_in_bounds { result.bytes ≤ length out.new }
     ensures put { Put waiting out.old (wrong_text why ∷ []) result out.new }
 {
     match why {
-        Why::TooMany => output::put(out, waiting, b"too many\n"),
-        Why::NoNumber => output::put(out, waiting, b"no number\n"),
-        Why::NoHex => output::put(out, waiting, b"not 16 hex digits\n"),
-        Why::Another => output::put(out, waiting, b"another word\n"),
-        Why::Kind => output::put(out, waiting, b"kind unknown\n"),
-        Why::Range => output::put(out, waiting, b"out of range\n"),
+        Why::TooMany => output::put(console, out, waiting, b"too many\n"),
+        Why::NoNumber => output::put(console, out, waiting, b"no number\n"),
+        Why::NoHex => output::put(console, out, waiting, b"not 16 hex digits\n"),
+        Why::Another => output::put(console, out, waiting, b"another word\n"),
+        Why::Kind => output::put(console, out, waiting, b"kind unknown\n"),
+        Why::Range => output::put(console, out, waiting, b"out of range\n"),
     }
 }
 
 // What is wrong where a cursor was left.
-fn put_fault(out: &mut [u8], waiting: Waiting, line: &[u8], c: Cursor) -> Waiting
+fn put_fault(console: Console, out: &mut [u8], waiting: Waiting, line: &[u8], c: Cursor) -> Waiting
     ensures bytes_in_bounds { result.bytes ≤ length out.new }
     ensures put { Put waiting out.old (fault_text line.now c ∷ []) result out.new }
 {
     if words::is_end(line, c.at) {
-        return output::put(out, waiting, b"missing\n");
+        return output::put(console, out, waiting, b"missing\n");
     }
     let why = c.why;
-    put_wrong(out, waiting, why)
+    put_wrong(console, out, waiting, why)
 }
 
 // The answer to a line that is out of form: its number, the field where the cursor was left, and what is wrong there.
-pub fn put_unknown(out: &mut [u8], waiting: Waiting, line: &[u8], number: u64, c: Cursor) -> Waiting
+pub fn put_unknown(
+    console: Console,
+    out: &mut [u8],
+    waiting: Waiting,
+    line: &[u8],
+    number: u64,
+    c: Cursor,
+) -> Waiting
     ensures bytes_in_bounds { result.bytes ≤ length out.new }
     ensures put { Put (one_unknown waiting) out.old (unknown_texts line.now number c) result out.new }
 {
     let field = std::num::wrapping_add_u64(words::words_before(line, c.at), 1);
-    let waiting = put_number(out, output::counted_unknown(waiting), b"?", number);
-    let waiting = put_number(out, waiting, b" field", field);
-    let waiting = output::put(out, waiting, b": ");
-    put_fault(out, waiting, line, c)
+    let waiting = put_number(console, out, output::counted_unknown(waiting), b"?", number);
+    let waiting = put_number(console, out, waiting, b" field", field);
+    let waiting = output::put(console, out, waiting, b": ");
+    put_fault(console, out, waiting, line, c)
 }
 
 // The answer to a line that is too long for the buffer.
-pub fn put_cut(out: &mut [u8], waiting: Waiting, number: u64) -> Waiting
+pub fn put_cut(console: Console, out: &mut [u8], waiting: Waiting, number: u64) -> Waiting
     ensures bytes_in_bounds { result.bytes ≤ length out.new }
     ensures put { Put (one_unknown waiting) out.old (cut_texts number) result out.new }
 {
-    let waiting = put_number(out, output::counted_unknown(waiting), b"?", number);
-    output::put(out, waiting, b" too long\n")
+    let waiting = put_number(console, out, output::counted_unknown(waiting), b"?", number);
+    output::put(console, out, waiting, b" too long\n")
 }
 
 // A name, a blank and a number.
-pub fn put_number(out: &mut [u8], waiting: Waiting, name: &[u8], number: u64) -> Waiting
+pub fn put_number(
+    console: Console,
+    out: &mut [u8],
+    waiting: Waiting,
+    name: &[u8],
+    number: u64,
+) -> Waiting
     ensures bytes_in_bounds { result.bytes ≤ length out.new }
     ensures put { Put waiting out.old (number_texts name.now number) result out.new }
 {
-    let waiting = output::put(out, waiting, name);
-    let waiting = output::put(out, waiting, b" ");
-    output::put_decimal(out, waiting, number)
+    let waiting = output::put(console, out, waiting, name);
+    let waiting = output::put(console, out, waiting, b" ");
+    output::put_decimal(console, out, waiting, number)
 }
 
 // A name, a count, and so many floats of a row.
 pub fn put_row(
+    console: Console,
     out: &mut [u8],
     waiting: Waiting,
     name: &[u8],
@@ -77,7 +92,7 @@ pub fn put_row(
     ensures bytes_in_bounds { result.bytes ≤ length out.new }
     ensures put { Put waiting out.old (row_texts name.now row count) result out.new }
 {
-    let waiting = put_number(out, waiting, name, count as u64);
+    let waiting = put_number(console, out, waiting, name, count as u64);
     let n = output::least(count, 12);
-    output::put_floats(out, waiting, &row[..n])
+    output::put_floats(console, out, waiting, &row[..n])
 }

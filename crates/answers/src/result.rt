@@ -6,23 +6,30 @@ ghost use Rattle.answers.specs.Pieces.{outcome_texts, surface_texts, surfaces_te
 use crate::pieces::{put_number, put_row};
 use optics::OpticalSurface;
 use runs::OptimizationResult;
+use streams::console::Console;
 use streams::output;
 use streams::output::Waiting;
 
 // M first final N iterations converged
-pub fn put_outcome(out: &mut [u8], waiting: Waiting, res: OptimizationResult) -> Waiting
+pub fn put_outcome(
+    console: Console,
+    out: &mut [u8],
+    waiting: Waiting,
+    res: OptimizationResult,
+) -> Waiting
     ensures bytes_in_bounds { result.bytes ≤ length out.new }
     ensures put { Put waiting out.old (outcome_texts res) result out.new }
 {
     let merits = [res.initial_merit, res.final_merit];
-    let waiting = output::put(out, waiting, b" M");
-    let waiting = output::put_floats(out, waiting, &merits);
-    let waiting = put_number(out, waiting, b" N", res.iterations);
-    put_number(out, waiting, b"", res.converged)
+    let waiting = output::put(console, out, waiting, b" M");
+    let waiting = output::put_floats(console, out, waiting, &merits);
+    let waiting = put_number(console, out, waiting, b" N", res.iterations);
+    put_number(console, out, waiting, b"", res.converged)
 }
 
 // S n {surface} V m {values} D m {residuals}
 pub fn put_lens(
+    console: Console,
     out: &mut [u8],
     waiting: Waiting,
     res: OptimizationResult,
@@ -35,14 +42,15 @@ pub fn put_lens(
     let surfaces = res.surfaces;
     let values = res.values;
     let residuals = res.residuals;
-    let waiting = put_number(out, waiting, b" S", surface_count as u64);
-    let waiting = put_surfaces(out, waiting, surfaces, surface_count);
-    let waiting = put_row(out, waiting, b" V", values, operand_count);
-    put_row(out, waiting, b" D", residuals, operand_count)
+    let waiting = put_number(console, out, waiting, b" S", surface_count as u64);
+    let waiting = put_surfaces(console, out, waiting, surfaces, surface_count);
+    let waiting = put_row(console, out, waiting, b" V", values, operand_count);
+    put_row(console, out, waiting, b" D", residuals, operand_count)
 }
 
 // So many surfaces.
 fn put_surfaces(
+    console: Console,
     out: &mut [u8],
     waiting: Waiting,
     surfaces: [OpticalSurface; 16],
@@ -56,13 +64,13 @@ fn put_surfaces(
     let mut i = 0;
     while i < n {
         let s = surfaces[i];
-        held = put_surface(out, held, s);
+        held = put_surface(console, out, held, s);
         i += 1;
     }
     held
 }
 
-fn put_surface(out: &mut [u8], waiting: Waiting, s: OpticalSurface) -> Waiting
+fn put_surface(console: Console, out: &mut [u8], waiting: Waiting, s: OpticalSurface) -> Waiting
     ensures bytes_in_bounds { result.bytes ≤ length out.new }
     ensures put { Put waiting out.old (surface_texts s) result out.new }
 {
@@ -72,5 +80,5 @@ fn put_surface(out: &mut [u8], waiting: Waiting, s: OpticalSurface) -> Waiting
         s.thickness_mm,
         s.semi_diameter_mm,
     ];
-    output::put_floats(out, waiting, &row)
+    output::put_floats(console, out, waiting, &row)
 }

@@ -1,4 +1,5 @@
 // Lines of admissions.
+use streams::console::Console;
 use crate::call;
 use crate::types::Answered;
 use joblines::RequestRead;
@@ -7,7 +8,7 @@ use text::cursor::{Cursor, NumberRead, Why};
 
 // A place J id kind ..
 pub(crate) fn admit(
-    out: &mut [u8],
+    console: Console, out: &mut [u8],
     state: Answered,
     line: &[u8],
     at: usize,
@@ -15,7 +16,7 @@ pub(crate) fn admit(
 ) -> Answered {
     let place = cursor::decimal(line, Cursor::new(at));
     let kind = read_kind(line, place.next);
-    admit_kind(out, state, line, number, place.value as usize, kind)
+    admit_kind(console, out, state, line, number, place.value as usize, kind)
 }
 
 // J id kind
@@ -31,7 +32,7 @@ fn read_job(line: &[u8], kind: NumberRead) -> RequestRead {
 }
 
 fn admit_kind(
-    out: &mut [u8],
+    console: Console, out: &mut [u8],
     state: Answered,
     line: &[u8],
     number: u64,
@@ -40,14 +41,14 @@ fn admit_kind(
 ) -> Answered {
     let read = read_job(line, kind);
     if !cursor::is_done(line, read.next) {
-        return call::unknown(out, state, line, number, read.next);
+        return call::unknown(console, out, state, line, number, read.next);
     }
-    admit_job(out, state, place, read)
+    admit_job(console, out, state, place, read)
 }
 
-fn admit_job(out: &mut [u8], state: Answered, place: usize, read: RequestRead) -> Answered {
+fn admit_job(console: Console, out: &mut [u8], state: Answered, place: usize, read: RequestRead) -> Answered {
     let request = read.request;
     let bench = state.bench;
     let answer = benchcalls::admitted(bench, place, request);
-    call::answered(out, state.waiting, b'A', answer)
+    call::answered(console, out, state.waiting, b'A', answer)
 }

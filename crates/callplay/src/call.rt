@@ -1,4 +1,5 @@
 // The lines of calls: each is one call, or turns of one place, and has a name of one letter.
+use streams::console::Console;
 use crate::asked::Asked;
 use crate::types::Answered;
 use crate::{admission, asked, deals, fetching, listing, pieces, turning};
@@ -11,7 +12,7 @@ use text::cursor::Cursor;
 
 // Answers a line from where its name ends.
 pub(crate) fn answer_call(
-    out: &mut [u8],
+    console: Console, out: &mut [u8],
     state: Answered,
     line: &[u8],
     at: usize,
@@ -19,18 +20,18 @@ pub(crate) fn answer_call(
     number: u64,
 ) -> Answered {
     if letter == b'A' {
-        return admission::admit(out, state, line, at, number);
+        return admission::admit(console, out, state, line, at, number);
     }
     let asked = asked::read_asked(line, at, letter);
     if !cursor::is_done(line, asked.next) {
-        return unknown(out, state, line, number, asked.next);
+        return unknown(console, out, state, line, number, asked.next);
     }
-    answer_asked(out, state, letter, asked)
+    answer_asked(console, out, state, letter, asked)
 }
 
 // A line out of form leaves the bench as it is.
 pub(crate) fn unknown(
-    out: &mut [u8],
+    console: Console, out: &mut [u8],
     state: Answered,
     line: &[u8],
     number: u64,
@@ -39,48 +40,48 @@ pub(crate) fn unknown(
     let bench = state.bench;
     Answered {
         bench: bench,
-        waiting: put_unknown(out, state.waiting, line, number, c),
+        waiting: put_unknown(console, out, state.waiting, line, number, c),
     }
 }
 
 // Answers a line that is in form.
-fn answer_asked(out: &mut [u8], state: Answered, letter: u8, asked: Asked) -> Answered {
+fn answer_asked(console: Console, out: &mut [u8], state: Answered, letter: u8, asked: Asked) -> Answered {
     match letter {
-        b'Z' => empty(out, state.waiting),
-        b'T' => turning::turn(out, state, asked),
-        b'D' => release(out, state, asked.place),
-        b'N' => deals::deal(out, state, asked),
-        b'F' => fetching::fetch(out, state, asked.place),
-        _ => listing::list(out, state),
+        b'Z' => empty(console, out, state.waiting),
+        b'T' => turning::turn(console, out, state, asked),
+        b'D' => release(console, out, state, asked.place),
+        b'N' => deals::deal(console, out, state, asked),
+        b'F' => fetching::fetch(console, out, state, asked.place),
+        _ => listing::list(console, out, state),
     }
 }
 
 // The answer of a call that answers its number alone.
 pub(crate) fn answered(
-    out: &mut [u8],
+    console: Console, out: &mut [u8],
     waiting: Waiting,
     letter: u8,
     answer: BenchAnswer,
 ) -> Answered {
     let left = answer.bench;
-    let waiting = pieces::put_name(out, waiting, letter, answer.number);
+    let waiting = pieces::put_name(console, out, waiting, letter, answer.number);
     Answered {
         bench: left,
-        waiting: pieces::end_line(out, waiting),
+        waiting: pieces::end_line(console, out, waiting),
     }
 }
 
 // Z: the empty bench.
-fn empty(out: &mut [u8], waiting: Waiting) -> Answered {
+fn empty(console: Console, out: &mut [u8], waiting: Waiting) -> Answered {
     Answered {
         bench: benchcalls::empty_bench(),
-        waiting: output::put(out, waiting, b"Z\n"),
+        waiting: output::put(console, out, waiting, b"Z\n"),
     }
 }
 
 // D place
-fn release(out: &mut [u8], state: Answered, place: usize) -> Answered {
+fn release(console: Console, out: &mut [u8], state: Answered, place: usize) -> Answered {
     let bench = state.bench;
     let answer = benchcalls::released(bench, place);
-    answered(out, state.waiting, b'D', answer)
+    answered(console, out, state.waiting, b'D', answer)
 }

@@ -1,4 +1,5 @@
 // Lines of dealings.
+use streams::console::Console;
 use crate::asked::Asked;
 use crate::pieces;
 use crate::types::Answered;
@@ -8,14 +9,14 @@ use streams::output;
 use streams::output::Waiting;
 
 // N turns length
-pub(crate) fn deal(out: &mut [u8], state: Answered, asked: Asked) -> Answered {
+pub(crate) fn deal(console: Console, out: &mut [u8], state: Answered, asked: Asked) -> Answered {
     let bench = state.bench;
     let dealing = dealt_within(bench, (asked.turns % 65536) as u16, asked.room);
     let left = dealing.bench;
     Answered {
         bench: left,
         waiting: put_dealt(
-            out,
+            console, out,
             state.waiting,
             dealing.number,
             dealing.dealt,
@@ -25,11 +26,11 @@ pub(crate) fn deal(out: &mut [u8], state: Answered, asked: Asked) -> Answered {
 }
 
 // N number turns place
-fn put_dealt(out: &mut [u8], waiting: Waiting, number: u32, dealt: u32, place: usize) -> Waiting {
-    let waiting = pieces::put_name(out, waiting, b'N', number);
-    let waiting = pieces::put_more(out, waiting, dealt as u64);
-    let waiting = pieces::put_more(out, waiting, place as u64);
-    pieces::end_line(out, waiting)
+fn put_dealt(console: Console, out: &mut [u8], waiting: Waiting, number: u32, dealt: u32, place: usize) -> Waiting {
+    let waiting = pieces::put_name(console, out, waiting, b'N', number);
+    let waiting = pieces::put_more(console, out, waiting, dealt as u64);
+    let waiting = pieces::put_more(console, out, waiting, place as u64);
+    pieces::end_line(console, out, waiting)
 }
 
 // With so many numbers of scratch: past the most that there is here more would change nothing.

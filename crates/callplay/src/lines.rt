@@ -1,6 +1,7 @@
 // The lines, answered one after the other.
 ghost use Rattle.std.specs.Prelude.{◌≤◌, length};
 
+use streams::console::Console;
 use crate::call;
 use crate::types::Answered;
 use streams::input::{Input, Line};
@@ -23,7 +24,7 @@ fn letter_of(name: &[u8]) -> u8 {
 }
 
 // Answers one line. Blanks alone have no answer.
-fn answer_line(out: &mut [u8], state: Answered, line: &[u8], number: u64) -> Answered {
+fn answer_line(console: Console, out: &mut [u8], state: Answered, line: &[u8], number: u64) -> Answered {
     let w = words::next_word(line, 0);
     let from = w.from;
     let to = w.to;
@@ -31,24 +32,24 @@ fn answer_line(out: &mut [u8], state: Answered, line: &[u8], number: u64) -> Ans
         return state;
     }
     let letter = letter_of(&line[from..to]);
-    call::answer_call(out, state, line, to, letter, number)
+    call::answer_call(console, out, state, line, to, letter, number)
 }
 
 // Answers a line of the input; while none is there, what waits is written.
-fn answer_found(out: &mut [u8], state: Answered, buf: &[u8], line: Line) -> Answered
+fn answer_found(console: Console, out: &mut [u8], state: Answered, buf: &[u8], line: Line) -> Answered
     requires from_le_to { line.from ≤ line.to }
     requires to_in_bounds { line.to ≤ length buf.now }
 {
     let waiting = state.waiting;
     if !line.is_there {
-        return with_waiting(state, output::flush(out, waiting));
+        return with_waiting(state, output::flush(console, out, waiting));
     }
     if line.is_cut {
-        return with_waiting(state, answers::put_cut(out, waiting, line.number));
+        return with_waiting(state, answers::put_cut(console, out, waiting, line.number));
     }
     let from = line.from;
     let to = line.to;
-    answer_line(out, state, &buf[from..to], line.number)
+    answer_line(console, out, state, &buf[from..to], line.number)
 }
 
 // The empty bench, and nothing waits.
@@ -61,15 +62,15 @@ fn at_start() -> Answered {
 
 // Answers all lines of the input, through the two buffers. A proved loop has to end, and nothing says that the input does: so
 // the steps are counted down, from a number that no run uses up.
-pub(crate) fn answer_all(buf: &mut [u8], out: &mut [u8]) {
+pub(crate) fn answer_all(console: Console, buf: &mut [u8], out: &mut [u8]) {
     let mut input = Input::new();
     let mut state = at_start();
     let mut steps = u64::MAX;
     while steps > 0 && input.is_open && state.waiting.is_good {
         let line = input::next_line(buf, input);
-        state = answer_found(out, state, buf, line);
-        input = input::go_on(buf, line);
+        state = answer_found(console, out, state, buf, line);
+        input = input::go_on(console, buf, line);
         steps -= 1;
     }
-    session::finish(out, state.waiting, input);
+    session::finish(console, out, state.waiting, input);
 }

@@ -13,8 +13,15 @@ mod pieces;
 mod turning;
 mod types;
 
-fn main() {
+use streams::console::Console;
+
+fn main(rt: HostRuntime) {
+    let console = Console {
+        input: rt.stdin(),
+        output: rt.stdout(),
+        errors: rt.stderr(),
+    };
     let mut buf = io::large_buffer();
     let mut out = io::large_buffer();
-    lines::answer_all(&mut buf, &mut out);
+    lines::answer_all(console, &mut buf, &mut out);
 }

@@ -1,4 +1,5 @@
 // Lines of turns.
+use streams::console::Console;
 use crate::asked::Asked;
 use crate::pieces;
 use crate::types::Answered;
@@ -8,21 +9,21 @@ use streams::output;
 use streams::output::Waiting;
 
 // T place length times
-pub(crate) fn turn(out: &mut [u8], state: Answered, asked: Asked) -> Answered {
+pub(crate) fn turn(console: Console, out: &mut [u8], state: Answered, asked: Asked) -> Answered {
     let bench = state.bench;
     let played = turns_within(bench, asked.place, asked.turns, asked.room);
     let left = played.bench;
     Answered {
         bench: left,
-        waiting: put_taken(out, state.waiting, played.number, played.taken),
+        waiting: put_taken(console, out, state.waiting, played.number, played.taken),
     }
 }
 
 // T number turns
-fn put_taken(out: &mut [u8], waiting: Waiting, number: u32, taken: u64) -> Waiting {
-    let waiting = pieces::put_name(out, waiting, b'T', number);
-    let waiting = pieces::put_more(out, waiting, taken);
-    pieces::end_line(out, waiting)
+fn put_taken(console: Console, out: &mut [u8], waiting: Waiting, number: u32, taken: u64) -> Waiting {
+    let waiting = pieces::put_name(console, out, waiting, b'T', number);
+    let waiting = pieces::put_more(console, out, waiting, taken);
+    pieces::end_line(console, out, waiting)
 }
 
 // With so many numbers of scratch: past the most that there is here more would change nothing.

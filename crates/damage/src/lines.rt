@@ -1,6 +1,7 @@
 // The job lines, and the rows that the run of each leaves on its way.
 ghost use Rattle.std.specs.Prelude.{◌≤◌, length};
 
+use streams::console::Console;
 use crate::examine::Case;
 use crate::tally::Tally;
 use crate::{examine, tally, verdict};
@@ -36,7 +37,7 @@ fn read_line(line: &[u8]) -> RequestRead {
 }
 
 // Blanks alone have no answer.
-fn examine_line(out: &mut [u8], state: Examined, line: &[u8], number: u64) -> Examined {
+fn examine_line(console: Console, out: &mut [u8], state: Examined, line: &[u8], number: u64) -> Examined {
     if words::is_end(line, 0) {
         return state;
     }
@@ -45,7 +46,7 @@ fn examine_line(out: &mut [u8], state: Examined, line: &[u8], number: u64) -> Ex
         let waiting = state.waiting;
         return with_waiting(
             state,
-            answers::put_unknown(out, waiting, line, number, read.next),
+            answers::put_unknown(console, out, waiting, line, number, read.next),
         );
     }
     let request = read.request;
@@ -67,20 +68,20 @@ fn examine_request(state: Examined, request: JobRequest) -> Examined {
 }
 
 // Examines a line of the input; while none is there, what waits is written.
-fn examine_found(out: &mut [u8], state: Examined, buf: &[u8], line: Line) -> Examined
+fn examine_found(console: Console, out: &mut [u8], state: Examined, buf: &[u8], line: Line) -> Examined
     requires from_le_to { line.from ≤ line.to }
     requires to_in_bounds { line.to ≤ length buf.now }
 {
     let waiting = state.waiting;
     if !line.is_there {
-        return with_waiting(state, output::flush(out, waiting));
+        return with_waiting(state, output::flush(console, out, waiting));
     }
     if line.is_cut {
-        return with_waiting(state, answers::put_cut(out, waiting, line.number));
+        return with_waiting(state, answers::put_cut(console, out, waiting, line.number));
     }
     let from = line.from;
     let to = line.to;
-    examine_line(out, state, &buf[from..to], line.number)
+    examine_line(console, out, state, &buf[from..to], line.number)
 }
 
 fn at_start() -> Examined {
@@ -96,19 +97,19 @@ fn at_start() -> Examined {
 
 // Examines all lines of the input, through the two buffers, and prints what came of them. A proved loop has to end, and nothing
 // says that the input does: so the steps are counted down, from a number that no run uses up.
-pub(crate) fn examine_all(buf: &mut [u8], out: &mut [u8]) {
+pub(crate) fn examine_all(console: Console, buf: &mut [u8], out: &mut [u8]) {
     let mut input = Input::new();
     let mut state = at_start();
     let mut steps = u64::MAX;
     while steps > 0 && input.is_open && state.waiting.is_good {
         let line = input::next_line(buf, input);
-        state = examine_found(out, state, buf, line);
-        input = input::go_on(buf, line);
+        state = examine_found(console, out, state, buf, line);
+        input = input::go_on(console, buf, line);
         steps -= 1;
     }
     let tally = state.tally;
-    let waiting = tally::print(out, state.waiting, tally);
-    session::finish(out, waiting, input);
+    let waiting = tally::print(console, out, state.waiting, tally);
+    session::finish(console, out, waiting, input);
 }
 
 // The bench after so many turns of place 0, or as many as there are.

@@ -14,8 +14,15 @@ mod table;
 mod tally;
 mod verdict;
 
-fn main() {
+use streams::console::Console;
+
+fn main(rt: HostRuntime) {
+    let console = Console {
+        input: rt.stdin(),
+        output: rt.stdout(),
+        errors: rt.stderr(),
+    };
     let mut buf = io::large_buffer();
     let mut out = io::large_buffer();
-    lines::examine_all(&mut buf, &mut out);
+    lines::examine_all(console, &mut buf, &mut out);
 }

@@ -1,5 +1,7 @@
 // Requests: what they leave out is filled in; the job that they make, and the number that they are refused with.
 // Stands on `jobs`, which has the definitions; called by admission (`rows`) and, for the polish's settings, by `turns`.
+#![tactic(auto)]
+
 mod asked;
 mod filled;
 

@@ -1,5 +1,7 @@
 // The damped run of a row over lent arrays, from one merit to the next (out of dls.rs).
 // Stands on `heldmerit` and `normal`; called by `turns`, by `multistart` for a trial's run and by `annealing` for the polish.
+#![tactic(auto)]
+
 mod accepting;
 mod attempts;
 mod columns;

@@ -1,5 +1,7 @@
 // Functions for callers in C or Rust, by `rt staticlib exports`: a lens by itself, and thin ones, each with its callee's contract.
 // Stands on `lending`, `intervals` and `jobs`; called from C or Rust alone.
+#![tactic(auto)]
+
 ghost use Rattle.std.specs.Prelude.{◌≡◌};
 ghost use Rattle.exports.specs.Abi.{abi_number};
 ghost use Rattle.floats.specs.Exp.{exp_of};

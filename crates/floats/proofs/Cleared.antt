@@ -25,6 +25,7 @@ magnitude-number (fin s m e) n = tt
 -- ---- a NaN, or a number that equals itself
 both : (a b : Bool) → T a → a && (true || b) ≡ true
 both true b t = refl
+both false b t = elim t [ ]
 
 abbrev Number : Float → Type 0
 Number x = (eq x x ≡ true) × T (not (is_nan x))

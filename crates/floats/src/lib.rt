@@ -2,6 +2,8 @@
 // alone (`roots` has its code). Each contract is an equation with a definition in specs/; callers go by
 // the laws in the crate `floatlaws`: `specs/CallerLaws.antt`, `Order.antt` and `Monotone.antt`.
 // Stands on nothing; called wherever an `f64` is more than added, and by `exports`.
+#![tactic(auto)]
+
 mod basic;
 mod exp;
 

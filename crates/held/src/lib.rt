@@ -1,6 +1,8 @@
 // A row as the bench holds it: arrays of numbers. Where an entry stands, what a job's numbers are read as, and how values are applied there; how a row
 // is written, and read as a whole, as definitions (`heldrows` has the code that writes one).
 // Stands on `runs`; called by all that works on a row. It alone has offsets.
+#![tactic(auto)]
+
 mod entries;
 mod flat;
 mod head;

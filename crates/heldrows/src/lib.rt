@@ -1,5 +1,7 @@
 // A row written as a held row.
 // Stands on `held`, which has the definitions and the places; called by admission (`rows`).
+#![tactic(auto)]
+
 mod converted;
 mod types;
 mod written;

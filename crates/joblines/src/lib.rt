@@ -2,6 +2,8 @@
 // limits; of the entries, those that there is room for. What stands past the counts is what no call takes: an answer that looked
 // there would show it.
 // Stands on `jobs`, `intervals` and `text`; called by `replay`, `callplay` and `damage`.
+#![tactic(auto)]
+
 mod followers;
 mod lens;
 mod limits;

@@ -1,5 +1,7 @@
 // Jobs: as they are asked for, admitted and kept.
 // Stands on `variables` and `meritcalls`; called by admission (`rows`), and by all that reads a row's job.
+#![tactic(auto)]
+
 mod checks;
 mod entries;
 mod jobrecords;

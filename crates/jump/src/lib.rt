@@ -1,5 +1,7 @@
 // Jumping ahead in the draws: 64 stored tables of 64 words, of which table k carries a state over 2^k draws.
 // Stands on `xorshift`; called by the programs `leaves` and `jumptable`, by no run.
+#![tactic(auto)]
+
 mod table;
 
 ghost use Rattle.std.specs.Prelude.{◌≡◌, ◌*◌, ◌<◌, length};

@@ -1,28 +1,34 @@
 // Prints the words of the tables that `jump` stores, from the step alone, as they stand in jump/src/table.rt: a line each.
 // Stands on `jump` and `text`; a program that only tests.
+use streams::console::Console;
 use streams::output::{Waiting, flush, put, put_hex};
 
 // Adds a word, as a line of the source.
-fn put_word(out: &mut [u8], waiting: Waiting, word: u64) -> Waiting {
-    let waiting = put(out, waiting, b"    0x");
-    let waiting = put_hex(out, waiting, word);
-    put(out, waiting, b",\n")
+fn put_word(console: Console, out: &mut [u8], waiting: Waiting, word: u64) -> Waiting {
+    let waiting = put(console, out, waiting, b"    0x");
+    let waiting = put_hex(console, out, waiting, word);
+    put(console, out, waiting, b",\n")
 }
 
 // Adds the words, and answers what waits.
-fn put_words(out: &mut [u8], words: &[u64]) -> Waiting {
+fn put_words(console: Console, out: &mut [u8], words: &[u64]) -> Waiting {
     let mut waiting = Waiting::new();
     let mut i = 0;
     while i < words.len() {
-        waiting = put_word(out, waiting, words[i]);
+        waiting = put_word(console, out, waiting, words[i]);
         i += 1;
     }
     waiting
 }
 
-fn main() {
+fn main(rt: HostRuntime) {
+    let console = Console {
+        input: rt.stdin(),
+        output: rt.stdout(),
+        errors: rt.stderr(),
+    };
     let words = jump::drawn();
     let mut out = io::large_buffer();
-    let waiting = put_words(&mut out, &words);
-    flush(&out, waiting);
+    let waiting = put_words(console, &mut out, &words);
+    flush(console, &out, waiting);
 }

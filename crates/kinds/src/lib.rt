@@ -1,5 +1,7 @@
 // What the kind of a run says: which numbers are kinds, in which phases it is at its end, and how many merits it has at most.
 // Stands on `runs`; called by `helddamage`, `multistart` and `records`.
+#![tactic(auto)]
+
 mod bounds;
 mod phases;
 

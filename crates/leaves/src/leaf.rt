@@ -1,4 +1,5 @@
 // The leaf lines: a name, and the numbers that the function of that name is asked at.
+use streams::console::Console;
 use crate::names::{ABS, CLAMP, DRAW, E, JUMP, SQRT, UNIFORM};
 use crate::pieces;
 use answers::put_unknown;
@@ -112,35 +113,35 @@ fn apply_clamp(x: f64, lo: f64, hi: f64) -> f64 {
 }
 
 // Puts a line and its answer.
-fn put_reply(out: &mut [u8], waiting: Waiting, line: &[u8], reply: Reply) -> Waiting {
-    let waiting = pieces::put_line(out, waiting, line);
-    let waiting = put_values(out, waiting, reply);
-    pieces::end_line(out, waiting)
+fn put_reply(console: Console, out: &mut [u8], waiting: Waiting, line: &[u8], reply: Reply) -> Waiting {
+    let waiting = pieces::put_line(console, out, waiting, line);
+    let waiting = put_values(console, out, waiting, reply);
+    pieces::end_line(console, out, waiting)
 }
 
-fn put_values(out: &mut [u8], waiting: Waiting, reply: Reply) -> Waiting {
+fn put_values(console: Console, out: &mut [u8], waiting: Waiting, reply: Reply) -> Waiting {
     match reply {
-        Reply::One(x) => pieces::put_one(out, waiting, x),
-        Reply::Two(x, y) => put_two(out, waiting, x, y),
-        Reply::Draw(x, y) => put_draw(out, waiting, x, y),
-        Reply::State(x) => pieces::put_state(out, waiting, x),
+        Reply::One(x) => pieces::put_one(console, out, waiting, x),
+        Reply::Two(x, y) => put_two(console, out, waiting, x, y),
+        Reply::Draw(x, y) => put_draw(console, out, waiting, x, y),
+        Reply::State(x) => pieces::put_state(console, out, waiting, x),
         Reply::Unknown(_) => waiting,
     }
 }
 
-fn put_two(out: &mut [u8], waiting: Waiting, x: f64, y: f64) -> Waiting {
+fn put_two(console: Console, out: &mut [u8], waiting: Waiting, x: f64, y: f64) -> Waiting {
     let row = [x, y];
-    output::put_floats(out, waiting, &row)
+    output::put_floats(console, out, waiting, &row)
 }
 
-fn put_draw(out: &mut [u8], waiting: Waiting, state: u64, unit: f64) -> Waiting {
-    let waiting = pieces::put_state(out, waiting, state);
-    pieces::put_one(out, waiting, unit)
+fn put_draw(console: Console, out: &mut [u8], waiting: Waiting, state: u64, unit: f64) -> Waiting {
+    let waiting = pieces::put_state(console, out, waiting, state);
+    pieces::put_one(console, out, waiting, unit)
 }
 
 // Answers a line of that name, from where the name ends.
 pub(crate) fn answer_leaf(
-    out: &mut [u8],
+    console: Console, out: &mut [u8],
     waiting: Waiting,
     line: &[u8],
     at: usize,
@@ -149,7 +150,7 @@ pub(crate) fn answer_leaf(
 ) -> Waiting {
     let reply = reply_to(line, Cursor::new(at), name);
     match reply {
-        Reply::Unknown(c) => put_unknown(out, waiting, line, number, c),
-        _ => put_reply(out, waiting, line, reply),
+        Reply::Unknown(c) => put_unknown(console, out, waiting, line, number, c),
+        _ => put_reply(console, out, waiting, line, reply),
     }
 }

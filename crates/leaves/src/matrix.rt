@@ -2,6 +2,7 @@
 ghost use Rattle.std.specs.Prelude.{◌+◌, ◌<◌, ◌≤◌, length};
 ghost use Rattle.normal.specs.Layout.{scratch_length, most_operands, most_variables};
 
+use streams::console::Console;
 use crate::pieces;
 use answers::put_unknown;
 use normal::{GRADIENT, PRODUCT, STEP, Solved, place, system_place};
@@ -42,7 +43,7 @@ fn read_right_side(line: &[u8], c: Cursor, scratch: &mut [f64], p: usize) -> Cur
 
 // SOLVE p {entries by rows} {right side}: the solution, or `none`. A size out of range is out of form, whatever is read after it.
 pub(crate) fn answer_solve(
-    out: &mut [u8],
+    console: Console, out: &mut [u8],
     waiting: Waiting,
     line: &[u8],
     at: usize,
@@ -53,31 +54,31 @@ pub(crate) fn answer_solve(
     let mut scratch = [0.0; 128];
     let c = read_system(line, size.next, &mut scratch, p);
     if !cursor::is_done(line, c) {
-        return put_unknown(out, waiting, line, number, c);
+        return put_unknown(console, out, waiting, line, number, c);
     }
-    let waiting = pieces::put_line(out, waiting, line);
-    put_solved(out, waiting, scratch, p)
+    let waiting = pieces::put_line(console, out, waiting, line);
+    put_solved(console, out, waiting, scratch, p)
 }
 
 // Of the system that stands in scratch.
-fn put_solved(out: &mut [u8], waiting: Waiting, system: [f64; 128], p: usize) -> Waiting
+fn put_solved(console: Console, out: &mut [u8], waiting: Waiting, system: [f64; 128], p: usize) -> Waiting
     requires { p ≤ most_variables }
 {
     let mut scratch = system;
     let solved = normal::solve(&mut scratch, p);
     let Solved::Yes = solved else {
-        return output::put(out, waiting, b" none\n");
+        return output::put(console, out, waiting, b" none\n");
     };
-    let waiting = put_part(out, waiting, &scratch, STEP, p);
-    pieces::end_line(out, waiting)
+    let waiting = put_part(console, out, waiting, &scratch, STEP, p);
+    pieces::end_line(console, out, waiting)
 }
 
 // So many floats of scratch.
-fn put_part(out: &mut [u8], waiting: Waiting, scratch: &[f64], from: usize, p: usize) -> Waiting
+fn put_part(console: Console, out: &mut [u8], waiting: Waiting, scratch: &[f64], from: usize, p: usize) -> Waiting
     requires { (from + p ≤ length scratch.now) × ((from ≤ 128) × (p ≤ most_variables)) }
 {
     let to = from + p;
-    output::put_floats(out, waiting, &scratch[from..to])
+    output::put_floats(console, out, waiting, &scratch[from..to])
 }
 
 // The Jacobian of m operands, a column for each of p variables.
@@ -121,7 +122,7 @@ fn read_normal(line: &[u8], c: Cursor, m: usize, p: usize) -> NormalRead
 // NORMAL m p {entries by columns} {residuals}: J^T J by rows, J^T r, and its norm. A size out of range is out of form, whatever
 // is read after it.
 pub(crate) fn answer_normal(
-    out: &mut [u8],
+    console: Console, out: &mut [u8],
     waiting: Waiting,
     line: &[u8],
     at: usize,
@@ -133,46 +134,46 @@ pub(crate) fn answer_normal(
     let p = output::least(variables.value as usize, 8);
     let read = read_normal(line, variables.next, m, p);
     if !cursor::is_done(line, read.next) {
-        return put_unknown(out, waiting, line, number, read.next);
+        return put_unknown(console, out, waiting, line, number, read.next);
     }
-    let waiting = pieces::put_line(out, waiting, line);
-    put_normal(out, waiting, read, m, p)
+    let waiting = pieces::put_line(console, out, waiting, line);
+    put_normal(console, out, waiting, read, m, p)
 }
 
-fn put_normal(out: &mut [u8], waiting: Waiting, read: NormalRead, m: usize, p: usize) -> Waiting
+fn put_normal(console: Console, out: &mut [u8], waiting: Waiting, read: NormalRead, m: usize, p: usize) -> Waiting
     requires { (m ≤ most_operands) × (p ≤ most_variables) }
 {
     let jacobian = read.jacobian;
     let residuals = read.residuals;
     let mut scratch = [0.0; 128];
     let norm = normal::normal_equations(&mut scratch, &jacobian, &residuals, m, p);
-    put_equations(out, waiting, &scratch, p, norm)
+    put_equations(console, out, waiting, &scratch, p, norm)
 }
 
-fn put_equations(out: &mut [u8], waiting: Waiting, scratch: &[f64], p: usize, norm: f64) -> Waiting
+fn put_equations(console: Console, out: &mut [u8], waiting: Waiting, scratch: &[f64], p: usize, norm: f64) -> Waiting
     requires { (scratch_length ≤ length scratch.now) × (p ≤ most_variables) }
 {
-    let waiting = put_product(out, waiting, scratch, p);
-    let waiting = put_part(out, waiting, scratch, GRADIENT, p);
-    let waiting = pieces::put_one(out, waiting, norm);
-    pieces::end_line(out, waiting)
+    let waiting = put_product(console, out, waiting, scratch, p);
+    let waiting = put_part(console, out, waiting, scratch, GRADIENT, p);
+    let waiting = pieces::put_one(console, out, waiting, norm);
+    pieces::end_line(console, out, waiting)
 }
 
-fn put_product(out: &mut [u8], waiting: Waiting, scratch: &[f64], p: usize) -> Waiting
+fn put_product(console: Console, out: &mut [u8], waiting: Waiting, scratch: &[f64], p: usize) -> Waiting
     requires fact_1 { scratch_length ≤ length scratch.now }
     requires fact_2 { p ≤ most_variables }
 {
     let mut held = waiting;
     let mut i = 0;
     while i < p {
-        held = put_product_row(out, held, scratch, p, i);
+        held = put_product_row(console, out, held, scratch, p, i);
         i += 1;
     }
     held
 }
 
 // Entry by entry: scratch has the lower triangle alone.
-fn put_product_row(out: &mut [u8], waiting: Waiting, scratch: &[f64], p: usize, i: usize) -> Waiting
+fn put_product_row(console: Console, out: &mut [u8], waiting: Waiting, scratch: &[f64], p: usize, i: usize) -> Waiting
     requires fact_1 { scratch_length ≤ length scratch.now }
     requires fact_2 { p ≤ most_variables }
     requires fact_3 { i < p }
@@ -181,7 +182,7 @@ fn put_product_row(out: &mut [u8], waiting: Waiting, scratch: &[f64], p: usize, 
     let mut j = 0;
     while j < p {
         let at = PRODUCT + place(i, j);
-        held = pieces::put_one(out, held, scratch[at]);
+        held = pieces::put_one(console, out, held, scratch[at]);
         j += 1;
     }
     held

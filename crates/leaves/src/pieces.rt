@@ -1,25 +1,26 @@
 // Pieces of answers.
+use streams::console::Console;
 use streams::output;
 use streams::output::Waiting;
 
 // A line that is in form, up to its answer.
-pub(crate) fn put_line(out: &mut [u8], waiting: Waiting, line: &[u8]) -> Waiting {
-    let waiting = output::put(out, waiting, line);
-    output::put(out, waiting, b" =")
+pub(crate) fn put_line(console: Console, out: &mut [u8], waiting: Waiting, line: &[u8]) -> Waiting {
+    let waiting = output::put(console, out, waiting, line);
+    output::put(console, out, waiting, b" =")
 }
 
 // A blank and a float.
-pub(crate) fn put_one(out: &mut [u8], waiting: Waiting, x: f64) -> Waiting {
+pub(crate) fn put_one(console: Console, out: &mut [u8], waiting: Waiting, x: f64) -> Waiting {
     let row = [x];
-    output::put_floats(out, waiting, &row)
+    output::put_floats(console, out, waiting, &row)
 }
 
 // A blank and a state.
-pub(crate) fn put_state(out: &mut [u8], waiting: Waiting, x: u64) -> Waiting {
-    let waiting = output::put(out, waiting, b" ");
-    output::put_hex(out, waiting, x)
+pub(crate) fn put_state(console: Console, out: &mut [u8], waiting: Waiting, x: u64) -> Waiting {
+    let waiting = output::put(console, out, waiting, b" ");
+    output::put_hex(console, out, waiting, x)
 }
 
-pub(crate) fn end_line(out: &mut [u8], waiting: Waiting) -> Waiting {
-    output::put(out, waiting, b"\n")
+pub(crate) fn end_line(console: Console, out: &mut [u8], waiting: Waiting) -> Waiting {
+    output::put(console, out, waiting, b"\n")
 }

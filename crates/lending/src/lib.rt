@@ -1,5 +1,7 @@
 // The two calls that stand alone, lent what is the caller's own: by value, with what stood there before.
 // Stands on `meritcalls`; called by `exports` and `replay`.
+#![tactic(auto)]
+
 ghost use Rattle.std.specs.Prelude.{◌≡◌};
 ghost use Rattle.lending.specs.Over.{evaluated_over, traced_over};
 

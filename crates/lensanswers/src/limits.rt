@@ -3,43 +3,44 @@ ghost use Rattle.std.specs.Prelude.{◌≤◌, min, length};
 ghost use Rattle.streams.specs.Output.{Put};
 ghost use Rattle.lensanswers.specs.Lens.{track_texts, ends_texts, all_ends_texts, limits_texts};
 
+use streams::console::Console;
 use answers::put_number;
 use intervals::{Interval, TraceLimits};
 use streams::output;
 use streams::output::Waiting;
 
 // K least greatest T n {surface}
-pub fn put_limits(out: &mut [u8], waiting: Waiting, traced: TraceLimits, count: usize) -> Waiting
+pub fn put_limits(console: Console, out: &mut [u8], waiting: Waiting, traced: TraceLimits, count: usize) -> Waiting
     ensures bytes_in_bounds { result.bytes ≤ length out.new }
     ensures put { Put waiting out.old (limits_texts traced count) result out.new }
 {
-    let waiting = put_track(out, waiting, traced.track);
-    let waiting = put_number(out, waiting, b" T", count as u64);
-    let waiting = put_surfaces(out, waiting, traced, count);
-    output::put(out, waiting, b"\n")
+    let waiting = put_track(console, out, waiting, traced.track);
+    let waiting = put_number(console, out, waiting, b" T", count as u64);
+    let waiting = put_surfaces(console, out, waiting, traced, count);
+    output::put(console, out, waiting, b"\n")
 }
 
 // K least greatest
-fn put_track(out: &mut [u8], waiting: Waiting, track: Interval) -> Waiting
+fn put_track(console: Console, out: &mut [u8], waiting: Waiting, track: Interval) -> Waiting
     ensures bytes_in_bounds { result.bytes ≤ length out.new }
     ensures put { Put waiting out.old (track_texts track) result out.new }
 {
     let row = [track.low, track.high];
-    let waiting = output::put(out, waiting, b" K");
-    output::put_floats(out, waiting, &row)
+    let waiting = output::put(console, out, waiting, b" K");
+    output::put_floats(console, out, waiting, &row)
 }
 
 // least-height greatest-height least-slope greatest-slope
-fn put_surface(out: &mut [u8], waiting: Waiting, height: Interval, slope: Interval) -> Waiting
+fn put_surface(console: Console, out: &mut [u8], waiting: Waiting, height: Interval, slope: Interval) -> Waiting
     ensures bytes_in_bounds { result.bytes ≤ length out.new }
     ensures put { Put waiting out.old (ends_texts height slope) result out.new }
 {
     let row = [height.low, height.high, slope.low, slope.high];
-    output::put_floats(out, waiting, &row)
+    output::put_floats(console, out, waiting, &row)
 }
 
 // The ends of each surface's height and slope.
-fn put_surfaces(out: &mut [u8], waiting: Waiting, traced: TraceLimits, count: usize) -> Waiting
+fn put_surfaces(console: Console, out: &mut [u8], waiting: Waiting, traced: TraceLimits, count: usize) -> Waiting
     ensures bytes_in_bounds { result.bytes ≤ length out.new }
     ensures put { Put waiting out.old (all_ends_texts traced.heights traced.slopes (min count 16)) result out.new }
 {
@@ -51,7 +52,7 @@ fn put_surfaces(out: &mut [u8], waiting: Waiting, traced: TraceLimits, count: us
     while i < n {
         let height = heights[i];
         let slope = slopes[i];
-        held = put_surface(out, held, height, slope);
+        held = put_surface(console, out, held, height, slope);
         i += 1;
     }
     held

@@ -3,23 +3,24 @@ ghost use Rattle.std.specs.Prelude.{◌≤◌, min, length};
 ghost use Rattle.streams.specs.Output.{Put};
 ghost use Rattle.lensanswers.specs.Lens.{failed_texts, ray_texts, rays_texts, traced_texts, paraxial_texts};
 
+use streams::console::Console;
 use answers::{put_kept, put_number};
 use optics::{ParaxialProperties, ParaxialRay};
 use streams::output;
 use streams::output::Waiting;
 
 // failed
-pub fn put_failed(out: &mut [u8], waiting: Waiting, is_kept: bool) -> Waiting
+pub fn put_failed(console: Console, out: &mut [u8], waiting: Waiting, is_kept: bool) -> Waiting
     ensures bytes_in_bounds { result.bytes ≤ length out.new }
     ensures put { Put waiting out.old (failed_texts is_kept) result out.new }
 {
-    let waiting = output::put(out, waiting, b" failed");
-    put_kept(out, waiting, is_kept)
+    let waiting = output::put(console, out, waiting, b" failed");
+    put_kept(console, out, waiting, is_kept)
 }
 
 // ok T n {height slope}
 pub fn put_traced(
-    out: &mut [u8],
+    console: Console, out: &mut [u8],
     waiting: Waiting,
     rays: [ParaxialRay; 16],
     count: usize,
@@ -27,12 +28,12 @@ pub fn put_traced(
     ensures bytes_in_bounds { result.bytes ≤ length out.new }
     ensures put { Put waiting out.old (traced_texts rays count) result out.new }
 {
-    let waiting = put_number(out, waiting, b" ok T", count as u64);
-    put_rays(out, waiting, rays, count)
+    let waiting = put_number(console, out, waiting, b" ok T", count as u64);
+    put_rays(console, out, waiting, rays, count)
 }
 
 // The height and slope of each surface.
-fn put_rays(out: &mut [u8], waiting: Waiting, rays: [ParaxialRay; 16], count: usize) -> Waiting
+fn put_rays(console: Console, out: &mut [u8], waiting: Waiting, rays: [ParaxialRay; 16], count: usize) -> Waiting
     ensures bytes_in_bounds { result.bytes ≤ length out.new }
     ensures put { Put waiting out.old (rays_texts rays (min count 16)) result out.new }
 {
@@ -41,27 +42,27 @@ fn put_rays(out: &mut [u8], waiting: Waiting, rays: [ParaxialRay; 16], count: us
     let mut i = 0;
     while i < n {
         let ray = rays[i];
-        held = put_ray(out, held, ray);
+        held = put_ray(console, out, held, ray);
         i += 1;
     }
     held
 }
 
-fn put_ray(out: &mut [u8], waiting: Waiting, ray: ParaxialRay) -> Waiting
+fn put_ray(console: Console, out: &mut [u8], waiting: Waiting, ray: ParaxialRay) -> Waiting
     ensures bytes_in_bounds { result.bytes ≤ length out.new }
     ensures put { Put waiting out.old (ray_texts ray) result out.new }
 {
     let row = [ray.y, ray.u];
-    output::put_floats(out, waiting, &row)
+    output::put_floats(console, out, waiting, &row)
 }
 
 // P efl bfl f-number
-pub fn put_paraxial(out: &mut [u8], waiting: Waiting, q: ParaxialProperties) -> Waiting
+pub fn put_paraxial(console: Console, out: &mut [u8], waiting: Waiting, q: ParaxialProperties) -> Waiting
     ensures bytes_in_bounds { result.bytes ≤ length out.new }
     ensures put { Put waiting out.old (paraxial_texts q) result out.new }
 {
     let row = [q.efl_mm, q.bfl_mm, q.f_number];
-    let waiting = output::put(out, waiting, b" P");
-    let waiting = output::put_floats(out, waiting, &row);
-    output::put(out, waiting, b"\n")
+    let waiting = output::put(console, out, waiting, b" P");
+    let waiting = output::put_floats(console, out, waiting, &row);
+    output::put(console, out, waiting, b"\n")
 }

@@ -1,5 +1,7 @@
 // Multi-start's trials, over lent arrays, from merit to merit (out of global.rs).
 // Stands on `dls`, `kinds` and `draws`; called by `turns`.
+#![tactic(auto)]
+
 mod merging;
 mod trials;
 

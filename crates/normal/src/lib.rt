@@ -1,6 +1,8 @@
 // The arithmetic of one damped iteration, bit for bit (out of dls.rs), with document 01's stand-ins for nalgebra: a column of the
 // Jacobian, J^T J, J^T r and the norm, the damped system and its solution, the damping. Matrices are worked in lent scratch.
 // Stands on `floats`; called by `dls`. It knows no job, no surface and no row.
+#![tactic(auto)]
+
 mod damping;
 mod elimination;
 mod jacobian;

@@ -1,2 +1,1 @@
 pub mod AllSlots
-pub mod Filled

@@ -1,5 +1,7 @@
 // The lens: surfaces, prescriptions, the paraxial trace and what follows from it (out of prescription.rs).
 // Stands on `floats`; called by all that sees a lens, from `variables` and `merit` up.
+#![tactic(auto)]
+
 mod checks;
 mod flat;
 mod kept;

@@ -11,7 +11,6 @@ use Rattle.runs.specs.Rows.{admitted}
 use Rattle.bench.specs.declared.types.Bench.{Bench}
 use Rattle.bench.specs.Benches.{empty_bench, row_at, with_row}
 use Rattle.bench.specs.Book.{Call, Answer, number, left_by, answers_by}
-use Rattle.bench.specs.Book as Book
 use Rattle.bench.specs.Calls.{is_vacant, admit_number, admitted_bench, bench_answer, bench_step}
 use Rattle.records.specs.declared.types.RequestRecord.{RequestRecord}
 use Rattle.records.specs.Requests.{request_of, is_request}

@@ -1,4 +1,5 @@
 // The job lines: what they have in common, and which is whose.
+use streams::console::Console;
 use crate::types::Answered;
 use crate::{evaluate, limits, run, trace};
 use streams::output::Waiting;
@@ -6,15 +7,15 @@ use text::cursor;
 use text::cursor::{Cursor, NumberRead, Why};
 
 // J id kind ..: evaluations and traces stand by themselves, runs are played on the bench.
-pub(crate) fn answer_job(out: &mut [u8], state: Answered, line: &[u8], number: u64) -> Answered {
+pub(crate) fn answer_job(console: Console, out: &mut [u8], state: Answered, line: &[u8], number: u64) -> Answered {
     let kind = read_kind(line);
     if kind.value < 4 {
-        return run::run(out, state, line, kind, number);
+        return run::run(console, out, state, line, kind, number);
     }
     let bench = state.bench;
     Answered {
         bench: bench,
-        waiting: put_plain(out, state.waiting, line, kind, number),
+        waiting: put_plain(console, out, state.waiting, line, kind, number),
     }
 }
 
@@ -26,7 +27,7 @@ fn read_kind(line: &[u8]) -> NumberRead {
 
 // The kinds that need no bench.
 fn put_plain(
-    out: &mut [u8],
+    console: Console, out: &mut [u8],
     waiting: Waiting,
     line: &[u8],
     kind: NumberRead,
@@ -34,10 +35,10 @@ fn put_plain(
 ) -> Waiting {
     let job = joblines::read_job(line, kind.next);
     if kind.value == 4 {
-        return evaluate::evaluate(out, waiting, line, job, number);
+        return evaluate::evaluate(console, out, waiting, line, job, number);
     }
     if kind.value == 6 {
-        return limits::limits(out, waiting, line, job, number);
+        return limits::limits(console, out, waiting, line, job, number);
     }
-    trace::trace(out, waiting, line, job, number)
+    trace::trace(console, out, waiting, line, job, number)
 }

@@ -1,4 +1,5 @@
 // Job lines of kind 6: a lens traced in one slot, its thicknesses within limits.
+use streams::console::Console;
 use answers::put_unknown;
 use intervals::ThicknessLimits;
 use joblines::JobLine;
@@ -8,7 +9,7 @@ use text::cursor;
 
 // Kind 6 has a slot and a pair for each surface as its settings.
 pub(crate) fn limits(
-    out: &mut [u8],
+    console: Console, out: &mut [u8],
     waiting: Waiting,
     line: &[u8],
     job: JobLine,
@@ -16,16 +17,16 @@ pub(crate) fn limits(
 ) -> Waiting {
     let read = joblines::read_limits(line, job.next, job.prescription.surface_count);
     if !cursor::is_done(line, read.next) {
-        return put_unknown(out, waiting, line, number, read.next);
+        return put_unknown(console, out, waiting, line, number, read.next);
     }
     let prescription = job.prescription;
     let known = read.limits;
-    let waiting = answers::put_head(out, waiting, line, 6);
-    put_limits(out, waiting, prescription, known, read.slot)
+    let waiting = answers::put_head(console, out, waiting, line, 6);
+    put_limits(console, out, waiting, prescription, known, read.slot)
 }
 
 fn put_limits(
-    out: &mut [u8],
+    console: Console, out: &mut [u8],
     waiting: Waiting,
     prescription: OpticalPrescription,
     known: ThicknessLimits,
@@ -33,8 +34,8 @@ fn put_limits(
 ) -> Waiting {
     let t = intervalcalls::limits_traced(prescription, known, slot);
     if t.number > 0 {
-        return answers::put_refused(out, waiting, t.number, true);
+        return answers::put_refused(console, out, waiting, t.number, true);
     }
     let traced = t.traced;
-    lensanswers::put_limits(out, waiting, traced, prescription.surface_count)
+    lensanswers::put_limits(console, out, waiting, traced, prescription.surface_count)
 }

@@ -2,6 +2,7 @@
 // turns while the jobs of the next three lines are played.
 ghost use Rattle.std.specs.Prelude.{◌<◌};
 
+use streams::console::Console;
 use crate::play;
 use crate::play::Play;
 use crate::types::Answered;
@@ -15,7 +16,7 @@ use text::cursor;
 use text::cursor::{Cursor, NumberRead};
 
 pub(crate) fn run(
-    out: &mut [u8],
+    console: Console, out: &mut [u8],
     state: Answered,
     line: &[u8],
     kind: NumberRead,
@@ -23,10 +24,10 @@ pub(crate) fn run(
 ) -> Answered {
     let read = read_run(line, kind);
     if !cursor::is_done(line, read.next) {
-        return unknown(out, state, line, number, read.next);
+        return unknown(console, out, state, line, number, read.next);
     }
-    let waiting = answers::put_head(out, state.waiting, line, kind.value);
-    admit(out, waiting, state.bench, number, read.request)
+    let waiting = answers::put_head(console, out, state.waiting, line, kind.value);
+    admit(console, out, waiting, state.bench, number, read.request)
 }
 
 fn read_run(line: &[u8], kind: NumberRead) -> RequestRead {
@@ -35,17 +36,17 @@ fn read_run(line: &[u8], kind: NumberRead) -> RequestRead {
 }
 
 // A line out of form leaves the bench as it is.
-fn unknown(out: &mut [u8], state: Answered, line: &[u8], number: u64, c: Cursor) -> Answered {
+fn unknown(console: Console, out: &mut [u8], state: Answered, line: &[u8], number: u64, c: Cursor) -> Answered {
     let bench = state.bench;
     Answered {
         bench: bench,
-        waiting: put_unknown(out, state.waiting, line, number, c),
+        waiting: put_unknown(console, out, state.waiting, line, number, c),
     }
 }
 
 // Each line has the place of its number.
 fn admit(
-    out: &mut [u8],
+    console: Console, out: &mut [u8],
     waiting: Waiting,
     bench: Bench,
     number: u64,
@@ -57,10 +58,10 @@ fn admit(
     if answer.number > 0 {
         return Answered {
             bench: left,
-            waiting: answers::put_refused(out, waiting, answer.number, true),
+            waiting: answers::put_refused(console, out, waiting, answer.number, true),
         };
     }
-    play_admitted(out, waiting, left, place, request)
+    play_admitted(console, out, waiting, left, place, request)
 }
 
 // Admits the job to the place, from which another's may have to go.
@@ -71,7 +72,7 @@ fn admitted(bench: Bench, place: usize, request: JobRequest) -> BenchAnswer {
 
 // Plays the job that the bench has at the place, and leaves it there at its start.
 fn play_admitted(
-    out: &mut [u8],
+    console: Console, out: &mut [u8],
     waiting: Waiting,
     bench: Bench,
     place: usize,
@@ -80,7 +81,7 @@ fn play_admitted(
     requires { place < 4 }
 {
     let played = play::played(bench, place);
-    let waiting = put_played(out, waiting, played, place, request);
+    let waiting = put_played(console, out, waiting, played, place, request);
     let left = played.bench;
     let again = admitted(left, place, request).bench;
     Answered {
@@ -91,7 +92,7 @@ fn play_admitted(
 
 // M first final N iterations converged turns S .. V .. D .. H digest
 fn put_played(
-    out: &mut [u8],
+    console: Console, out: &mut [u8],
     waiting: Waiting,
     play: Play,
     place: usize,
@@ -101,17 +102,17 @@ fn put_played(
     let none = rows::zero_result();
     let fetched = benchcalls::fetched(bench, place, none);
     if fetched.number > 0 {
-        return answers::put_refused(out, waiting, fetched.number, true);
+        return answers::put_refused(console, out, waiting, fetched.number, true);
     }
     let found = fetched.result;
-    let waiting = answers::put_outcome(out, waiting, found);
-    let waiting = answers::put_number(out, waiting, b"", play.turns);
+    let waiting = answers::put_outcome(console, out, waiting, found);
+    let waiting = answers::put_number(console, out, waiting, b"", play.turns);
     let waiting = answers::put_lens(
-        out,
+        console, out,
         waiting,
         found,
         request.prescription.surface_count,
         request.merit_function.operand_count,
     );
-    answers::put_digest(out, waiting, play.hash)
+    answers::put_digest(console, out, waiting, play.hash)
 }

@@ -1,4 +1,5 @@
 // Job lines of kind 5: a lens traced in one slot.
+use streams::console::Console;
 use crate::marks;
 use answers::put_unknown;
 use joblines::JobLine;
@@ -10,7 +11,7 @@ use text::cursor;
 
 // Kind 5 has a slot as its setting.
 pub(crate) fn trace(
-    out: &mut [u8],
+    console: Console, out: &mut [u8],
     waiting: Waiting,
     line: &[u8],
     job: JobLine,
@@ -18,15 +19,15 @@ pub(crate) fn trace(
 ) -> Waiting {
     let slot = cursor::decimal(line, job.next);
     if !cursor::is_done(line, slot.next) {
-        return put_unknown(out, waiting, line, number, slot.next);
+        return put_unknown(console, out, waiting, line, number, slot.next);
     }
     let prescription = job.prescription;
-    let waiting = answers::put_head(out, waiting, line, 5);
-    put_trace(out, waiting, prescription, slot.value as usize)
+    let waiting = answers::put_head(console, out, waiting, line, 5);
+    put_trace(console, out, waiting, prescription, slot.value as usize)
 }
 
 fn put_trace(
-    out: &mut [u8],
+    console: Console, out: &mut [u8],
     waiting: Waiting,
     prescription: OpticalPrescription,
     slot: usize,
@@ -36,15 +37,15 @@ fn put_trace(
     let answer = t.answer;
     let rays = t.rays;
     match answer {
-        Traced::Refused(n) => answers::put_refused(out, waiting, n, marks::are_marked(rays, 0)),
-        Traced::Failed => lensanswers::put_failed(out, waiting, marks::are_marked(rays, 0)),
-        Traced::Done => put_done(out, waiting, prescription, slot, rays),
+        Traced::Refused(n) => answers::put_refused(console, out, waiting, n, marks::are_marked(rays, 0)),
+        Traced::Failed => lensanswers::put_failed(console, out, waiting, marks::are_marked(rays, 0)),
+        Traced::Done => put_done(console, out, waiting, prescription, slot, rays),
     }
 }
 
 // ok T n {height slope} P ..
 fn put_done(
-    out: &mut [u8],
+    console: Console, out: &mut [u8],
     waiting: Waiting,
     prescription: OpticalPrescription,
     slot: usize,
@@ -52,14 +53,14 @@ fn put_done(
 ) -> Waiting {
     let count = prescription.surface_count;
     if !marks::are_marked(rays, count) || !lengths_refused(prescription, slot) {
-        return output::put(out, waiting, b" changed\n");
+        return output::put(console, out, waiting, b" changed\n");
     }
-    let waiting = lensanswers::put_traced(out, waiting, rays, count);
+    let waiting = lensanswers::put_traced(console, out, waiting, rays, count);
     let q = paraxial(prescription, slot);
     let Paraxial::Traced(properties) = q else {
         return waiting;
     };
-    lensanswers::put_paraxial(out, waiting, properties)
+    lensanswers::put_paraxial(console, out, waiting, properties)
 }
 
 // Whether a row of every other length gives 1, and stays as it was.

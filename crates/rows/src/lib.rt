@@ -1,5 +1,7 @@
 // The calls on one row but for a turn: admission, fetch, release, listing; and the number that a turn is refused with (01's bench).
 // Stands on `helddamage`, `heldrows` and `bench`; called by `benchcalls`, `finished`, `dealing` and `rowturns`.
+#![tactic(auto)]
+
 mod began;
 mod calls;
 mod fetch;

@@ -1,6 +1,6 @@
 -- The lines of the input. Definitions only.
 use Rattle.std.specs.Prelude.{◌≡◌, ℕ, ◌+◌, ◌-◌, ◌%◌, ◌^◌, ◌≤◌, Bool, true, false, cond, List, [], length, take, drop, ◌==◌, nat_lt, slice_index}
-use Rattle.bytes.specs.Bytes.{index_of, slice}
+use Rattle.streams.specs.Parts.{index_of, slice}
 use Rattle.streams.specs.declared.input.Input.{Input}
 use Rattle.streams.specs.declared.input.Line.{Line}
 

@@ -1,4 +1,5 @@
 pub mod Input
 pub mod Output
 pub mod OutputLaws
+pub mod Parts
 pub mod Session

@@ -3,7 +3,8 @@ ghost use Rattle.std.specs.Prelude.{◌≡◌, ◌-◌, ◌<◌, ◌≤◌, leng
 ghost use Rattle.streams.specs.Input.{new_input, lines_of, line_to, held_line, is_left, last_line, not_yet, line_from, placed_at, roomed, held_bytes};
 ghost use Rattle.streams.specs.Input.{ReadOn, WentOn};
 
-use crate::moves;
+use crate::console::Console;
+use crate::{moves, parts};
 use text::numbers;
 
 // How far the input is read.
@@ -155,7 +156,7 @@ pub fn next_line(buf: &[u8], input: Input) -> Line
 {
     let from = input.from;
     let to = input.to;
-    let end = bytes::scan::find(buf, from, to, b'\n');
+    let end = parts::find(buf, from, to, b'\n');
     if end < to {
         return held_line(buf, input, end);
     }
@@ -166,7 +167,7 @@ pub fn next_line(buf: &[u8], input: Input) -> Line
 }
 
 // What comes after a line; where none was there yet, after one more read.
-pub fn go_on(buf: &mut [u8], line: Line) -> Input
+pub fn go_on(console: Console, buf: &mut [u8], line: Line) -> Input
     requires from_le_to { line.input.from ≤ line.input.to }
     requires to_in_bounds { line.input.to ≤ length buf.old }
     ensures from_le_to_2 { (result.from ≤ result.to) × (result.to ≤ length buf.new) }
@@ -177,7 +178,7 @@ pub fn go_on(buf: &mut [u8], line: Line) -> Input
         return input;
     }
     if input.has_more {
-        return read_on(buf, input);
+        return read_on(console, buf, input);
     }
     input
 }
@@ -228,7 +229,7 @@ fn placed(input: Input, to: usize, is_cut: bool) -> Input
 }
 
 // The input after one more read. There is no more where nothing came, and no further line where the read failed.
-fn read_on(buf: &mut [u8], input: Input) -> Input
+fn read_on(console: Console, buf: &mut [u8], input: Input) -> Input
     requires from_le_to { input.from ≤ input.to }
     requires to_in_bounds { input.to ≤ length buf.old }
     ensures from_le_to_2 { (result.from ≤ result.to) × (result.to ≤ length buf.new) }
@@ -236,7 +237,7 @@ fn read_on(buf: &mut [u8], input: Input) -> Input
 {
     let kept = with_room(buf, input);
     let to = kept.to;
-    let moved = moves::read_some(&mut buf[to..]);
+    let moved = moves::read_some(console, &mut buf[to..]);
     Input {
         from: 0,
         to: to + moved.bytes,

@@ -1,7 +1,10 @@
 // The input line by line, and the output, gathered in a buffer.
-// Stands on `text` and the system's calls; called by programs and `answers`, by no call of the bench.
+// Stands on `text` and the standard streams; called by programs and `answers`, by no call of the bench.
+#![tactic(auto)]
+
+pub mod console;
 pub mod input;
 mod moves;
 pub mod output;
-mod pause;
+mod parts;
 pub mod session;

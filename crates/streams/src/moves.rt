@@ -2,8 +2,8 @@
 // fails otherwise is said on standard error.
 ghost use Rattle.std.specs.Prelude.{◌≡◌, ◌≤◌, true, length};
 
-use crate::pause::pause;
-use libc::{STDIN_FILENO, STDOUT_FILENO};
+use crate::console::Console;
+use std::io::{Error, ErrorKind, Print, Read};
 
 // How many bytes were moved, and whether that went well.
 #[derive(Clone, Copy)]
@@ -13,16 +13,15 @@ pub(crate) struct Moved {
 }
 
 // Whether the call that just failed may be made again.
-fn is_passing() -> bool {
-    let error = os::errno();
-    error == libc::EINTR || error == libc::EAGAIN
+fn is_passing(error: &Error) -> bool {
+    error.kind() == ErrorKind::Interrupted || error.kind() == ErrorKind::WouldBlock
 }
 
 // Says what failed, and why.
-fn failed(what: &[u8]) -> Moved
+fn failed(console: Console, what: &str, error: Error) -> Moved
     ensures { result.bytes ≡ 0 }
 {
-    os::fail(what);
+    let _ = eprintln!(console.errors; "{what}: {error}");
     Moved {
         bytes: 0,
         is_good: false,
@@ -31,64 +30,66 @@ fn failed(what: &[u8]) -> Moved
 
 // Waits for bytes, and reads what there is: none at the end of the input. A proved loop has to end: the tries are counted down,
 // from a number that no run uses up.
-pub(crate) fn read_some(room: &mut [u8]) -> Moved
+pub(crate) fn read_some(console: Console, room: &mut [u8]) -> Moved
     ensures { result.bytes ≤ length room.new }
 {
-    let mut tries = u64::MAX;
-    while tries > 0 {
-        let got = libc::read(STDIN_FILENO, room);
-        if got >= 0 {
-            return Moved {
-                bytes: io::count(got, room),
-                is_good: true,
-            };
+    let mut input = console.input;
+    for _ in 0..u64::MAX {
+        match input.read(room) {
+            Ok(bytes) => {
+                return Moved {
+                    bytes: bytes,
+                    is_good: true,
+                };
+            }
+            Err(error) => {
+                if !is_passing(&error) {
+                    return failed(console, "standard input", error);
+                }
+            }
         }
-        if !is_passing() {
-            return failed(b"standard input");
-        }
-        pause();
-        tries -= 1;
     }
-    failed(b"standard input")
+    Moved {
+        bytes: 0,
+        is_good: false,
+    }
 }
 
 // One write: as much as the system takes at the moment.
-fn write_some(text: &[u8]) -> Moved
+fn write_some(console: Console, text: &[u8]) -> Moved
     ensures { result.bytes ≤ length text.now }
 {
-    let sent = libc::write(STDOUT_FILENO, text);
-    if sent > 0 {
-        return Moved {
-            bytes: io::count(sent, text),
+    match console.output.write_some(text) {
+        Ok(bytes) => Moved {
+            bytes: bytes,
             is_good: true,
-        };
+        },
+        Err(error) => {
+            if is_passing(&error) {
+                return Moved {
+                    bytes: 0,
+                    is_good: true,
+                };
+            }
+            failed(console, "standard output", error)
+        }
     }
-    if sent < 0 && is_passing() {
-        pause();
-        return Moved {
-            bytes: 0,
-            is_good: true,
-        };
-    }
-    failed(b"standard output")
 }
 
 // Writes all of text, and answers whether that is done. The writes are counted down, as the tries above.
-pub(crate) fn write_all(text: &[u8]) -> bool
+pub(crate) fn write_all(console: Console, text: &[u8]) -> bool
     ensures { length text.now ≡ 0 → result ≡ true }
 {
     let mut done = 0;
-    let mut tries = u64::MAX;
-    while done < text.len() {
-        if tries == 0 {
-            return failed(b"standard output").is_good;
+    for _ in 0..u64::MAX {
+        if done >= text.len() {
+            return true;
         }
-        let moved = write_some(&text[done..]);
+        let moved = write_some(console, &text[done..]);
         if !moved.is_good {
             return false;
         }
         done += moved.bytes;
-        tries -= 1;
     }
-    true
+    done >= text.len()
 }

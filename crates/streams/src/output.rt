@@ -2,7 +2,8 @@
 ghost use Rattle.std.specs.Prelude.{◌≡◌, ◌≤◌, min, [], ◌∷◌, length};
 ghost use Rattle.streams.specs.Output.{new_waiting, one_refused, one_unknown, with_bytes, clipped, Written, Put, hex_text, decimal_text, float_text, float_texts};
 
-use crate::moves;
+use crate::console::Console;
+use crate::{moves, parts};
 use text::numbers;
 
 // What waits to be written, and how the lines so far were answered.
@@ -81,7 +82,7 @@ pub fn within(waiting: Waiting, length: usize) -> Waiting
 }
 
 // Writes text, where nothing failed before it. Nothing waits then.
-fn written(waiting: Waiting, text: &[u8]) -> Waiting
+fn written(console: Console, waiting: Waiting, text: &[u8]) -> Waiting
     ensures { Written (length text.now) waiting result }
 {
     if !waiting.is_good {
@@ -89,78 +90,78 @@ fn written(waiting: Waiting, text: &[u8]) -> Waiting
     }
     Waiting {
         bytes: 0,
-        is_good: moves::write_all(text),
+        is_good: moves::write_all(console, text),
         refused: waiting.refused,
         unknown: waiting.unknown,
     }
 }
 
 // Writes what waits.
-pub fn flush(out: &[u8], waiting: Waiting) -> Waiting
+pub fn flush(console: Console, out: &[u8], waiting: Waiting) -> Waiting
     ensures { Written (min waiting.bytes (length out.now)) waiting result }
 {
     let n = least(waiting.bytes, out.len());
-    written(waiting, &out[..n])
+    written(console, waiting, &out[..n])
 }
 
 // Adds text to what waits. What there is no room for beside it is written first.
-pub fn put(out: &mut [u8], waiting: Waiting, text: &[u8]) -> Waiting
+pub fn put(console: Console, out: &mut [u8], waiting: Waiting, text: &[u8]) -> Waiting
     ensures bytes_in_bounds { result.bytes ≤ length out.new }
     ensures put { Put waiting out.old (text.now ∷ []) result out.new }
 {
     if text.len() > out.len() {
-        return written(flush(out, waiting), text);
+        return written(console, flush(console, out, waiting), text);
     }
     let held = least(waiting.bytes, out.len());
     if held > out.len() - text.len() {
-        let flushed = flush(out, waiting);
-        return with_bytes(flushed, bytes::copy(text, out));
+        let flushed = flush(console, out, waiting);
+        return with_bytes(flushed, parts::copy(text, out));
     }
-    with_bytes(waiting, held + bytes::copy(text, &mut out[held..]))
+    with_bytes(waiting, held + parts::copy(text, &mut out[held..]))
 }
 
 // Adds a number's sixteen hexadecimal digits.
-pub fn put_hex(out: &mut [u8], waiting: Waiting, x: u64) -> Waiting
+pub fn put_hex(console: Console, out: &mut [u8], waiting: Waiting, x: u64) -> Waiting
     ensures bytes_in_bounds { result.bytes ≤ length out.new }
     ensures put { Put waiting out.old (hex_text x ∷ []) result out.new }
 {
     let mut text = [0u8; 16];
     let n = io::hex(x, 16, &mut text);
-    put(out, waiting, &text[..n])
+    put(console, out, waiting, &text[..n])
 }
 
 // Adds a number's decimal digits.
-pub fn put_decimal(out: &mut [u8], waiting: Waiting, x: u64) -> Waiting
+pub fn put_decimal(console: Console, out: &mut [u8], waiting: Waiting, x: u64) -> Waiting
     ensures bytes_in_bounds { result.bytes ≤ length out.new }
     ensures put { Put waiting out.old (decimal_text x ∷ []) result out.new }
 {
     let mut text = [0u8; 20];
     let n = io::decimal(x, &mut text);
-    put(out, waiting, &text[..n])
+    put(console, out, waiting, &text[..n])
 }
 
 // Adds the digits of a float's bits, or `nan`.
-pub fn put_float(out: &mut [u8], waiting: Waiting, x: f64) -> Waiting
+pub fn put_float(console: Console, out: &mut [u8], waiting: Waiting, x: f64) -> Waiting
     ensures bytes_in_bounds { result.bytes ≤ length out.new }
     ensures put { Put waiting out.old (float_text x ∷ []) result out.new }
 {
     if x != x {
-        put(out, waiting, b"nan")
+        put(console, out, waiting, b"nan")
     } else {
-        put_hex(out, waiting, f64::to_bits(x))
+        put_hex(console, out, waiting, f64::to_bits(x))
     }
 }
 
 // Adds floats, each after a blank.
-pub fn put_floats(out: &mut [u8], waiting: Waiting, row: &[f64]) -> Waiting
+pub fn put_floats(console: Console, out: &mut [u8], waiting: Waiting, row: &[f64]) -> Waiting
     ensures bytes_in_bounds { result.bytes ≤ length out.new }
     ensures put { Put waiting out.old (float_texts row.now) result out.new }
 {
     let mut held = within(waiting, out.len());
     let mut i = 0;
     while i < row.len() {
-        held = put(out, held, b" ");
-        held = put_float(out, held, row[i]);
+        held = put(console, out, held, b" ");
+        held = put_float(console, out, held, row[i]);
         i += 1;
     }
     held

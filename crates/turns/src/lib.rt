@@ -1,5 +1,7 @@
 // A run of any kind over lent arrays: the surfaces whose merit comes next, and from that merit to just before the next.
 // Stands on `dls`, `multistart` and `annealing`; called by `rowturns`.
+#![tactic(auto)]
+
 mod advance;
 mod pending;
 mod turn;

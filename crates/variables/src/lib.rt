@@ -1,5 +1,7 @@
 // What an optimisation may change: variables, their values read and stored, and checks 4 and 17 (out of variables.rs).
 // Stands on `optics`; called by `jobs` (refusals 4 and 17), and by `held`, which applies them.
+#![tactic(auto)]
+
 mod quantities;
 mod sets;
 mod taken;

@@ -1,5 +1,7 @@
 // Marsaglia's xorshift generator of 2003, 13/7/17: the step on plain numbers, the generator lent by `&mut`, and a draw for those who keep its state.
 // Stands on `lists`; called by `draws`, `rows`, `jump` and `leaves`.
+#![tactic(auto)]
+
 ghost use Rattle.std.specs.Prelude.{◌≡◌};
 ghost use Rattle.xorshift.specs.Xorshift.{step_of, seeded, step_times};
 ghost use Rattle.xorshift.specs.Draws.{advanced, unit_of, uniform_of, draw_of};

@@ -1,0 +1,5 @@
+-- `dealing::rounds::begun` meets its contract. Assumes nothing.
+use Rattle.dealing.proofs.rounds.begun.Goals as goal
+
+pub returns : goal.returns
+returns c = cc

@@ -1,0 +1,16 @@
+-- `dls::accepting::moved` meets its contract: the calls one after the other. Assumes nothing.
+use mathlib.Core.Path.{sym}
+use Rattle.runs.specs.DampedRun.{test_presc}
+use Rattle.heldmerit.specs.HeldOver.{residuals-held}
+use Rattle.dls.proofs.accepting.moved.Goals as goal
+
+pub returns : goal.returns
+unfolding test_presc
+returns c =
+    λ k lens w em config m j p. simp (
+      c.apply_values.ensures.fact_1,
+      c.ease-eased.ensures,
+      residuals-held _ _ _ c.residuals_of-r.ensures k lens w,
+      w,
+      sym em,
+    )

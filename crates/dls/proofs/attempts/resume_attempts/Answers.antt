@@ -1,0 +1,63 @@
+-- `dls::attempts::resume_attempts` meets its contract: the loop's invariant is `Trying`. Assumes nothing.
+use mathlib.Core.Path.{◌≡◌}
+use mathlib.Core.List.{[]}
+use native.Mathlib.Omega.{arith}
+use Rattle.variables.specs.CallerLaws.{active-le}
+use Rattle.normal.specs.declared.elimination.Solved.TheVariants.{Yes, No}
+use Rattle.held.specs.JobFrom.{variables_from}
+use Rattle.dls.proofs.Trying.{trying-begin, trying-on, trying-found, trying-over}
+use Rattle.std.proofs.Common.{rules}
+use Rattle.dls.proofs.attempts.resume_attempts.Goals as goal
+
+pub loop-k-init : goal.loop-k-init
+loop-k-init c = λ s v r. trying-begin
+
+pub attempt_step-solved-requires : goal.attempt_step-solved-requires
+attempt_step-solved-requires c =
+    omega (
+      arith,
+      active-le (variables_from c.args.counts.now
+          c.args.numbers.now),
+      (c.loop-k.invariant [] [] []).kept.long,
+    )
+
+pub loop-k-preserved : goal.loop-k-preserved
+loop-k-preserved c = λ s v r.
+    let a = c.attempt_step-solved in
+    let no : a.result ≡ No = cc in
+    trying-on (c.loop-k.invariant s v r)
+    c.requires.fact_4 (omega arith) a.ensures
+    (omega (
+      arith,
+      active-le (variables_from c.args.counts.now
+          c.args.numbers.now),
+    )) no c.raise-raised.ensures
+
+pub candidate_params-found-requires : goal.candidate_params-found-requires
+candidate_params-found-requires c =
+    omega (
+      arith,
+      (c.loop-k.invariant [] [] []).kept.long,
+      c.attempt_step-solved.ensures.long,
+    )
+
+pub shape_of-scratch-in-loop-k : goal.shape_of-scratch-in-loop-k
+shape_of-scratch-in-loop-k c = let k = (c.loop-k.invariant [] [] []).kept in
+    search rules
+
+pub returns-in-loop-k : goal.returns-in-loop-k
+returns-in-loop-k c = λ s v r.
+    let a = c.attempt_step-solved in
+    let yes : a.result ≡ Yes = cc in
+    trying-found (c.loop-k.invariant s v r)
+    c.requires.fact_4
+    (omega arith) a.ensures yes c.candidate_params-found.ensures
+    (c.at_candidate.ensures s
+    c.args.jacobian.now
+    v r c.args.params.now)
+
+pub shape_of-scratch : goal.shape_of-scratch
+shape_of-scratch c = let k = (c.loop-k.invariant [] [] []).kept in search rules
+
+pub returns : goal.returns
+returns c = λ s v r. trying-over (c.loop-k.invariant s v r) (omega arith) (c.ended.ensures s v r)

@@ -1,0 +1,17 @@
+-- `dls::columns::with_differences` meets its contract: the column out of `denom` is written, and nothing else. Assumes nothing.
+use Rattle.held.specs.JobFrom.{operand_count_from, variables_from}
+use Rattle.held.specs.RowFrom.{damped_from}
+use Rattle.dls.proofs.Differences.{column-written}
+use Rattle.std.proofs.Common.{rules}
+use Rattle.dls.proofs.columns.with_differences.Goals as goal
+
+pub jacobian_column-requires : goal.jacobian_column-requires
+jacobian_column-requires c = let m = c.operand_count-m.ensures in search rules
+
+pub returns : goal.returns
+returns c = λ s v r d.
+    let x = c.args in
+    column-written x.config (variables_from x.counts.now x.numbers.now) (operand_count_from x.counts.now)
+    (damped_from x.h s x.jacobian.now v r x.plus_residuals.now x.params.now d) _ _ _
+    (c.between-d.ensures (operand_count_from x.counts.now) s x.jacobian.now v r x.plus_residuals.now d)
+    (rw c.operand_count-m.ensures at c.jacobian_column.ensures)

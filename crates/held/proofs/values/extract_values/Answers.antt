@@ -1,0 +1,57 @@
+-- `held::values::extract_values` meets its contract: the loop's invariant is `Filling`. Assumes nothing.
+use Prim.Native.Nat.{ℕ, ◌<◌}
+use mathlib.Core.Path.{refl, sym, ap, ◌∙◌}
+use native.Mathlib.Omega.{arith}
+use Rattle.variables.specs.declared.types.VariableDef.{VariableDef}
+use Rattle.variables.specs.Active.{enabled_of}
+use Rattle.held.specs.JobFrom.{variable_count_from, variables_from}
+use Rattle.lists.specs.Tab.{tab}
+use Rattle.variables.proofs.Filling.{counted-le, fill_more, fill-past, fill_end}
+use lib.ListN.{get_or-replicate}
+use lib.Ieee.{nan}
+use Rattle.floats.specs.Constants.{zero64}
+use Rattle.variables.specs.Kinds.{value_of}
+use Rattle.variables.specs.Values.{extracted}
+use Rattle.held.specs.JobFrom.{standing}
+use Rattle.std.proofs.Common.{rules}
+use Rattle.held.proofs.values.extract_values.Goals as goal
+use Rattle.held.proofs.values.extract_values.Goals.{then-d, else-d}
+
+pub loop-i-init : goal.loop-i-init
+unfolding enabled_of tab
+loop-i-init c = (record { passed = omega arith; counted = refl; stored = refl }, c.variable_count-count.ensures)
+
+pub variable_at-d-requires : goal.variable_at-d-requires
+variable_at-d-requires c = omega (arith, c.loop-i.invariant.0.passed, c.loop-i.invariant.1)
+
+pub offset_bounds-x-q : goal.offset_bounds-x-q
+offset_bounds-x-q c = omega (arith, counted-le c.loop-i.invariant.0, c.loop-i.invariant.1)
+
+pub bounds-x-q : goal.bounds-x-q
+bounds-x-q c = omega (arith, counted-le c.loop-i.invariant.0, c.loop-i.invariant.1)
+
+pub overflow_add-q : goal.overflow_add-q
+overflow_add-q c = omega (arith, counted-le c.loop-i.invariant.0, c.loop-i.invariant.1)
+
+pub loop-i-preserved : goal.loop-i-preserved
+loop-i-preserved c =
+    let x = c.args in
+    let v = variables_from x.counts.now x.numbers.now in
+    let e = ap (λ (d : VariableDef). d.enabled) c.variable_at-d.ensures in
+    let h : c.loop-i.i < variable_count_from x.counts.now =
+    omega (arith, c.loop-i-test.true, c.loop-i.invariant.1) in
+    let y = ap (λ (d : VariableDef). value_of (standing c.args.flat.now) d.var_type)
+    c.variable_at-d.ensures in
+    elim c.if-d.branch [
+      | then-d w ↦ (
+        fill_more c.loop-i.invariant.0 _ _ _ refl (search rules) h (sym e ∙ w.if-d.true) (w.value_of.ensures ∙ y) w.x-is w.q-is,
+        c.loop-i.invariant.1,
+      )
+      | else-d w ↦ (fill-past c.loop-i.invariant.0 _ _ h (sym e ∙ w.if-d.false) w.x-is w.q-is, c.loop-i.invariant.1)
+    ]
+
+pub returns : goal.returns
+unfolding extracted
+returns c =
+    fill_end c.loop-i.invariant.0 (λ (k : ℕ). zero64) refl (search rules) (omega (arith, c.loop-i-test.false, c.loop-i.invariant.1))
+    (λ k h. get_or-replicate 8 k zero64 nan h)

@@ -1,0 +1,5 @@
+-- `intervalcalls::surfaces::start_of` meets its contract. Assumes nothing.
+use Rattle.intervalcalls.proofs.surfaces.start_of.Goals as goal
+
+pub returns : goal.returns
+returns c = rw (c.exact-y.ensures, c.exact-u.ensures)

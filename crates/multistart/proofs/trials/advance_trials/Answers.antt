@@ -1,0 +1,34 @@
+-- `multistart::trials::advance_trials` meets its contract: the damped part goes on, and the trial after it. Assumes nothing.
+use Rattle.jobs.specs.declared.types.DlsConfig.{DlsConfig}
+use Rattle.jobs.specs.Records.{dls_config}
+use Rattle.runs.specs.DampedRow as Damped
+use mathlib.Core.Path.{refl, ap, ◌∙◌}
+use Rattle.runs.specs.declared.types.DampedState.{DampedState}
+use Rattle.runs.specs.DampedRow.{is_finished}
+use Rattle.runs.specs.MultiStartRow.{resume_damped, advance}
+use Rattle.held.specs.JobFrom.{standing}
+use Rattle.held.specs.RowFrom.{damped_from}
+use Rattle.dls.specs.DampedSteps.{optimizer}
+use Rattle.held.specs.RowFrom.{state_from}
+use Rattle.held.specs.JobFrom.{operand_count_from, num_trials_from, settings_from, variables_from, held_job}
+use Rattle.runs.specs.JobMerit.{evaluate_of}
+use Rattle.multistart.proofs.trials.advance_trials.Goals as goal
+
+pub returns : goal.returns
+unfolding advance
+returns c =
+    let x = c.args in
+    let v = (variables_from x.counts.now x.numbers.now) in
+    let o = optimizer (dls_config (settings_from x.counts.now x.numbers.now)) v (operand_count_from x.counts.now) in
+    let d = (damped_from x.h.damped x.surfaces.now x.jacobian.now x.values.now x.residuals.now x.plus_residuals.now x.params.now
+    x.candidate.now) in
+    let a = c.advance_damped-damped.ensures in record {
+      fact_1 = λ k lens w. c.resume_damped.ensures o refl d
+          ∙ ap (λ (w : DampedState). resume_damped o (standing x.numbers.now) (num_trials_from x.counts.now) (is_finished w)
+          (state_from x.h x.surfaces.now x.jacobian.now x.values.now x.residuals.now x.plus_residuals.now x.params.now
+          x.candidate.now x.best_surfaces.now x.best_values.now x.best_residuals.now) w)
+          (a.fact_1 k lens w ∙ ap (λ (l : DlsConfig). Damped.advance (optimizer l v (operand_count_from x.counts.now)) d
+          (evaluate_of (held_job x.counts.now x.numbers.now k) lens))
+          c.dls_config-local.ensures);
+      fact_2 = a.fact_2;
+    }

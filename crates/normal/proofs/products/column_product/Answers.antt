@@ -1,0 +1,26 @@
+-- `normal::products::column_product` meets its contract: the product so far is that of the operands passed. Assumes nothing.
+use mathlib.Core.Path.{◌≡◌}
+use native.Mathlib.Omega.{arith}
+use lib.Ieee.{binary64, mul}
+use Rattle.normal.specs.Products.{sum_of, normal_product}
+use Rattle.normal.proofs.Sums.{column-entry, sum_step}
+use Rattle.std.proofs.Common.{rules}
+use Rattle.normal.proofs.products.column_product.Goals as goal
+
+pub loop-k-init : goal.loop-k-init
+unfolding sum_of
+loop-k-init c = search rules
+
+pub loop-k-preserved : goal.loop-k-preserved
+loop-k-preserved c =
+    let l = c in
+    let s = l in (
+      search rules,
+      sum_step _ _ _ _ l.loop-k.invariant.1 (λ n. mul binary64 (column-entry s.args.jacobian.now _ l.loop-k.k s.args.i
+          l.jacobian_place-a.ensures n) (column-entry s.args.jacobian.now _ l.loop-k.k s.args.j
+          l.jacobian_place-b.ensures n)),
+    )
+
+pub returns : goal.returns
+unfolding normal_product
+returns c = let e : c.loop-k.k ≡ c.args.m = omega arith in rw e at c.loop-k.invariant.1

@@ -1,0 +1,22 @@
+-- `normal::step::system` meets its contract: a turn lays out one row. Assumes nothing.
+use mathlib.Core.Path.{◌≡◌, ◌∙◌}
+use native.Mathlib.Omega.{arith}
+use native.Mathlib.Numerals.{add-one}
+use Rattle.normal.specs.Loops.{with_system}
+use Rattle.std.proofs.Common.{rules}
+use Rattle.normal.proofs.step.system.Goals as goal
+
+pub loop-i-init : goal.loop-i-init
+unfolding with_system
+loop-i-init c = search rules
+
+pub loop-i-preserved : goal.loop-i-preserved
+unfolding with_system
+loop-i-preserved c =
+    let l = c in
+    (search rules, c.system_row.auto.scratch ∙ l.loop-i.invariant.1, c.system_row.ensures ∙ rw (add-one, l.loop-i.invariant.2))
+
+pub returns : goal.returns
+returns c =
+    let e : c.loop-i.i ≡ c.args.p = omega arith in
+    rw e at c.loop-i.invariant.2

@@ -1,0 +1,34 @@
+-- `optics::slots::last_rays` meets its contract. The loop's invariant: the slots passed have their rays. Assumes nothing.
+use mathlib.Core.Path.{◌∙◌}
+use Prim.Native.Nat.{ℕ}
+use Rattle.lists.specs.Tab.{tab, tab-step, tab-full}
+use Rattle.optics.specs.Types.{no_last, flat_surface, slot_index}
+use Rattle.optics.specs.Properties.{last_rays}
+use Rattle.optics.proofs.AllSlots.{last-are}
+use native.Mathlib.Omega.{arith}
+use Rattle.std.proofs.Common.{rules}
+use Rattle.optics.proofs.slots.last_rays.Goals as goal
+
+pub loop-w-init : goal.loop-w-init
+unfolding tab
+loop-w-init c = search rules
+
+pub loop-w-preserved : goal.loop-w-preserved
+loop-w-preserved c =
+    let start = c in
+    let a = start.args in
+    let l = c.loop-w in
+    let second = c in
+    let rays =
+    last-are (flat_surface a.flat.now) (slot_index a.indices.now) a.pupil a.count _ _ _ start.requires.0 second.arriving_rays-first.ensures
+    second.next_rays-second.ensures c.next_rays-third.ensures l.w (omega arith) in (
+      search rules,
+      search rules,
+      tab-step (λ (w : ℕ). last_rays (flat_surface a.flat.now) (slot_index a.indices.now w) a.pupil a.count) _ l.last l.w _ no_last l.invariant.2
+          (c.rays_between.ensures ∙ rays) (omega arith),
+    )
+
+pub returns : goal.returns
+returns c =
+    let l = c.loop-w in
+    tab-full _ _ l.last l.w 4 l.invariant.2 (search rules) l.invariant.0 c.loop-w-test.false

@@ -1,0 +1,32 @@
+-- `optics::slots::next_rays` meets its contract. The loop's invariant: the rays of the slots passed are those behind the surface, and the others are as they
+-- came. Assumes nothing.
+use Prim.Native.Nat.{ℕ}
+use lib.ListN.{get_or}
+use Rattle.lists.specs.Tab.{tab, tab-step, tab-full}
+use Rattle.optics.specs.Types.{no_arriving, flat_surface, slot_index}
+use Rattle.optics.specs.Trace.{onward}
+use native.Mathlib.Omega.{arith}
+use Rattle.std.proofs.Common.{rules}
+use Rattle.optics.proofs.slots.next_rays.Goals as goal
+
+pub loop-w-init : goal.loop-w-init
+unfolding tab
+loop-w-init c = search rules
+
+pub loop-w-preserved : goal.loop-w-preserved
+loop-w-preserved c =
+    let a = c.args in
+    let l = c.loop-w in (
+      search rules,
+      search rules,
+      tab-step (λ (w : ℕ). onward (flat_surface a.flat.now a.k) (slot_index a.indices.now w a.k) (get_or a.rays w no_arriving)) a.rays l.next
+          l.w _ no_arriving l.invariant.2 (rw c.curvature_of-curvature.ensures at c.ray_behind.ensures)
+          (omega arith),
+    )
+
+pub returns : goal.returns
+returns c =
+    let l = c.loop-w in
+    let a = c.args in
+    tab-full (λ (w : ℕ). onward (flat_surface a.flat.now a.k) (slot_index a.indices.now w a.k) (get_or a.rays w no_arriving)) a.rays l.next l.w
+    4 l.invariant.2 (search rules) l.invariant.0 c.loop-w-test.false

@@ -1,0 +1,31 @@
+// Parts of a buffer: where a byte stands in one, and a text at its start.
+ghost use Rattle.std.specs.Prelude.{◌≡◌, ◌+◌, ◌≤◌, ◌++◌, length, drop};
+ghost use Rattle.streams.specs.Parts.{index_of, slice};
+
+// Where the first such byte stands from `from` on, or `to` where none does before that.
+pub(crate) fn find(buf: &[u8], from: usize, to: usize, byte: u8) -> usize
+    requires from_le_to { from ≤ to }
+    requires to_in_bounds { to ≤ length buf.now }
+    ensures value { result ≡ from + index_of byte (slice from to buf.now) }
+    ensures within { (from ≤ result) × (result ≤ to) }
+{
+    let mut i = from;
+    while i < to {
+        if buf[i] == byte {
+            return i;
+        }
+        i += 1;
+    }
+    to
+}
+
+// Writes text to the start of the buffer, and answers how many bytes it has.
+pub(crate) fn copy(text: &[u8], out: &mut [u8]) -> usize
+    requires { length text.now ≤ length out.old }
+    ensures value { result ≡ length text.now }
+    ensures after { out.new ≡ text.now ++ drop (length text.now) out.old }
+{
+    let n = text.len();
+    out[..n].copy_from_slice(text);
+    n
+}

@@ -1,0 +1,74 @@
+-- `turns::advance::advance_annealing` meets its contract: by phase. Assumes nothing.
+use Rattle.runs.specs.AnnealingRow as Annealing
+use Rattle.runs.specs.DampedRow as Damped
+use Prim.Native.Nat.{ℕ}
+use mathlib.Core.Path.{refl, sym, ap, ◌∙◌}
+use Rattle.jobs.specs.declared.types.DlsConfig.{DlsConfig}
+use Rattle.jobs.specs.Records.{annealing_config}
+use Rattle.runs.specs.JobRun.{annealer_of}
+use Rattle.runs.specs.State.{with_damped}
+use Rattle.dls.specs.DampedSteps.{optimizer}
+use Rattle.dls.proofs.Kept.{kept_same}
+use Rattle.kinds.proofs.Over.{polish-phase}
+use Rattle.held.specs.JobFrom.{operand_count_from, settings_from, variables_from, held_job}
+use Rattle.held.specs.RowFrom.{damped_from, state_from}
+use Rattle.runs.specs.JobMerit.{evaluate_of}
+use Rattle.heldmerit.specs.HeldOver.{merit-held}
+use Rattle.turns.proofs.advance.advance_annealing.Goals as goal
+
+pub returns-then-phase-eq5 : goal.returns-then-phase-eq5
+unfolding Annealing.advance Annealing.phase_of
+returns-then-phase-eq5 c =
+    let x = c.args in
+    let a = (annealer_of (held_job x.counts.now x.numbers.now 3) (annealing_config (settings_from x.counts.now x.numbers.now))) in record {
+      fact_1 = λ k lens w. c.advance_walk_first.ensures a
+          (sym c.annealing_config-config.ensures) refl
+          x.h (evaluate_of (held_job x.counts.now x.numbers.now k) lens)
+          (sym (merit-held _ _ _ c.merit_of-merit.ensures k lens w))
+          ∙ ap (λ (n : ℕ). Annealing.advance_at a (Annealing.phase_of n)
+          (state_from x.h x.surfaces.now x.jacobian.now x.values.now x.residuals.now x.plus_residuals.now x.params.now
+          x.candidate.now x.best_surfaces.now x.best_values.now x.best_residuals.now)
+          (evaluate_of (held_job x.counts.now x.numbers.now k) lens))
+          (sym c.if-phase-eq5.true);
+      fact_2 = kept_same x.scratch.now;
+    }
+
+pub returns-then-phase-eq6 : goal.returns-then-phase-eq6
+unfolding Annealing.advance Annealing.phase_of
+returns-then-phase-eq6 c =
+    let x = c.args in
+    let a = (annealer_of (held_job x.counts.now x.numbers.now 3) (annealing_config (settings_from x.counts.now x.numbers.now))) in record {
+      fact_1 = λ k lens w. c.advance_walk.ensures a
+          (sym c.annealing_config-config.ensures)
+          refl (evaluate_of (held_job x.counts.now x.numbers.now k) lens)
+          (sym (merit-held _ _ _ c.merit_of-merit-then-phase-eq6.ensures k lens w))
+          ∙ ap (λ (n : ℕ). Annealing.advance_at a (Annealing.phase_of n)
+          (state_from x.h x.surfaces.now x.jacobian.now x.values.now x.residuals.now x.plus_residuals.now x.params.now
+          x.candidate.now x.best_surfaces.now x.best_values.now x.best_residuals.now)
+          (evaluate_of (held_job x.counts.now x.numbers.now k) lens))
+          (sym c.if-phase-eq6.true);
+      fact_2 = kept_same x.scratch.now;
+    }
+
+pub returns : goal.returns
+unfolding Annealing.advance Annealing.advance_at
+returns c =
+    let x = c.args in
+    let a = (annealer_of (held_job x.counts.now x.numbers.now 3) (annealing_config (settings_from x.counts.now x.numbers.now))) in
+    let p = c.advance_part.ensures in record {
+      fact_1 = λ k lens w. p.fact_1 k lens w x.best_surfaces.now x.best_values.now x.best_residuals.now
+          ∙ ap (λ (l : DlsConfig). with_damped (state_from x.h x.surfaces.now x.jacobian.now x.values.now x.residuals.now
+          x.plus_residuals.now x.params.now x.candidate.now x.best_surfaces.now x.best_values.now x.best_residuals.now)
+          (Damped.advance (optimizer l (variables_from x.counts.now x.numbers.now) (operand_count_from x.counts.now))
+          (damped_from x.h.damped x.surfaces.now x.jacobian.now x.values.now x.residuals.now x.plus_residuals.now x.params.now
+          x.candidate.now) (evaluate_of (held_job x.counts.now x.numbers.now k) lens)))
+          c.polish_settings.ensures
+          ∙ ap (λ (f : Annealing.Phase). Annealing.advance_at a f
+          (state_from x.h x.surfaces.now x.jacobian.now x.values.now x.residuals.now x.plus_residuals.now x.params.now
+          x.candidate.now x.best_surfaces.now x.best_values.now x.best_residuals.now)
+          (evaluate_of (held_job x.counts.now x.numbers.now k) lens))
+          (sym (polish-phase x.h.damped.phase
+          c.if-phase-eq5.false
+          c.if-phase-eq6.false));
+      fact_2 = p.fact_2;
+    }

@@ -1,0 +1,65 @@
+-- `turns::advance::advance_run` meets its contract: by kind. Assumes nothing.
+use Rattle.runs.specs.DampedRow as Damped
+use mathlib.Core.Path.{sym, ap, ◌∙◌}
+use Rattle.jobs.specs.declared.types.DlsConfig.{DlsConfig}
+use Rattle.jobs.specs.declared.types.Method.{Method}
+use Rattle.runs.specs.State.{with_damped}
+use Rattle.runs.specs.Rows.{advance_by}
+use Rattle.dls.specs.DampedSteps.{optimizer}
+use Rattle.kinds.specs.Methods.{is-damped, is-multi-start, is-annealing}
+use Rattle.held.specs.JobFrom.{operand_count_from, settings_from, variables_from, held_job}
+use Rattle.held.specs.RowFrom.{damped_from, state_from}
+use Rattle.runs.specs.JobMerit.{evaluate_of}
+use Rattle.turns.proofs.advance.advance_run.Goals as goal
+
+pub returns-then-kind-eq1 : goal.returns-then-kind-eq1
+unfolding advance_by
+returns-then-kind-eq1 c =
+    let x = c.args in
+    let a = c.advance_part.ensures in record {
+      fact_1 = λ k lens w. a.fact_1 k lens w x.best_surfaces.now x.best_values.now x.best_residuals.now
+          ∙ ap (λ (l : DlsConfig). with_damped (state_from x.h x.surfaces.now x.jacobian.now x.values.now x.residuals.now
+          x.plus_residuals.now x.params.now x.candidate.now x.best_surfaces.now x.best_values.now x.best_residuals.now)
+          (Damped.advance (optimizer l (variables_from x.counts.now x.numbers.now) (operand_count_from x.counts.now))
+          (damped_from x.h.damped x.surfaces.now x.jacobian.now x.values.now x.residuals.now x.plus_residuals.now x.params.now
+          x.candidate.now) (evaluate_of (held_job x.counts.now x.numbers.now k) lens)))
+          c.dls_config-config.ensures
+          ∙ ap (λ (m : Method). advance_by m (held_job x.counts.now x.numbers.now x.kind)
+          (state_from x.h x.surfaces.now x.jacobian.now x.values.now x.residuals.now x.plus_residuals.now x.params.now
+          x.candidate.now x.best_surfaces.now x.best_values.now x.best_residuals.now)
+          (evaluate_of (held_job x.counts.now x.numbers.now k) lens))
+          (sym (is-damped x.kind (settings_from x.counts.now x.numbers.now)
+          c.if-kind-eq1.true));
+      fact_2 = a.fact_2;
+    }
+
+pub returns-then-kind-eq2 : goal.returns-then-kind-eq2
+unfolding advance_by
+returns-then-kind-eq2 c =
+    let x = c.args in
+    let a = c.advance_trials.ensures in record {
+      fact_1 = λ k lens w. a.fact_1 k lens w
+          ∙ ap (λ (m : Method). advance_by m (held_job x.counts.now x.numbers.now x.kind)
+          (state_from x.h x.surfaces.now x.jacobian.now x.values.now x.residuals.now x.plus_residuals.now x.params.now
+          x.candidate.now x.best_surfaces.now x.best_values.now x.best_residuals.now)
+          (evaluate_of (held_job x.counts.now x.numbers.now k) lens))
+          (sym (is-multi-start x.kind (settings_from x.counts.now x.numbers.now)
+          c.if-kind-eq2.true));
+      fact_2 = a.fact_2;
+    }
+
+pub returns : goal.returns
+unfolding advance_by
+returns c =
+    let x = c.args in
+    let a = c.advance_annealing.ensures in record {
+      fact_1 = λ k lens w. a.fact_1 k lens w
+          ∙ ap (λ (m : Method). advance_by m (held_job x.counts.now x.numbers.now x.kind)
+          (state_from x.h x.surfaces.now x.jacobian.now x.values.now x.residuals.now x.plus_residuals.now x.params.now
+          x.candidate.now x.best_surfaces.now x.best_values.now x.best_residuals.now)
+          (evaluate_of (held_job x.counts.now x.numbers.now k) lens))
+          (sym (is-annealing x.kind (settings_from x.counts.now x.numbers.now)
+          c.if-kind-eq1.false
+          c.if-kind-eq2.false));
+      fact_2 = a.fact_2;
+    }
