@@ -1,5 +1,7 @@
 // The finished places by working turns used, fewest first, equal ones by rising place (request 10).
 // Stands on `rows`; called by `benchcalls`, and by value by programs.
+#![tactic(auto)]
+
 ghost use Rattle.std.specs.Prelude.{◌≡◌, ◌≤◌};
 ghost use Rattle.held.specs.RowFrom.{turns_from};
 ghost use Rattle.bench.specs.Calls.{listing_of};

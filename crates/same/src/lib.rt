@@ -1,5 +1,7 @@
 // Rows as they are held, benches and results, compared bit by bit; every NaN is one.
 // Stands on `alike`, which has the definitions; called by `damage`.
+#![tactic(auto)]
+
 mod arrays;
 mod benches;
 mod results;

@@ -1,0 +1,62 @@
+-- `draws::params::random_params` meets its contract: the loop's invariant is `Drawing`. Assumes nothing.
+use Prim.Native.Nat.{ℕ, ◌≤◌, ◌<◌}
+use mathlib.Core.Path.{refl, sym, ap, ◌∙◌}
+use native.Mathlib.Omega.{arith}
+use lib.ListN.{get_or-replicate}
+use lib.Ieee.{nan}
+use Rattle.floats.specs.Constants.{zero64}
+use Rattle.xorshift.specs.Draws.{uniform_of}
+use Rattle.runs.specs.MultiStartRun.{random_params, after_draws}
+use Rattle.lists.specs.Tab.{tab}
+use Rattle.xorshift.specs.Xorshift.{step_times}
+use Rattle.variables.specs.Active.{enabled_of}
+use Rattle.variables.specs.declared.types.VariableDef.{VariableDef}
+use Rattle.held.specs.JobFrom.{variable_count_from, variables_from}
+use Rattle.variables.proofs.Filling.{counted-le}
+use Rattle.draws.proofs.Drawing.{draw-more, draw-past, drawn-params, drawn-generator}
+use Rattle.std.proofs.Common.{rules}
+use Rattle.draws.proofs.params.random_params.Goals as goal
+use Rattle.draws.proofs.params.random_params.Goals.{then-d, else-d}
+
+pub loop-i-init : goal.loop-i-init
+unfolding enabled_of tab step_times
+loop-i-init c = (record { filling = record { passed = omega arith; counted = refl; stored = refl }; drawn = refl }, c.variable_count-count.ensures)
+
+pub variable_at-d-requires : goal.variable_at-d-requires
+variable_at-d-requires c = omega (arith, c.loop-i.invariant.0.filling.passed, c.loop-i.invariant.1)
+
+pub offset_bounds-x-q : goal.offset_bounds-x-q
+offset_bounds-x-q c = omega (arith, counted-le c.loop-i.invariant.0.filling, c.loop-i.invariant.1)
+
+pub bounds-x-q : goal.bounds-x-q
+bounds-x-q c =
+    omega (arith, counted-le c.loop-i.invariant.0.filling, c.loop-i.invariant.1)
+
+pub overflow_add-q : goal.overflow_add-q
+overflow_add-q c = omega (arith, counted-le c.loop-i.invariant.0.filling, c.loop-i.invariant.1)
+
+pub loop-i-preserved : goal.loop-i-preserved
+loop-i-preserved c =
+    let x = c.args in
+    let v = variables_from x.counts.now x.numbers.now in
+    let e = ap (λ (d : VariableDef). d.enabled) c.variable_at-d.ensures in
+    let h : c.loop-i.i < variable_count_from x.counts.now =
+    omega (arith, c.loop-i-test.true, c.loop-i.invariant.1) in
+    elim c.if-d.branch [
+      | then-d w ↦ (
+        draw-more c.loop-i.invariant.0 _ _ _ _ _ refl (search rules) h (sym e ∙ w.if-d.true) w.drawn-draw.ensures
+            (w.uniform.ensures ∙ ap (λ (d : VariableDef). uniform_of w.drawn-draw.result.unit d.min_value d.max_value) c.variable_at-d.ensures) w.x-is
+            w.rng-is w.q-is,
+        c.loop-i.invariant.1,
+      )
+      | else-d w ↦ (draw-past c.loop-i.invariant.0 _ _ _ h (sym e ∙ w.if-d.false) w.x-is w.rng-is w.q-is, c.loop-i.invariant.1)
+    ]
+
+pub returns : goal.returns
+unfolding random_params after_draws
+returns c =
+    let x = c.args in
+    let h : variable_count_from x.counts.now ≤ c.loop-i.i = omega (arith, c.loop-i-test.false, c.loop-i.invariant.1) in (
+      drawn-params c.loop-i.invariant.0 (λ (k : ℕ). zero64) refl (search rules) h (λ k h. get_or-replicate 8 k zero64 nan h),
+      drawn-generator c.loop-i.invariant.0 h,
+    )

@@ -1,0 +1,45 @@
+-- `heldmerit::evaluation::residuals_of` meets its contract: the loop's invariant: the residuals of the values passed stand. Assumes nothing.
+use mathlib.Core.Path.{◌≡◌, refl, sym, ap, ◌∙◌}
+use native.Mathlib.Omega.{arith}
+use lib.Ieee.{nan}
+use lib.ListN.{get_or}
+use Rattle.merit.specs.declared.types.MeritOperand.{MeritOperand}
+use Rattle.held.specs.JobFrom.{operand_count_from, operands_from}
+use Rattle.floatlaws.specs.CallerLaws.{root-one}
+use Rattle.lists.specs.Tab.{tab, tab-step}
+use Rattle.merit.specs.Evaluation.{residual}
+use Rattle.meritcalls.proofs.Evaluating.{residual-is}
+use Rattle.heldmerit.specs.HeldOver.{residuals_over}
+use Rattle.heldmerit.specs.Over.{residual_over, all-stand}
+use Rattle.heldmerit.proofs.evaluation.residuals_of.Goals as goal
+
+pub loop-n-init : goal.loop-n-init
+unfolding tab
+loop-n-init c = (omega arith, c.operand_count-many.ensures, refl, sym root-one)
+
+pub root_of-known-requires : goal.root_of-known-requires
+root_of-known-requires c = c.loop-n.invariant.3
+
+pub loop-n-preserved : goal.loop-n-preserved
+loop-n-preserved c =
+    let x = c.args in
+    let f = operands_from x.counts.now x.numbers.now in
+    let v = get_or x.values.now c.loop-n.n nan in
+    let is = c.operand_at-o.ensures in (
+      omega arith,
+      c.loop-n.invariant.1,
+      tab-step (residual_over f x.values.now) _ c.loop-n.residuals
+          c.loop-n.n _ nan c.loop-n.invariant.2
+          (residual-is c.operand_at-o.result refl c.difference_of-d.ensures c.root_of-known.ensures.0
+          ∙ ap (λ (o : MeritOperand). residual o v) is) (omega arith),
+      c.root_of-known.ensures.1,
+    )
+
+pub returns : goal.returns
+unfolding residuals_over
+returns c =
+    let x = c.args in
+    let f = operands_from x.counts.now x.numbers.now in
+    let m : c.loop-n.n ≡ operand_count_from x.counts.now = omega (arith, c.loop-n.invariant.1) in
+    all-stand (residual_over f x.values.now) (operand_count_from x.counts.now) c.loop-n.n c.loop-n.residuals c.loop-n.invariant.2
+    m

@@ -1,0 +1,93 @@
+-- `heldmerit::evaluation::values_of` meets its contract: the loop's invariant: the values of the operands passed stand. Assumes nothing.
+use mathlib.Core.Path.{◌≡◌, refl, ap, ◌∙◌}
+use mathlib.Core.List.{List}
+use native.Mathlib.Omega.{arith}
+use Prim.Native.Nat.{ℕ, ◌<◌}
+use lib.Ieee.{nan}
+use lib.ListN.{get_or}
+use Rattle.optics.specs.Types.{slot_index}
+use Rattle.runs.specs.JobMerit.{evaluate_of}
+use Rattle.held.specs.JobFrom.{surface_count_from, operand_count_from, pupil_from, indices_from, operands_from}
+use lib.ListN.{length}
+use Rattle.lists.specs.Tab.{tab, get_or-tab, tab-step}
+use Rattle.optics.specs.Properties.{paraxial_of}
+use Rattle.optics.specs.Types.{flat_surface}
+use Rattle.optics.specs.declared.types.Paraxial.{Paraxial}
+use Rattle.optics.specs.declared.types.Paraxial.TheVariants.{Failed}
+use Rattle.merit.specs.Evaluation.{value_at}
+use Rattle.merit.specs.Operands.{value_of}
+use Rattle.merit.specs.declared.types.MeritEvaluation.{MeritEvaluation}
+use Rattle.meritcalls.proofs.Answers.{laid-evaluation}
+use Rattle.runs.specs.JobMerit.{lens_with}
+use Rattle.held.specs.EntryLaws.{indices-long}
+use Rattle.held.specs.JobFrom.{held_job}
+use Rattle.heldmerit.specs.Over.{all-stand, value-next}
+use Rattle.std.proofs.Common.{rules}
+use Rattle.heldmerit.proofs.evaluation.values_of.Goals as goal
+
+pub paraxial_slots-slots-requires : goal.paraxial_slots-slots-requires
+paraxial_slots-slots-requires c =
+    let e = ap length c.indices-indices.ensures ∙ indices-long c.args.numbers.now in
+    (omega (arith, c.surface_count-count.ensures), omega (arith, e, c.surface_count-count.ensures))
+
+pub loop-n-init : goal.loop-n-init
+unfolding tab
+loop-n-init c =
+    let x = c.args in
+    let trace : ℕ → Paraxial =
+    λ w. paraxial_of (flat_surface x.flat.now) (slot_index (indices_from x.numbers.now) w) (pupil_from x.numbers.now)
+    (surface_count_from x.counts.now) in
+    let traced : c.paraxial_slots-slots.result ≡ tab trace 4 =
+    c.paraxial_slots-slots.ensures
+    ∙ (λ i. tab (λ (w : ℕ). paraxial_of (flat_surface x.flat.now) (slot_index (c.indices-indices.ensures i) w) (c.pupil.ensures i)
+    (c.surface_count-count.ensures i)) 4) in (
+      omega arith,
+      refl,
+      c.operand_count-many.ensures,
+      c.surface_count-count.ensures,
+      λ w h. ap (λ (l : List Paraxial). get_or l w Failed) traced ∙ get_or-tab trace 4 w Failed h,
+    )
+
+pub operand_at-o-requires : goal.operand_at-o-requires
+operand_at-o-requires c = record { fact_1 = omega (arith, c.loop-n.invariant.2); fact_2 = search rules }
+
+pub value_of-requires : goal.value_of-requires
+value_of-requires c = omega (arith, c.loop-n.invariant.3)
+
+pub offset_bounds-values-n : goal.offset_bounds-values-n
+offset_bounds-values-n c = omega (arith, c.loop-n.invariant.2)
+
+pub bounds-values-n : goal.bounds-values-n
+bounds-values-n c = omega (arith, c.loop-n.invariant.2)
+
+pub loop-n-preserved : goal.loop-n-preserved
+loop-n-preserved c =
+    let x = c.args in
+    let f = operands_from x.counts.now x.numbers.now in
+    let l = c.loop-n in
+    let more : l.n < operand_count_from x.counts.now = omega (arith, l.invariant.2) in
+    let room : l.n < 12 = omega (arith, c.requires.fact_3) in
+    let o = c.operand_at-o in
+    let v = value-next (flat_surface x.flat.now) (slot_index (indices_from x.numbers.now)) (pupil_from x.numbers.now)
+    (surface_count_from x.counts.now) f c.paraxial_slots-slots.result l.values l.n o.result _
+    c.requires.fact_5 more (omega arith) l.invariant.4 l.invariant.1
+    o.ensures (c.value_of.ensures ∙ ap (λ (k : ℕ). value_of l.values (λ (w : ℕ). get_or c.paraxial_slots-slots.result
+    w Failed) (flat_surface x.flat.now) k o.result.operand_type) l.invariant.3) in (
+      omega arith,
+      tab-step (value_at (flat_surface x.flat.now) (slot_index (indices_from x.numbers.now)) (pupil_from x.numbers.now)
+          (surface_count_from x.counts.now) f) _ l.values l.n _ nan l.invariant.1 v (omega arith),
+      l.invariant.2,
+      l.invariant.3,
+      l.invariant.4,
+    )
+
+pub returns : goal.returns
+unfolding evaluate_of
+returns c = λ kind s rest e.
+    let x = c.args in
+    let f = operands_from x.counts.now x.numbers.now in
+    let m : c.loop-n.n ≡ operand_count_from x.counts.now = omega (arith, c.loop-n.invariant.2) in
+    all-stand (value_at (flat_surface x.flat.now) (slot_index (indices_from x.numbers.now)) (pupil_from x.numbers.now)
+    (surface_count_from x.counts.now) f) (operand_count_from x.counts.now) c.loop-n.n c.loop-n.values c.loop-n.invariant.1 m
+    ∙ ap (λ (m : MeritEvaluation). m.values) (laid-evaluation (lens_with (held_job x.counts.now x.numbers.now kind) s) f rest x.flat.now e
+    c.requires.fact_5)
