@@ -1,16 +1,17 @@
 // Job lines of kind 4: a lens evaluated under its operands.
-use streams::console::Console;
 use crate::marks;
 use answers::put_unknown;
 use joblines::JobLine;
 use merit::MeritFunction;
 use optics::OpticalPrescription;
+use streams::console::Console;
 use streams::output::Waiting;
 use text::cursor;
 
 // Kind 4 has no settings.
 pub(crate) fn evaluate(
-    console: Console, out: &mut [u8],
+    console: Console,
+    out: &mut [u8],
     waiting: Waiting,
     line: &[u8],
     job: JobLine,
@@ -26,7 +27,8 @@ pub(crate) fn evaluate(
 }
 
 fn put_evaluated(
-    console: Console, out: &mut [u8],
+    console: Console,
+    out: &mut [u8],
     waiting: Waiting,
     prescription: OpticalPrescription,
     function: MeritFunction,
@@ -34,13 +36,26 @@ fn put_evaluated(
     let e = lending::evaluate_over(prescription, function, marks::marked_evaluation());
     let evaluation = e.evaluation;
     if e.number > 0 {
-        return answers::put_refused(console, out, waiting, e.number, marks::is_marked(evaluation));
+        return answers::put_refused(
+            console,
+            out,
+            waiting,
+            e.number,
+            marks::is_marked(evaluation),
+        );
     }
     let surfaces = prescription.surfaces;
     let hash = answers::with_surfaces(answers::START, surfaces, prescription.surface_count);
-    let waiting = lensanswers::put_evaluation(console, out, waiting, evaluation, function.operand_count);
+    let waiting = lensanswers::put_evaluation(
+        console,
+        out,
+        waiting,
+        evaluation,
+        function.operand_count,
+    );
     answers::put_digest(
-        console, out,
+        console,
+        out,
         waiting,
         answers::with_float(hash, evaluation.total_merit),
     )

@@ -1,13 +1,19 @@
 // The job lines: what they have in common, and which is whose.
-use streams::console::Console;
 use crate::types::Answered;
 use crate::{evaluate, limits, run, trace};
+use streams::console::Console;
 use streams::output::Waiting;
 use text::cursor;
 use text::cursor::{Cursor, NumberRead, Why};
 
 // J id kind ..: evaluations and traces stand by themselves, runs are played on the bench.
-pub(crate) fn answer_job(console: Console, out: &mut [u8], state: Answered, line: &[u8], number: u64) -> Answered {
+pub(crate) fn answer_job(
+    console: Console,
+    out: &mut [u8],
+    state: Answered,
+    line: &[u8],
+    number: u64,
+) -> Answered {
     let kind = read_kind(line);
     if kind.value < 4 {
         return run::run(console, out, state, line, kind, number);
@@ -27,7 +33,8 @@ fn read_kind(line: &[u8]) -> NumberRead {
 
 // The kinds that need no bench.
 fn put_plain(
-    console: Console, out: &mut [u8],
+    console: Console,
+    out: &mut [u8],
     waiting: Waiting,
     line: &[u8],
     kind: NumberRead,

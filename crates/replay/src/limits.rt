@@ -1,15 +1,16 @@
 // Job lines of kind 6: a lens traced in one slot, its thicknesses within limits.
-use streams::console::Console;
 use answers::put_unknown;
 use intervals::ThicknessLimits;
 use joblines::JobLine;
 use optics::OpticalPrescription;
+use streams::console::Console;
 use streams::output::Waiting;
 use text::cursor;
 
 // Kind 6 has a slot and a pair for each surface as its settings.
 pub(crate) fn limits(
-    console: Console, out: &mut [u8],
+    console: Console,
+    out: &mut [u8],
     waiting: Waiting,
     line: &[u8],
     job: JobLine,
@@ -26,7 +27,8 @@ pub(crate) fn limits(
 }
 
 fn put_limits(
-    console: Console, out: &mut [u8],
+    console: Console,
+    out: &mut [u8],
     waiting: Waiting,
     prescription: OpticalPrescription,
     known: ThicknessLimits,

@@ -1,9 +1,9 @@
 // The lines, answered one after the other.
 ghost use Rattle.std.specs.Prelude.{◌≤◌, length};
 
-use streams::console::Console;
 use crate::job;
 use crate::types::Answered;
+use streams::console::Console;
 use streams::input::{Input, Line};
 use streams::output::Waiting;
 use streams::{input, output, session};
@@ -19,7 +19,13 @@ fn with_waiting(state: Answered, waiting: Waiting) -> Answered {
 }
 
 // Answers one line. Blanks alone have no answer.
-fn answer_line(console: Console, out: &mut [u8], state: Answered, line: &[u8], number: u64) -> Answered {
+fn answer_line(
+    console: Console,
+    out: &mut [u8],
+    state: Answered,
+    line: &[u8],
+    number: u64,
+) -> Answered {
     if words::is_end(line, 0) {
         return state;
     }
@@ -27,7 +33,13 @@ fn answer_line(console: Console, out: &mut [u8], state: Answered, line: &[u8], n
 }
 
 // Answers a line of the input; while none is there, what waits is written.
-fn answer_found(console: Console, out: &mut [u8], state: Answered, buf: &[u8], line: Line) -> Answered
+fn answer_found(
+    console: Console,
+    out: &mut [u8],
+    state: Answered,
+    buf: &[u8],
+    line: Line,
+) -> Answered
     requires from_le_to { line.from ≤ line.to }
     requires to_in_bounds { line.to ≤ length buf.now }
 {

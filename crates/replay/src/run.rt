@@ -2,7 +2,6 @@
 // turns while the jobs of the next three lines are played.
 ghost use Rattle.std.specs.Prelude.{◌<◌};
 
-use streams::console::Console;
 use crate::play;
 use crate::play::Play;
 use crate::types::Answered;
@@ -11,12 +10,14 @@ use bench::Bench;
 use benchcalls::BenchAnswer;
 use joblines::RequestRead;
 use jobs::JobRequest;
+use streams::console::Console;
 use streams::output::Waiting;
 use text::cursor;
 use text::cursor::{Cursor, NumberRead};
 
 pub(crate) fn run(
-    console: Console, out: &mut [u8],
+    console: Console,
+    out: &mut [u8],
     state: Answered,
     line: &[u8],
     kind: NumberRead,
@@ -36,7 +37,14 @@ fn read_run(line: &[u8], kind: NumberRead) -> RequestRead {
 }
 
 // A line out of form leaves the bench as it is.
-fn unknown(console: Console, out: &mut [u8], state: Answered, line: &[u8], number: u64, c: Cursor) -> Answered {
+fn unknown(
+    console: Console,
+    out: &mut [u8],
+    state: Answered,
+    line: &[u8],
+    number: u64,
+    c: Cursor,
+) -> Answered {
     let bench = state.bench;
     Answered {
         bench: bench,
@@ -46,7 +54,8 @@ fn unknown(console: Console, out: &mut [u8], state: Answered, line: &[u8], numbe
 
 // Each line has the place of its number.
 fn admit(
-    console: Console, out: &mut [u8],
+    console: Console,
+    out: &mut [u8],
     waiting: Waiting,
     bench: Bench,
     number: u64,
@@ -72,7 +81,8 @@ fn admitted(bench: Bench, place: usize, request: JobRequest) -> BenchAnswer {
 
 // Plays the job that the bench has at the place, and leaves it there at its start.
 fn play_admitted(
-    console: Console, out: &mut [u8],
+    console: Console,
+    out: &mut [u8],
     waiting: Waiting,
     bench: Bench,
     place: usize,
@@ -92,7 +102,8 @@ fn play_admitted(
 
 // M first final N iterations converged turns S .. V .. D .. H digest
 fn put_played(
-    console: Console, out: &mut [u8],
+    console: Console,
+    out: &mut [u8],
     waiting: Waiting,
     play: Play,
     place: usize,
@@ -108,7 +119,8 @@ fn put_played(
     let waiting = answers::put_outcome(console, out, waiting, found);
     let waiting = answers::put_number(console, out, waiting, b"", play.turns);
     let waiting = answers::put_lens(
-        console, out,
+        console,
+        out,
         waiting,
         found,
         request.prescription.surface_count,

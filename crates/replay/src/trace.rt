@@ -1,17 +1,18 @@
 // Job lines of kind 5: a lens traced in one slot.
-use streams::console::Console;
 use crate::marks;
 use answers::put_unknown;
 use joblines::JobLine;
 use merit::Traced;
 use optics::{OpticalPrescription, Paraxial, ParaxialRay};
+use streams::console::Console;
 use streams::output;
 use streams::output::Waiting;
 use text::cursor;
 
 // Kind 5 has a slot as its setting.
 pub(crate) fn trace(
-    console: Console, out: &mut [u8],
+    console: Console,
+    out: &mut [u8],
     waiting: Waiting,
     line: &[u8],
     job: JobLine,
@@ -27,7 +28,8 @@ pub(crate) fn trace(
 }
 
 fn put_trace(
-    console: Console, out: &mut [u8],
+    console: Console,
+    out: &mut [u8],
     waiting: Waiting,
     prescription: OpticalPrescription,
     slot: usize,
@@ -37,15 +39,27 @@ fn put_trace(
     let answer = t.answer;
     let rays = t.rays;
     match answer {
-        Traced::Refused(n) => answers::put_refused(console, out, waiting, n, marks::are_marked(rays, 0)),
-        Traced::Failed => lensanswers::put_failed(console, out, waiting, marks::are_marked(rays, 0)),
+        Traced::Refused(n) => answers::put_refused(
+            console,
+            out,
+            waiting,
+            n,
+            marks::are_marked(rays, 0),
+        ),
+        Traced::Failed => lensanswers::put_failed(
+            console,
+            out,
+            waiting,
+            marks::are_marked(rays, 0),
+        ),
         Traced::Done => put_done(console, out, waiting, prescription, slot, rays),
     }
 }
 
 // ok T n {height slope} P ..
 fn put_done(
-    console: Console, out: &mut [u8],
+    console: Console,
+    out: &mut [u8],
     waiting: Waiting,
     prescription: OpticalPrescription,
     slot: usize,

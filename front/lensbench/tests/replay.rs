@@ -49,7 +49,7 @@ fn compare(program: &Path, lines: &[Line]) {
 fn the_crate_answers_as_replay_does() {
     let program = top().join("target/bin/replay");
     if !program.is_file() {
-        eprintln!("SKIPPED: target/bin/replay is not built; `rt check replay` builds it");
+        eprintln!("SKIPPED: target/bin/replay is not built; `tools/program replay` builds it");
         return;
     }
     let mut dice = Dice(0x1ead1e);
