@@ -2,10 +2,13 @@
 ghost use Rattle.std.specs.Prelude.{◌≡◌, length};
 ghost use Rattle.bench.specs.Calls.{admit_number, admitted_bench, turn_number, turned_bench, scratch_after, fetch_number, fetched_result, release_number};
 ghost use Rattle.bench.specs.Calls.{released_bench, listing_of};
+ghost use Rattle.held.specs.RowFrom.{Long};
 ghost use Rattle.records.specs.Exported.{admit_record_number, admitted_record_bench};
+ghost use Rattle.rowturns.specs.Parts.{held_of};
 
 use crate::admission;
 use bench::{Bench, Finished};
+use held::HeldRow;
 use jobs::JobRequest;
 use records::RequestRecord;
 use runs::OptimizationResult;
@@ -39,6 +42,48 @@ pub extern "C" fn admit_record(bench: &mut Bench, place: usize, asked: &RequestR
     answer.number
 }
 
+// Each array of a row is as long as its type says: for proofs alone, it does nothing.
+fn arrays_long(
+    words: &[u64; 13],
+    scalars: &[f64; 7],
+    counts: &[u64; 73],
+    numbers: &[f64; 195],
+    surfaces: &[f64; 64],
+    jacobian: &[f64; 96],
+    values: &[f64; 12],
+    residuals: &[f64; 12],
+    plus_residuals: &[f64; 12],
+    params: &[f64; 8],
+    candidate: &[f64; 8],
+    best_surfaces: &[f64; 64],
+    best_values: &[f64; 12],
+    best_residuals: &[f64; 12],
+)
+    ensures { Long (held_of words.now scalars.now counts.now numbers.now surfaces.now jacobian.now values.now residuals.now
+        plus_residuals.now params.now candidate.now best_surfaces.now best_values.now best_residuals.now) }
+{}
+
+fn row_long(row: &HeldRow)
+    ensures { Long row.now }
+{
+    arrays_long(
+        &row.words,
+        &row.scalars,
+        &row.counts,
+        &row.numbers,
+        &row.surfaces,
+        &row.jacobian,
+        &row.values,
+        &row.residuals,
+        &row.plus_residuals,
+        &row.params,
+        &row.candidate,
+        &row.best_surfaces,
+        &row.best_values,
+        &row.best_residuals,
+    );
+}
+
 // One merit of the job at the place. 2, 9 and 11 to 13.
 #[unsafe(no_mangle)]
 pub extern "C" fn turn(bench: &mut Bench, place: usize, scratch: &mut [f64]) -> u32
@@ -50,7 +95,8 @@ pub extern "C" fn turn(bench: &mut Bench, place: usize, scratch: &mut [f64]) -> 
         return 2;
     }
     let row = &mut bench.rows[place];
-    rowturns::turn_parts(
+    row_long(row);
+    let number = rowturns::turn_parts(
         &mut row.words,
         &mut row.scalars,
         &row.counts,
@@ -66,7 +112,9 @@ pub extern "C" fn turn(bench: &mut Bench, place: usize, scratch: &mut [f64]) -> 
         &mut row.best_values,
         &mut row.best_residuals,
         scratch,
-    )
+    );
+    row_long(row);
+    number
 }
 
 // The result of a finished job; its row stays. 2, 11, 12 and 14.

@@ -1,5 +1,7 @@
 // The calls on a bench (01): admit, turn, fetch, release, listing and dealing. Lent, and by value for programs.
 // Stands on `rows`, `finished`, `dealing` and `records`; called by programs, and from C or Rust as it is exported.
+#![tactic(auto)]
+
 mod admission;
 mod dealings;
 mod lent;

@@ -1,5 +1,7 @@
 // What the answers to lines say of a lens by itself: evaluated, traced, and traced within limits; oracle/README.md has the formats.
 // Stands on `merit`, `intervals` and `answers`; called by `replay`.
+#![tactic(auto)]
+
 mod evaluation;
 mod limits;
 mod trace;

@@ -3,14 +3,20 @@ ghost use Rattle.std.specs.Prelude.{◌≤◌, min, length};
 ghost use Rattle.streams.specs.Output.{Put};
 ghost use Rattle.lensanswers.specs.Lens.{track_texts, ends_texts, all_ends_texts, limits_texts};
 
-use streams::console::Console;
 use answers::put_number;
 use intervals::{Interval, TraceLimits};
+use streams::console::Console;
 use streams::output;
 use streams::output::Waiting;
 
 // K least greatest T n {surface}
-pub fn put_limits(console: Console, out: &mut [u8], waiting: Waiting, traced: TraceLimits, count: usize) -> Waiting
+pub fn put_limits(
+    console: Console,
+    out: &mut [u8],
+    waiting: Waiting,
+    traced: TraceLimits,
+    count: usize,
+) -> Waiting
     ensures bytes_in_bounds { result.bytes ≤ length out.new }
     ensures put { Put waiting out.old (limits_texts traced count) result out.new }
 {
@@ -31,7 +37,13 @@ fn put_track(console: Console, out: &mut [u8], waiting: Waiting, track: Interval
 }
 
 // least-height greatest-height least-slope greatest-slope
-fn put_surface(console: Console, out: &mut [u8], waiting: Waiting, height: Interval, slope: Interval) -> Waiting
+fn put_surface(
+    console: Console,
+    out: &mut [u8],
+    waiting: Waiting,
+    height: Interval,
+    slope: Interval,
+) -> Waiting
     ensures bytes_in_bounds { result.bytes ≤ length out.new }
     ensures put { Put waiting out.old (ends_texts height slope) result out.new }
 {
@@ -40,7 +52,13 @@ fn put_surface(console: Console, out: &mut [u8], waiting: Waiting, height: Inter
 }
 
 // The ends of each surface's height and slope.
-fn put_surfaces(console: Console, out: &mut [u8], waiting: Waiting, traced: TraceLimits, count: usize) -> Waiting
+fn put_surfaces(
+    console: Console,
+    out: &mut [u8],
+    waiting: Waiting,
+    traced: TraceLimits,
+    count: usize,
+) -> Waiting
     ensures bytes_in_bounds { result.bytes ≤ length out.new }
     ensures put { Put waiting out.old (all_ends_texts traced.heights traced.slopes (min count 16)) result out.new }
 {

@@ -3,9 +3,9 @@ ghost use Rattle.std.specs.Prelude.{◌≤◌, min, length};
 ghost use Rattle.streams.specs.Output.{Put};
 ghost use Rattle.lensanswers.specs.Lens.{failed_texts, ray_texts, rays_texts, traced_texts, paraxial_texts};
 
-use streams::console::Console;
 use answers::{put_kept, put_number};
 use optics::{ParaxialProperties, ParaxialRay};
+use streams::console::Console;
 use streams::output;
 use streams::output::Waiting;
 
@@ -20,7 +20,8 @@ pub fn put_failed(console: Console, out: &mut [u8], waiting: Waiting, is_kept: b
 
 // ok T n {height slope}
 pub fn put_traced(
-    console: Console, out: &mut [u8],
+    console: Console,
+    out: &mut [u8],
     waiting: Waiting,
     rays: [ParaxialRay; 16],
     count: usize,
@@ -33,7 +34,13 @@ pub fn put_traced(
 }
 
 // The height and slope of each surface.
-fn put_rays(console: Console, out: &mut [u8], waiting: Waiting, rays: [ParaxialRay; 16], count: usize) -> Waiting
+fn put_rays(
+    console: Console,
+    out: &mut [u8],
+    waiting: Waiting,
+    rays: [ParaxialRay; 16],
+    count: usize,
+) -> Waiting
     ensures bytes_in_bounds { result.bytes ≤ length out.new }
     ensures put { Put waiting out.old (rays_texts rays (min count 16)) result out.new }
 {
@@ -57,7 +64,12 @@ fn put_ray(console: Console, out: &mut [u8], waiting: Waiting, ray: ParaxialRay)
 }
 
 // P efl bfl f-number
-pub fn put_paraxial(console: Console, out: &mut [u8], waiting: Waiting, q: ParaxialProperties) -> Waiting
+pub fn put_paraxial(
+    console: Console,
+    out: &mut [u8],
+    waiting: Waiting,
+    q: ParaxialProperties,
+) -> Waiting
     ensures bytes_in_bounds { result.bytes ≤ length out.new }
     ensures put { Put waiting out.old (paraxial_texts q) result out.new }
 {

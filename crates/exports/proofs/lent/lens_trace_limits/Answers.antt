@@ -1,6 +1,6 @@
 -- `exports::lent::lens_trace_limits` meets its contract. Assumes nothing.
 use Rattle.exports.specs.Lenses.{lens_of}
-use Rattle.exports.proofs.Limits.{limits-kept, limits-stored}
+use Rattle.intervalcalls.proofs.Answers.{limits-kept, limits-stored}
 use Rattle.exports.proofs.lent.lens_trace_limits.Goals as goal
 
 pub returns-then-t-gt0 : goal.returns-then-t-gt0

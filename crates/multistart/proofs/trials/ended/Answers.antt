@@ -8,15 +8,8 @@ use Rattle.runs.specs.State.{with_best}
 use Rattle.runs.specs.DampedRow.{holding}
 use Rattle.runs.specs.declared.types.DampedState.{DampedState}
 use Rattle.held.specs.RowFrom.{result_from}
-use mathlib.Core.Path.{◌≡◌, refl}
-use Rattle.lists.specs.Tab.{tab}
-use Rattle.runs.specs.Zeros.{zero_surfaces}
-use Rattle.held.specs.JobFrom.{standing}
+use Rattle.draws.proofs.Zero.{standing-zero}
 use Rattle.multistart.proofs.trials.ended.Goals as goal
-
-standing-zero : standing (replicate 64 zero64) ≡ zero_surfaces
-unfolding standing tab
-standing-zero = refl
 
 pub returns : goal.returns
 returns c = λ bs bv br.
