@@ -1,14 +1,15 @@
 // Lines of admissions.
-use streams::console::Console;
 use crate::call;
 use crate::types::Answered;
 use joblines::RequestRead;
+use streams::console::Console;
 use text::cursor;
 use text::cursor::{Cursor, NumberRead, Why};
 
 // A place J id kind ..
 pub(crate) fn admit(
-    console: Console, out: &mut [u8],
+    console: Console,
+    out: &mut [u8],
     state: Answered,
     line: &[u8],
     at: usize,
@@ -16,7 +17,15 @@ pub(crate) fn admit(
 ) -> Answered {
     let place = cursor::decimal(line, Cursor::new(at));
     let kind = read_kind(line, place.next);
-    admit_kind(console, out, state, line, number, place.value as usize, kind)
+    admit_kind(
+        console,
+        out,
+        state,
+        line,
+        number,
+        place.value as usize,
+        kind,
+    )
 }
 
 // J id kind
@@ -32,7 +41,8 @@ fn read_job(line: &[u8], kind: NumberRead) -> RequestRead {
 }
 
 fn admit_kind(
-    console: Console, out: &mut [u8],
+    console: Console,
+    out: &mut [u8],
     state: Answered,
     line: &[u8],
     number: u64,
@@ -46,7 +56,13 @@ fn admit_kind(
     admit_job(console, out, state, place, read)
 }
 
-fn admit_job(console: Console, out: &mut [u8], state: Answered, place: usize, read: RequestRead) -> Answered {
+fn admit_job(
+    console: Console,
+    out: &mut [u8],
+    state: Answered,
+    place: usize,
+    read: RequestRead,
+) -> Answered {
     let request = read.request;
     let bench = state.bench;
     let answer = benchcalls::admitted(bench, place, request);

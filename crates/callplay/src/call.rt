@@ -1,10 +1,10 @@
 // The lines of calls: each is one call, or turns of one place, and has a name of one letter.
-use streams::console::Console;
 use crate::asked::Asked;
 use crate::types::Answered;
 use crate::{admission, asked, deals, fetching, listing, pieces, turning};
 use answers::put_unknown;
 use benchcalls::BenchAnswer;
+use streams::console::Console;
 use streams::output;
 use streams::output::Waiting;
 use text::cursor;
@@ -12,7 +12,8 @@ use text::cursor::Cursor;
 
 // Answers a line from where its name ends.
 pub(crate) fn answer_call(
-    console: Console, out: &mut [u8],
+    console: Console,
+    out: &mut [u8],
     state: Answered,
     line: &[u8],
     at: usize,
@@ -31,7 +32,8 @@ pub(crate) fn answer_call(
 
 // A line out of form leaves the bench as it is.
 pub(crate) fn unknown(
-    console: Console, out: &mut [u8],
+    console: Console,
+    out: &mut [u8],
     state: Answered,
     line: &[u8],
     number: u64,
@@ -45,7 +47,13 @@ pub(crate) fn unknown(
 }
 
 // Answers a line that is in form.
-fn answer_asked(console: Console, out: &mut [u8], state: Answered, letter: u8, asked: Asked) -> Answered {
+fn answer_asked(
+    console: Console,
+    out: &mut [u8],
+    state: Answered,
+    letter: u8,
+    asked: Asked,
+) -> Answered {
     match letter {
         b'Z' => empty(console, out, state.waiting),
         b'T' => turning::turn(console, out, state, asked),
@@ -58,7 +66,8 @@ fn answer_asked(console: Console, out: &mut [u8], state: Answered, letter: u8, a
 
 // The answer of a call that answers its number alone.
 pub(crate) fn answered(
-    console: Console, out: &mut [u8],
+    console: Console,
+    out: &mut [u8],
     waiting: Waiting,
     letter: u8,
     answer: BenchAnswer,

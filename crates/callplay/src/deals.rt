@@ -1,10 +1,10 @@
 // Lines of dealings.
-use streams::console::Console;
 use crate::asked::Asked;
 use crate::pieces;
 use crate::types::Answered;
 use bench::Bench;
 use benchcalls::Dealing;
+use streams::console::Console;
 use streams::output;
 use streams::output::Waiting;
 
@@ -16,7 +16,8 @@ pub(crate) fn deal(console: Console, out: &mut [u8], state: Answered, asked: Ask
     Answered {
         bench: left,
         waiting: put_dealt(
-            console, out,
+            console,
+            out,
             state.waiting,
             dealing.number,
             dealing.dealt,
@@ -26,7 +27,14 @@ pub(crate) fn deal(console: Console, out: &mut [u8], state: Answered, asked: Ask
 }
 
 // N number turns place
-fn put_dealt(console: Console, out: &mut [u8], waiting: Waiting, number: u32, dealt: u32, place: usize) -> Waiting {
+fn put_dealt(
+    console: Console,
+    out: &mut [u8],
+    waiting: Waiting,
+    number: u32,
+    dealt: u32,
+    place: usize,
+) -> Waiting {
     let waiting = pieces::put_name(console, out, waiting, b'N', number);
     let waiting = pieces::put_more(console, out, waiting, dealt as u64);
     let waiting = pieces::put_more(console, out, waiting, place as u64);

@@ -1,11 +1,11 @@
 // Lines of fetches.
 ghost use Rattle.std.specs.Prelude.{◌<◌};
 
-use streams::console::Console;
 use crate::pieces;
 use crate::types::Answered;
 use bench::Bench;
 use runs::OptimizationResult;
+use streams::console::Console;
 use streams::output::Waiting;
 
 // F place
@@ -18,7 +18,13 @@ pub(crate) fn fetch(console: Console, out: &mut [u8], state: Answered, place: us
 }
 
 // A fetch that is done is one of the four places.
-fn put_fetched(console: Console, out: &mut [u8], waiting: Waiting, bench: Bench, place: usize) -> Waiting {
+fn put_fetched(
+    console: Console,
+    out: &mut [u8],
+    waiting: Waiting,
+    bench: Bench,
+    place: usize,
+) -> Waiting {
     let fetched = benchcalls::fetched(bench, place, rows::zero_result());
     let waiting = pieces::put_name(console, out, waiting, b'F', fetched.number);
     if fetched.number > 0 {
@@ -38,7 +44,8 @@ fn counts_at(bench: Bench, place: usize) -> [u64; 73]
 }
 
 fn put_found(
-    console: Console, out: &mut [u8],
+    console: Console,
+    out: &mut [u8],
     waiting: Waiting,
     found: OptimizationResult,
     counts: [u64; 73],
@@ -49,7 +56,8 @@ fn put_found(
 }
 
 fn put_result(
-    console: Console, out: &mut [u8],
+    console: Console,
+    out: &mut [u8],
     waiting: Waiting,
     found: OptimizationResult,
     surfaces: usize,

@@ -1,9 +1,9 @@
 // The lines, answered one after the other.
 ghost use Rattle.std.specs.Prelude.{◌≤◌, length};
 
-use streams::console::Console;
 use crate::call;
 use crate::types::Answered;
+use streams::console::Console;
 use streams::input::{Input, Line};
 use streams::output::Waiting;
 use streams::{input, output, session};
@@ -24,7 +24,13 @@ fn letter_of(name: &[u8]) -> u8 {
 }
 
 // Answers one line. Blanks alone have no answer.
-fn answer_line(console: Console, out: &mut [u8], state: Answered, line: &[u8], number: u64) -> Answered {
+fn answer_line(
+    console: Console,
+    out: &mut [u8],
+    state: Answered,
+    line: &[u8],
+    number: u64,
+) -> Answered {
     let w = words::next_word(line, 0);
     let from = w.from;
     let to = w.to;
@@ -36,7 +42,13 @@ fn answer_line(console: Console, out: &mut [u8], state: Answered, line: &[u8], n
 }
 
 // Answers a line of the input; while none is there, what waits is written.
-fn answer_found(console: Console, out: &mut [u8], state: Answered, buf: &[u8], line: Line) -> Answered
+fn answer_found(
+    console: Console,
+    out: &mut [u8],
+    state: Answered,
+    buf: &[u8],
+    line: Line,
+) -> Answered
     requires from_le_to { line.from ≤ line.to }
     requires to_in_bounds { line.to ≤ length buf.now }
 {

@@ -1,8 +1,8 @@
 // Lines that ask for the finished places.
-use streams::console::Console;
 use crate::pieces;
 use crate::types::Answered;
 use bench::Finished;
+use streams::console::Console;
 use streams::output;
 use streams::output::Waiting;
 

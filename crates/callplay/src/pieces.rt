@@ -4,7 +4,13 @@ use streams::output;
 use streams::output::Waiting;
 
 // A call's letter and its number.
-pub(crate) fn put_name(console: Console, out: &mut [u8], waiting: Waiting, letter: u8, number: u32) -> Waiting {
+pub(crate) fn put_name(
+    console: Console,
+    out: &mut [u8],
+    waiting: Waiting,
+    letter: u8,
+    number: u32,
+) -> Waiting {
     let name = [letter];
     let waiting = output::counted(waiting, number > 0);
     answers::put_number(console, out, waiting, &name, number as u64)

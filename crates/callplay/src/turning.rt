@@ -1,10 +1,10 @@
 // Lines of turns.
-use streams::console::Console;
 use crate::asked::Asked;
 use crate::pieces;
 use crate::types::Answered;
 use bench::Bench;
 use benchcalls::Played;
+use streams::console::Console;
 use streams::output;
 use streams::output::Waiting;
 
@@ -20,7 +20,13 @@ pub(crate) fn turn(console: Console, out: &mut [u8], state: Answered, asked: Ask
 }
 
 // T number turns
-fn put_taken(console: Console, out: &mut [u8], waiting: Waiting, number: u32, taken: u64) -> Waiting {
+fn put_taken(
+    console: Console,
+    out: &mut [u8],
+    waiting: Waiting,
+    number: u32,
+    taken: u64,
+) -> Waiting {
     let waiting = pieces::put_name(console, out, waiting, b'T', number);
     let waiting = pieces::put_more(console, out, waiting, taken);
     pieces::end_line(console, out, waiting)

@@ -1,7 +1,6 @@
 // The job lines, and the rows that the run of each leaves on its way.
 ghost use Rattle.std.specs.Prelude.{◌≤◌, length};
 
-use streams::console::Console;
 use crate::examine::Case;
 use crate::tally::Tally;
 use crate::{examine, tally, verdict};
@@ -9,6 +8,7 @@ use bench::Bench;
 use held::HeldRow;
 use joblines::RequestRead;
 use jobs::JobRequest;
+use streams::console::Console;
 use streams::input::{Input, Line};
 use streams::output::Waiting;
 use streams::{input, output, session};
@@ -37,7 +37,13 @@ fn read_line(line: &[u8]) -> RequestRead {
 }
 
 // Blanks alone have no answer.
-fn examine_line(console: Console, out: &mut [u8], state: Examined, line: &[u8], number: u64) -> Examined {
+fn examine_line(
+    console: Console,
+    out: &mut [u8],
+    state: Examined,
+    line: &[u8],
+    number: u64,
+) -> Examined {
     if words::is_end(line, 0) {
         return state;
     }
@@ -68,7 +74,13 @@ fn examine_request(state: Examined, request: JobRequest) -> Examined {
 }
 
 // Examines a line of the input; while none is there, what waits is written.
-fn examine_found(console: Console, out: &mut [u8], state: Examined, buf: &[u8], line: Line) -> Examined
+fn examine_found(
+    console: Console,
+    out: &mut [u8],
+    state: Examined,
+    buf: &[u8],
+    line: Line,
+) -> Examined
     requires from_le_to { line.from ≤ line.to }
     requires to_in_bounds { line.to ≤ length buf.now }
 {

@@ -4,6 +4,8 @@
 // job is answered as the other programs do.
 // Stands on `benchcalls`, `joblines`, `answers` and `same`; a program that only tests. What it tests is written in tables, and
 // `&` stands where `&&` would do: branches are what takes a check long.
+#![tactic(auto)]
+
 mod changes;
 mod deals;
 mod examine;

@@ -21,21 +21,36 @@ pub(crate) fn counted(tally: Tally, e: usize, is_right: bool) -> Tally {
 }
 
 // A name and its two numbers.
-fn put_line(console: Console, out: &mut [u8], waiting: Waiting, name: &[u8], tried: u64, right: u64) -> Waiting {
+fn put_line(
+    console: Console,
+    out: &mut [u8],
+    waiting: Waiting,
+    name: &[u8],
+    tried: u64,
+    right: u64,
+) -> Waiting {
     let waiting = answers::put_number(console, out, waiting, name, tried);
     let waiting = answers::put_number(console, out, waiting, b"", right);
     output::put(console, out, waiting, b"\n")
 }
 
 // Of the names, twelve letters each, the entry's.
-fn put_entry(console: Console, out: &mut [u8], waiting: Waiting, names: &[u8], tally: Tally, e: usize) -> Waiting
+fn put_entry(
+    console: Console,
+    out: &mut [u8],
+    waiting: Waiting,
+    names: &[u8],
+    tally: Tally,
+    e: usize,
+) -> Waiting
     requires { 672 ≤ length names.now }
 {
     let at = e % 56;
     let from = at * 12;
     let to = from + 12;
     put_line(
-        console, out,
+        console,
+        out,
         waiting,
         &names[from..to],
         tally.tried[at],
@@ -48,7 +63,8 @@ pub(crate) fn print(console: Console, out: &mut [u8], waiting: Waiting, tally: T
     let mut e = 0;
     while e < 56 {
         held = put_entry(
-            console, out,
+            console,
+            out,
             held,
             b"kind        phase       turns       column      attempt     iteration   trial       cycle       step        surfaces    \
 slots       variables   operands    iterations  trials      steps       cycles      variable    at-surface  enabled     \

@@ -1,5 +1,7 @@
 // Prints the words of the tables that `jump` stores, from the step alone, as they stand in jump/src/table.rt: a line each.
 // Stands on `jump` and `text`; a program that only tests.
+#![tactic(auto)]
+
 use streams::console::Console;
 use streams::output::{Waiting, flush, put, put_hex};
 

@@ -1,8 +1,8 @@
 // The leaf lines: a name, and the numbers that the function of that name is asked at.
-use streams::console::Console;
 use crate::names::{ABS, CLAMP, DRAW, E, JUMP, SQRT, UNIFORM};
 use crate::pieces;
 use answers::put_unknown;
+use streams::console::Console;
 use streams::output;
 use streams::output::Waiting;
 use text::cursor;
@@ -113,7 +113,13 @@ fn apply_clamp(x: f64, lo: f64, hi: f64) -> f64 {
 }
 
 // Puts a line and its answer.
-fn put_reply(console: Console, out: &mut [u8], waiting: Waiting, line: &[u8], reply: Reply) -> Waiting {
+fn put_reply(
+    console: Console,
+    out: &mut [u8],
+    waiting: Waiting,
+    line: &[u8],
+    reply: Reply,
+) -> Waiting {
     let waiting = pieces::put_line(console, out, waiting, line);
     let waiting = put_values(console, out, waiting, reply);
     pieces::end_line(console, out, waiting)
@@ -141,7 +147,8 @@ fn put_draw(console: Console, out: &mut [u8], waiting: Waiting, state: u64, unit
 
 // Answers a line of that name, from where the name ends.
 pub(crate) fn answer_leaf(
-    console: Console, out: &mut [u8],
+    console: Console,
+    out: &mut [u8],
     waiting: Waiting,
     line: &[u8],
     at: usize,

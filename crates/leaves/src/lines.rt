@@ -1,16 +1,22 @@
 // The lines, answered one after the other.
 ghost use Rattle.std.specs.Prelude.{◌≤◌, length};
 
-use streams::console::Console;
 use crate::names::{NORMAL, SOLVE};
 use crate::{leaf, matrix, names};
+use streams::console::Console;
 use streams::input::{Input, Line};
 use streams::output::Waiting;
 use streams::{input, output, session};
 use text::words;
 
 // Answers one line. Blanks alone have no answer.
-fn answer_line(console: Console, out: &mut [u8], waiting: Waiting, line: &[u8], number: u64) -> Waiting {
+fn answer_line(
+    console: Console,
+    out: &mut [u8],
+    waiting: Waiting,
+    line: &[u8],
+    number: u64,
+) -> Waiting {
     let w = words::next_word(line, 0);
     let from = w.from;
     let to = w.to;
@@ -26,7 +32,13 @@ fn answer_line(console: Console, out: &mut [u8], waiting: Waiting, line: &[u8], 
 }
 
 // Answers a line of the input; while none is there, what waits is written.
-fn answer_found(console: Console, out: &mut [u8], waiting: Waiting, buf: &[u8], line: Line) -> Waiting
+fn answer_found(
+    console: Console,
+    out: &mut [u8],
+    waiting: Waiting,
+    buf: &[u8],
+    line: Line,
+) -> Waiting
     requires from_le_to { line.from ≤ line.to }
     requires to_in_bounds { line.to ≤ length buf.now }
 {

@@ -2,6 +2,8 @@
 // does, byte for byte; oracle/README.md has the formats. A line that is none of those is answered with `? `, its number, from 1,
 // the field and what is wrong there. A line of blanks alone counts and has no answer, as there. The last line counts the lines.
 // Stands on `floats`, `normal`, `jump` and `answers`; a program that only tests.
+#![tactic(auto)]
+
 mod leaf;
 mod lines;
 mod matrix;

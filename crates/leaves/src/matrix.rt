@@ -2,10 +2,10 @@
 ghost use Rattle.std.specs.Prelude.{◌+◌, ◌<◌, ◌≤◌, length};
 ghost use Rattle.normal.specs.Layout.{scratch_length, most_operands, most_variables};
 
-use streams::console::Console;
 use crate::pieces;
 use answers::put_unknown;
 use normal::{GRADIENT, PRODUCT, STEP, Solved, place, system_place};
+use streams::console::Console;
 use streams::output;
 use streams::output::Waiting;
 use text::cursor;
@@ -43,7 +43,8 @@ fn read_right_side(line: &[u8], c: Cursor, scratch: &mut [f64], p: usize) -> Cur
 
 // SOLVE p {entries by rows} {right side}: the solution, or `none`. A size out of range is out of form, whatever is read after it.
 pub(crate) fn answer_solve(
-    console: Console, out: &mut [u8],
+    console: Console,
+    out: &mut [u8],
     waiting: Waiting,
     line: &[u8],
     at: usize,
@@ -61,7 +62,13 @@ pub(crate) fn answer_solve(
 }
 
 // Of the system that stands in scratch.
-fn put_solved(console: Console, out: &mut [u8], waiting: Waiting, system: [f64; 128], p: usize) -> Waiting
+fn put_solved(
+    console: Console,
+    out: &mut [u8],
+    waiting: Waiting,
+    system: [f64; 128],
+    p: usize,
+) -> Waiting
     requires { p ≤ most_variables }
 {
     let mut scratch = system;
@@ -74,7 +81,14 @@ fn put_solved(console: Console, out: &mut [u8], waiting: Waiting, system: [f64; 
 }
 
 // So many floats of scratch.
-fn put_part(console: Console, out: &mut [u8], waiting: Waiting, scratch: &[f64], from: usize, p: usize) -> Waiting
+fn put_part(
+    console: Console,
+    out: &mut [u8],
+    waiting: Waiting,
+    scratch: &[f64],
+    from: usize,
+    p: usize,
+) -> Waiting
     requires { (from + p ≤ length scratch.now) × ((from ≤ 128) × (p ≤ most_variables)) }
 {
     let to = from + p;
@@ -122,7 +136,8 @@ fn read_normal(line: &[u8], c: Cursor, m: usize, p: usize) -> NormalRead
 // NORMAL m p {entries by columns} {residuals}: J^T J by rows, J^T r, and its norm. A size out of range is out of form, whatever
 // is read after it.
 pub(crate) fn answer_normal(
-    console: Console, out: &mut [u8],
+    console: Console,
+    out: &mut [u8],
     waiting: Waiting,
     line: &[u8],
     at: usize,
@@ -140,7 +155,14 @@ pub(crate) fn answer_normal(
     put_normal(console, out, waiting, read, m, p)
 }
 
-fn put_normal(console: Console, out: &mut [u8], waiting: Waiting, read: NormalRead, m: usize, p: usize) -> Waiting
+fn put_normal(
+    console: Console,
+    out: &mut [u8],
+    waiting: Waiting,
+    read: NormalRead,
+    m: usize,
+    p: usize,
+) -> Waiting
     requires { (m ≤ most_operands) × (p ≤ most_variables) }
 {
     let jacobian = read.jacobian;
@@ -150,7 +172,14 @@ fn put_normal(console: Console, out: &mut [u8], waiting: Waiting, read: NormalRe
     put_equations(console, out, waiting, &scratch, p, norm)
 }
 
-fn put_equations(console: Console, out: &mut [u8], waiting: Waiting, scratch: &[f64], p: usize, norm: f64) -> Waiting
+fn put_equations(
+    console: Console,
+    out: &mut [u8],
+    waiting: Waiting,
+    scratch: &[f64],
+    p: usize,
+    norm: f64,
+) -> Waiting
     requires { (scratch_length ≤ length scratch.now) × (p ≤ most_variables) }
 {
     let waiting = put_product(console, out, waiting, scratch, p);
@@ -159,7 +188,13 @@ fn put_equations(console: Console, out: &mut [u8], waiting: Waiting, scratch: &[
     pieces::end_line(console, out, waiting)
 }
 
-fn put_product(console: Console, out: &mut [u8], waiting: Waiting, scratch: &[f64], p: usize) -> Waiting
+fn put_product(
+    console: Console,
+    out: &mut [u8],
+    waiting: Waiting,
+    scratch: &[f64],
+    p: usize,
+) -> Waiting
     requires fact_1 { scratch_length ≤ length scratch.now }
     requires fact_2 { p ≤ most_variables }
 {
@@ -173,7 +208,14 @@ fn put_product(console: Console, out: &mut [u8], waiting: Waiting, scratch: &[f6
 }
 
 // Entry by entry: scratch has the lower triangle alone.
-fn put_product_row(console: Console, out: &mut [u8], waiting: Waiting, scratch: &[f64], p: usize, i: usize) -> Waiting
+fn put_product_row(
+    console: Console,
+    out: &mut [u8],
+    waiting: Waiting,
+    scratch: &[f64],
+    p: usize,
+    i: usize,
+) -> Waiting
     requires fact_1 { scratch_length ≤ length scratch.now }
     requires fact_2 { p ≤ most_variables }
     requires fact_3 { i < p }
