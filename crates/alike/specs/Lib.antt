@@ -1,4 +1,1 @@
 pub mod Same
-pub mod SameLaws
-pub mod Equal
-pub mod Itself

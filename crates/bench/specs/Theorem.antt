@@ -18,7 +18,7 @@ use Rattle.jobs.specs.Kept.{job_from}
 use Rattle.jobs.specs.Same.{SameJob}
 use Rattle.jobs.specs.Unused.{CleanRecord}
 use Rattle.runs.specs.Run.{done, ask, is_done, value}
-use Rattle.runs.specs.RunEnds.{Evaluated, Descended}
+use Rattle.runs.specs.Outcomes.{Evaluated, Descended}
 use Rattle.runs.specs.JobRun.{Result, base_of, operand_count_of, run}
 use Rattle.runs.specs.State.{state_of}
 use Rattle.runs.specs.Unused.{CleanResult}
@@ -26,7 +26,7 @@ use Rattle.runs.specs.ZeroEntries.{ZeroEntries}
 use Rattle.runs.specs.Rows.{job_of_row, admitted, pending_surfaces, advance, bound}
 use Rattle.runs.specs.Rows as Rows
 use Rattle.runs.specs.Resumption.{resumption}
-use Rattle.runs.specs.Turned.{row_after}
+use Rattle.runs.specs.RowAfter.{row_after}
 use Rattle.runs.specs.declared.types.Row.{Row}
 use Rattle.bench.specs.declared.types.Bench.{Bench}
 use Rattle.runs.specs.JobMerit.{lens_with, evaluate_of}

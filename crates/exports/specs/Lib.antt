@@ -1,4 +1,2 @@
 pub mod Abi
 pub mod Lenses
-pub mod LensLaws
-pub mod ByRecord

@@ -11,7 +11,7 @@ use lib.Ieee.{Float, nan, inf, fin, binary64, eq, up, down, fits, is_nan, nan_bi
 use lib.Ieee.Bits.{of_bits-to_bits, nan_bits_is}
 use mir.Val.{bool_byte}
 use Rattle.floats.specs.Basic.{magnitude}
-use Rattle.floats.specs.MagnitudeLaws.{magnitude-fits, magnitude-bits, magnitude-nan}
+use Rattle.floats.proofs.MagnitudeLaws.{magnitude-fits, magnitude-bits, magnitude-nan}
 
 cleared : (x : Float) → T (fits binary64 x) → T (not (is_nan x)) → of_bits binary64 (to_bits binary64 x % 9223372036854775808) ≡ magnitude x
 cleared x t n = ap (of_bits binary64) (sym (magnitude-bits x t n)) ∙ of_bits-to_bits binary64 (magnitude x) (magnitude-fits x t)

@@ -6,7 +6,3 @@ pub mod Exp
 pub mod Constants
 pub mod Steps
 pub mod BasicLaws
-pub mod MagnitudeLaws
-pub mod RootLaws
-pub mod Patterns
-pub mod SqrtCases

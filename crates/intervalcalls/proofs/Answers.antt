@@ -6,10 +6,10 @@ use native.Mathlib.Omega.{arith}
 use borrow.Author.Tests.{le-leb, lt-leb}
 use Rattle.lists.specs.All.{all_below}
 use Rattle.optics.specs.declared.types.OpticalPrescription.{OpticalPrescription}
-use Rattle.merit.specs.CallLaws.{none, stays}
+use Rattle.merit.proofs.CallLaws.{none, stays}
 use Rattle.merit.specs.Calls.{unless_refused, trace_number}
 use Rattle.intervals.specs.Calls.{all_given, finite_at, lens_limits, limits_taken, limits_number, limits_as, limits_traced, refused_as, zero_limits}
-use Rattle.intervals.specs.CallLaws.{number_is}
+use Rattle.intervals.proofs.CallLaws.{number_is}
 use Rattle.intervals.specs.declared.types.ThicknessLimits.{ThicknessLimits}
 use Rattle.intervals.specs.declared.types.TraceLimits.{TraceLimits}
 use Rattle.intervals.specs.declared.types.TracedLimits.{TracedLimits}

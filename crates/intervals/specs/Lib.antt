@@ -3,9 +3,4 @@
 pub mod Interval
 pub mod Limits
 pub mod Calls
-pub mod CallLaws
-pub mod IntervalLaws
-pub mod Contained
 pub mod Within
-pub mod TakenLaws
-pub mod WithinLaws

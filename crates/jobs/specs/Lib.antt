@@ -10,11 +10,7 @@ pub mod Same
 pub mod Unused
 -- Laws: one job exactly for the same request; record and job are one to one; each number has its cause; unused entries are zero, and change no answer.
 pub mod Counts
-pub mod SameLaws
-pub mod RecordLaws
 pub mod RefusalLaws
 pub mod Passed
-pub mod UnusedLaws
-pub mod CheckLaws
 -- The lens of the known values, and a request over it for each kind of run.
 pub mod Sample

@@ -12,9 +12,9 @@ use Rattle.xorshift.specs.Xorshift.{step_times}
 use Rattle.xorshift.specs.Laws.{times-add, times_below}
 use Rattle.jump.specs.Apply.{taken, apply}
 use Rattle.jump.specs.Jump.{row, table_at}
-use Rattle.jump.specs.JumpLaws.{row_word}
-use Rattle.jump.specs.Linear.{xor_assoc}
-use Rattle.jump.specs.Carried.{table-carries}
+use Rattle.jump.proofs.JumpLaws.{row_word}
+use Rattle.jump.proofs.Linear.{xor_assoc}
+use Rattle.jump.proofs.Carried.{table-carries}
 
 -- a last bit that is not 1
 pub last-clear : (n : ℕ) → (n % 2 ≡ 1 → ⊥) → n % 2 ≡ 0

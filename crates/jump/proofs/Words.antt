@@ -17,7 +17,7 @@ use Rattle.jump.specs.Table.{table}
 use Rattle.jump.specs.Apply.{apply}
 use Rattle.jump.specs.Jump.{row, table_at}
 use Rattle.jump.specs.Drawn.{word_if, word_from}
-use Rattle.jump.specs.JumpLaws.{table-length, row-length, row_word, request4}
+use Rattle.jump.proofs.JumpLaws.{table-length, row-length, row_word, request4}
 
 -- 1 shifted by less than 64 loses nothing
 pub one_bit : (k : ℕ) → k < 64 → 1 * 2 ^ k % 2 ^ 64 ≡ 2 ^ k

@@ -5,10 +5,5 @@ pub mod Jump
 pub mod Drawn
 -- The rule of the whole table, computed once, in sums.
 pub mod Lanes
-pub mod LaneLaws
-pub mod Computed
+
 -- A draw is linear over bits and can be taken back; so the rule gives every table.
-pub mod Linear
-pub mod Inverse
-pub mod Carried
-pub mod JumpLaws

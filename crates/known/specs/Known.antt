@@ -47,10 +47,10 @@ use Rattle.runs.specs.Run.{Surfaces, bind, after_merit, after_merits, is_done, v
 use Rattle.runs.specs.DampedRun
 use Rattle.runs.specs.DampedRun.{iterations}
 use Rattle.runs.specs.JobRun.{run_by}
-use Rattle.runs.specs.Moved.{n3, quarter, two_and_half, thickened, half-way}
-use Rattle.runs.specs.KnownRuns.{KnownRuns, known-runs}
-use Rattle.runs.specs.KnownDraws.{KnownDraws, known-draws}
-use Rattle.bench.specs.Accepted.{Admitted, drawings-admitted}
+use Rattle.runs.proofs.Moved.{n3, quarter, two_and_half, thickened, half-way}
+use Rattle.runs.proofs.KnownRuns.{KnownRuns, known-runs}
+use Rattle.runs.proofs.KnownDraws.{KnownDraws, known-draws}
+use Rattle.bench.proofs.Accepted.{Admitted, drawings-admitted}
 use Rattle.known.specs.Samples.{Settings, limit_zero, n10, n12, n13, n56, seven_eighths, tenth_of_least, least, past_five, past_one, first_alone, kinds}
 use Rattle.known.specs.Samples.{three_and_half, sixteenth, thirty_second, n19880, n395214400}
 use Rattle.known.specs.Samples.{n24, three_and_quarter, four_less_quarter, shop_limits}

@@ -18,7 +18,7 @@ use Rattle.intervals.specs.declared.types.Interval.{Interval}
 use Rattle.intervals.specs.declared.types.ThicknessLimits.{ThicknessLimits}
 use Rattle.jobs.specs.declared.types.DlsConfig.{DlsConfig}
 use Rattle.jobs.specs.Sample.{Unused, surface, operand, n1, n2, n8, n16, n64}
-use Rattle.runs.specs.Moved.{n3}
+use Rattle.runs.proofs.Moved.{n3}
 
 abbrev pub n10 : Float
 n10 = of_bits binary64 0x4024_0000_0000_0000

@@ -6,11 +6,6 @@ pub mod Evaluation
 pub mod Check
 pub mod Calls
 -- Laws for callers.
-pub mod ValueLaws
-pub mod EvaluationLaws
-pub mod OverflowLaws
-pub mod CheckLaws
-pub mod CallLaws
-pub mod UsedLaws
 -- Steps of the proofs.
 pub mod Steps
+pub mod Passing

@@ -21,9 +21,10 @@ use Rattle.optics.specs.declared.types.ParaxialRay.{ParaxialRay}
 use Rattle.merit.specs.OperandTable.{zero_evaluation}
 use Rattle.merit.specs.Calls.{unless_refused, evaluate_number, lens_evaluation, evaluated_as, evaluated_of, lens_ray, lens_trace, sixteen, trace_number, answer_of}
 use Rattle.merit.specs.Calls.{nothing_traced, heights_of, traced_heights, trace_answer, traced_row, traced_rays}
-use Rattle.merit.specs.CallLaws.{none, stays, evaluate-keeps, Traceable, done-traceable}
+use Rattle.merit.specs.Passing.{Traceable}
+use Rattle.merit.proofs.CallLaws.{none, stays, evaluate-keeps, done-traceable}
 use Rattle.merit.specs.Evaluation.{evaluation_of}
-use Rattle.merit.specs.EvaluationLaws.{evaluation-same}
+use Rattle.merit.proofs.EvaluationLaws.{evaluation-same}
 use Rattle.merit.specs.Steps.{SlotsKnown}
 use Rattle.merit.specs.declared.types.Evaluated.{Evaluated}
 use Rattle.merit.specs.declared.types.MeritEvaluation.{MeritEvaluation}

@@ -2,7 +2,7 @@
 ghost use Rattle.std.specs.Prelude.{◌≡◌, ◌++◌, ◌-◌, ◌*◌, ◌<◌, ◌≤◌, length, replicate};
 ghost use Rattle.floats.specs.Constants.{zero64};
 ghost use Rattle.optics.specs.Flat.{laid_flat};
-ghost use Rattle.merit.specs.CallLaws.{Evaluable};
+ghost use Rattle.merit.specs.Passing.{Evaluable};
 ghost use Rattle.merit.specs.OperandTable.{zero_evaluation};
 ghost use Rattle.merit.specs.Calls.{evaluate_number, lens_evaluation, evaluated_as, evaluated_of, trace_number, trace_answer, traced_rays, nothing_traced};
 ghost use Rattle.merit.specs.Calls.{heights_of, traced_heights};

@@ -6,7 +6,7 @@ use native.Mathlib.Omega.{arith}
 use mathlib.Core.Bool.{Bool, true, false, true≢false, false≢true}
 use Rattle.floats.specs.Sqrt.{nearest_root}
 use Rattle.floats.specs.Steps.{Whole, Nears, apart, Closer, Mended}
-use Rattle.floats.specs.RootLaws.{step-le, nearest-law, too-low, too-high, nears-most, nears-least}
+use Rattle.floats.proofs.RootLaws.{step-le, nearest-law, too-low, too-high, nears-most, nears-least}
 
 module _ (w q : ℕ) (least : 2 ^ 104 ≤ w) (most : w < 2 ^ 106) where
   law : Nears w (nearest_root w)

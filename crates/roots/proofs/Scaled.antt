@@ -10,8 +10,8 @@ use lib.Dec.{T, lit≤}
 use lib.Ieee.{Float, binary64, odd, of_bits}
 use Rattle.floats.specs.Sqrt.{nearest_root, root_at}
 use Rattle.floats.specs.Steps.{count, Nears}
-use Rattle.floats.specs.RootLaws.{nearest-law, nears-unique, nears-most, nears-least}
-use Rattle.floats.specs.Patterns.{pattern-of, root-at, count_low, count-high}
+use Rattle.floats.proofs.RootLaws.{nearest-law, nears-unique, nears-most, nears-least}
+use Rattle.floats.proofs.Patterns.{pattern-of, root-at, count_low, count-high}
 
 -- ---- `d << p` for a p of 0 or 1
 pub record Shifted (d p : ℕ) : Type 0 where

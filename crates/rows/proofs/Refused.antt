@@ -7,7 +7,7 @@ use native.Mathlib.Omega.{arith}
 use lib.Dec.{eqb}
 use borrow.Author.Tests.{ltb-false}
 use Rattle.lists.specs.Refusals.{Refusal, first_refusal, NoneOf, answers-none, none_of}
-use Rattle.merit.specs.CallLaws.{none, stays}
+use Rattle.merit.proofs.CallLaws.{none, stays}
 use Rattle.merit.specs.Calls.{unless_refused}
 use Rattle.normal.specs.Layout.{scratch_length}
 use Rattle.jobs.specs.declared.types.SettingsRecord.{SettingsRecord}

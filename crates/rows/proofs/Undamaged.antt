@@ -8,7 +8,7 @@ use lib.Dec.{T, ltb, ltb→lt}
 use lib.Ieee.Bits.{is_true}
 use lib.Ieee.Fits.{and_l, and_r}
 use Rattle.variables.specs.Active.{num_active}
-use Rattle.variables.specs.CallerLaws.{active-le}
+use Rattle.variables.proofs.CallerLaws.{active-le}
 use Rattle.jobs.specs.declared.types.Method.{Method}
 use Rattle.jobs.specs.declared.types.Method.TheVariants.{Damped, MultiStart, Annealing}
 use Rattle.jobs.specs.Checks.{job_taken, record_taken}
@@ -17,8 +17,8 @@ use Rattle.runs.specs.declared.types.Row.{Row}
 use Rattle.runs.specs.State.{state_of}
 use Rattle.runs.specs.Rows.{job_of_row, is_finished, bound_by, bound}
 use Rattle.runs.specs.Damage.{is_kind, iteration_limit, job_sound, turns_sound, damaged}
-use Rattle.runs.specs.DamageLaws.{parts, turns-part}
-use Rattle.runs.specs.StateSound.{Sound, sound-from}
+use Rattle.runs.proofs.DamageLaws.{parts, turns-part}
+use Rattle.runs.proofs.StateSound.{Sound, sound-from}
 use Rattle.kinds.specs.Limits.{CountsWithin, Within, taken-within}
 use Rattle.kinds.proofs.Iteration.{iteration-le}
 

@@ -11,7 +11,7 @@ use Rattle.lists.specs.Tab.{tab, tab-same}
 use Rattle.optics.specs.Flat.{laid_flat}
 use Rattle.normal.specs.Layout.{scratch_length}
 use Rattle.merit.specs.Steps.{SlotsKnown}
-use Rattle.merit.specs.CheckLaws.{slots-known}
+use Rattle.merit.proofs.CheckLaws.{slots-known}
 use Rattle.jobs.specs.declared.types.Job.{Job}
 use Rattle.jobs.specs.Checks.{job_taken}
 use Rattle.jobs.specs.Passed.{passed}

@@ -12,7 +12,7 @@ use Rattle.variables.specs.declared.types.VariableDef.{VariableDef}
 use Rattle.variables.specs.declared.types.VariableSet.{VariableSet}
 use Rattle.variables.specs.Kinds.{apply_clamp}
 use Rattle.variables.specs.Active.{variable_at}
-use Rattle.variables.specs.ActiveLaws.{enabled_count, count-le, count-more, count_past, active-here}
+use Rattle.variables.proofs.ActiveLaws.{enabled_count, count-le, count-more, count_past, active-here}
 use Rattle.variables.specs.Values.{stored_in, applied_to}
 
 -- i variables are passed, of which q were enabled, and the values of those are stored

@@ -11,7 +11,7 @@ use Rattle.lists.specs.Tab.{tab, tab-step}
 use Rattle.variables.specs.declared.types.VariableDef.{VariableDef}
 use Rattle.variables.specs.declared.types.VariableSet.{VariableSet}
 use Rattle.variables.specs.Active.{variable_at, active_at}
-use Rattle.variables.specs.ActiveLaws.{enabled_count, count-le, count-more, count_past, active-here}
+use Rattle.variables.proofs.ActiveLaws.{enabled_count, count-le, count-more, count_past, active-here}
 use Rattle.variables.specs.Values.{eight}
 
 -- i variables are passed, of which q were enabled, and the numbers of those are stored: g of the variable and its number among the enabled ones

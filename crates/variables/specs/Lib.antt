@@ -3,11 +3,7 @@ pub mod Kinds
 pub mod Active
 pub mod Values
 pub mod Taken
+
 -- Laws for callers: lengths and entries; the parts of checks 4 and 17; surfaces that check 3 takes stay so.
-pub mod CallerLaws
-pub mod TakenLaws
-pub mod Keeps
 -- Without followers applying is the original's; what minus does to a radius.
-pub mod Followers
 -- Steps of the proofs.
-pub mod ActiveLaws

@@ -6,7 +6,7 @@ use native.Mathlib.Omega.{arith}
 use lib.ListN.{length}
 use Rattle.jump.specs.Apply.{apply}
 use Rattle.jump.specs.Jump.{row}
-use Rattle.jump.specs.JumpLaws.{table-length}
+use Rattle.jump.proofs.JumpLaws.{table-length}
 use Rattle.jump.proofs.Turns.{last-clear, begun, jumps, stands, arrived}
 use Rattle.std.proofs.Common.{rules}
 use Rattle.jump.proofs.jump.Goals as goal

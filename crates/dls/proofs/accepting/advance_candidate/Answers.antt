@@ -7,7 +7,7 @@ use Rattle.runs.specs.JobMerit.{evaluate_of}
 use Rattle.dls.specs.DampedSteps.{optimizer}
 use Rattle.held.specs.JobFrom.{operand_count_from, variables_from, held_job}
 use Rattle.held.specs.RowFrom.{damped_from}
-use Rattle.heldmerit.specs.HeldOver.{merit-held}
+use Rattle.heldmerit.proofs.HeldOver.{merit-held}
 use Rattle.dls.proofs.Advances.{candidate-taken, candidate-left}
 use Rattle.dls.proofs.Kept.{kept_same}
 use Rattle.dls.proofs.accepting.advance_candidate.Goals as goal

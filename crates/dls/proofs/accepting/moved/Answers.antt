@@ -1,7 +1,7 @@
 -- `dls::accepting::moved` meets its contract: the calls one after the other. Assumes nothing.
 use mathlib.Core.Path.{sym}
 use Rattle.runs.specs.DampedRun.{test_presc}
-use Rattle.heldmerit.specs.HeldOver.{residuals-held}
+use Rattle.heldmerit.proofs.HeldOver.{residuals-held}
 use Rattle.dls.proofs.accepting.moved.Goals as goal
 
 pub returns : goal.returns

@@ -2,7 +2,7 @@
 use mathlib.Core.Path.{◌≡◌}
 use mathlib.Core.List.{[]}
 use native.Mathlib.Omega.{arith}
-use Rattle.variables.specs.CallerLaws.{active-le}
+use Rattle.variables.proofs.CallerLaws.{active-le}
 use Rattle.normal.specs.declared.elimination.Solved.TheVariants.{Yes, No}
 use Rattle.held.specs.JobFrom.{variables_from}
 use Rattle.dls.proofs.Trying.{trying-begin, trying-on, trying-found, trying-over}

@@ -1,6 +1,6 @@
 -- `dls::attempts::resume_stationary` meets its contract: the norm decides; the normal equations stand through the attempts. Assumes nothing.
 use native.Mathlib.Omega.{arith}
-use Rattle.variables.specs.CallerLaws.{active-le}
+use Rattle.variables.proofs.CallerLaws.{active-le}
 use Rattle.held.specs.JobFrom.{operand_count_from, variables_from}
 use Rattle.held.specs.RowFrom.{damped_from}
 use Rattle.dls.proofs.Kept.{kept-equations, kept_on}

@@ -8,7 +8,7 @@ use Rattle.held.specs.JobFrom.{operand_count_from, variables_from, held_job}
 use Rattle.held.specs.RowFrom.{damped_from}
 use native.Mathlib.Omega.{arith}
 use Rattle.runs.specs.DampedRow.{phase_of, advance_at, current_of, at_minus}
-use Rattle.heldmerit.specs.HeldOver.{residuals-held}
+use Rattle.heldmerit.proofs.HeldOver.{residuals-held}
 use Rattle.dls.proofs.Advances.{advance-at, advance-over}
 use Rattle.dls.proofs.Kept.{kept_same}
 use Rattle.dls.proofs.damped.advance_damped.Goals as goal

@@ -6,7 +6,7 @@ use Rattle.dls.specs.DampedSteps.{iteration_entered, optimizer}
 use Rattle.runs.specs.JobMerit.{evaluate_of}
 use Rattle.held.specs.JobFrom.{variables_from, held_job, standing}
 use Rattle.held.specs.RowFrom.{damped_from}
-use Rattle.heldmerit.specs.HeldOver.{merit-held, residuals-held}
+use Rattle.heldmerit.proofs.HeldOver.{merit-held, residuals-held}
 use Rattle.dls.proofs.Advances.{first_on}
 use Rattle.dls.proofs.damped.advance_first.Goals as goal
 

@@ -9,8 +9,8 @@ use Rattle.runs.specs.JobMerit.{evaluate_of}
 use Rattle.held.specs.JobFrom.{operand_count_from, variables_from, held_job}
 use Rattle.held.specs.RowFrom.{damped_from}
 use native.Mathlib.Omega.{arith}
-use Rattle.variables.specs.CallerLaws.{active-le}
-use Rattle.heldmerit.specs.HeldOver.{residuals-held}
+use Rattle.variables.proofs.CallerLaws.{active-le}
+use Rattle.heldmerit.proofs.HeldOver.{residuals-held}
 use Rattle.dls.proofs.Advances.{column-on, column-over}
 use Rattle.dls.proofs.Kept.{kept_same}
 use Rattle.dls.proofs.damped.advance_minus.Goals as goal

@@ -4,7 +4,7 @@ use Rattle.held.specs.JobFrom.{variables_from}
 use Rattle.held.specs.RowFrom.{damped_from}
 use mathlib.Core.Path.{◌∙◌}
 use native.Mathlib.Omega.{arith}
-use Rattle.variables.specs.CallerLaws.{active-le}
+use Rattle.variables.proofs.CallerLaws.{active-le}
 use Rattle.runs.specs.DampedRun.{test_presc}
 use Rattle.runs.specs.DampedRow.{phase_of, pending_at}
 use Rattle.dls.proofs.Advances.{pending-at, pending-same}

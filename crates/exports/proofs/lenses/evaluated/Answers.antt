@@ -3,7 +3,7 @@ use mathlib.Core.Path.{sym, ap, ◌∙◌}
 use Rattle.jobs.specs.declared.types.Job.{Job}
 use Rattle.merit.specs.OperandTable.{zero_evaluation}
 use Rattle.lending.specs.Over.{evaluated_over}
-use Rattle.exports.specs.LensLaws.{no-operands, operands}
+use Rattle.exports.proofs.LensLaws.{no-operands, operands}
 use Rattle.exports.proofs.lenses.evaluated.Goals as goal
 
 pub returns-then-not-are_operands : goal.returns-then-not-are_operands

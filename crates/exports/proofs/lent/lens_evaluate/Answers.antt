@@ -1,5 +1,5 @@
 -- `exports::lent::lens_evaluate` meets its contract. Assumes nothing.
-use Rattle.exports.specs.LensLaws.{record-kept, record-stored}
+use Rattle.exports.proofs.LensLaws.{record-kept, record-stored}
 use Rattle.exports.proofs.lent.lens_evaluate.Goals as goal
 
 pub returns-then-e-gt0 : goal.returns-then-e-gt0

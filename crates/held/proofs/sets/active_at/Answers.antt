@@ -3,7 +3,7 @@ use Prim.Native.Nat.{ℕ, ◌+◌, ◌≤◌}
 use mathlib.Core.Path.{◌≡◌, refl, sym, ap, ◌∙◌}
 use native.Mathlib.Omega.{arith}
 use Rattle.variables.specs.Active.{enabled_of}
-use Rattle.variables.specs.ActiveLaws.{count-le, count-more, count_past}
+use Rattle.variables.proofs.ActiveLaws.{count-le, count-more, count_past}
 use Rattle.variables.specs.declared.types.VariableDef.{VariableDef}
 use Rattle.held.specs.JobFrom.{variable_count_from, variables_from}
 use mathlib.Core.Logic.{inl, inr}
@@ -11,7 +11,7 @@ use native.Mathlib.Nat.{eq-or-lt_of_le}
 use lib.ListN.{get_or-eq_default}
 use Rattle.floats.specs.Constants.{no_number}
 use Rattle.variables.specs.Active.{no_variable, active, num_active}
-use Rattle.variables.specs.ActiveLaws.{active-here}
+use Rattle.variables.proofs.ActiveLaws.{active-here}
 use Rattle.held.proofs.sets.active_at.Goals as goal
 use Rattle.held.proofs.sets.active_at.Goals.{then-d+else-p-q, else-d}
 

@@ -1,7 +1,7 @@
 -- `held::sets::active_at` meets its contract: the loop's invariant: p of the variables passed are enabled, and p is at most q. Assumes nothing.
 use Prim.Native.Nat.{◌≤◌, ◌-◌}
 use mathlib.Core.Path.{◌≡◌}
-use Rattle.variables.specs.ActiveLaws.{enabled_count}
+use Rattle.variables.proofs.ActiveLaws.{enabled_count}
 use Rattle.held.specs.JobFrom.{variable_count_from, variables_from}
 use Rattle.held.proofs.sets.active_at.Given as goal
 

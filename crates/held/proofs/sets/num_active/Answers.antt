@@ -2,7 +2,7 @@
 use mathlib.Core.Path.{◌≡◌, refl, sym, ap, ◌∙◌}
 use native.Mathlib.Omega.{arith}
 use Rattle.variables.specs.Active.{enabled_of}
-use Rattle.variables.specs.ActiveLaws.{count-le, count-more, count_past}
+use Rattle.variables.proofs.ActiveLaws.{count-le, count-more, count_past}
 use Rattle.variables.specs.declared.types.VariableDef.{VariableDef}
 use Rattle.held.specs.JobFrom.{variable_count_from, variables_from}
 use Rattle.held.proofs.sets.num_active.Goals as goal

@@ -1,7 +1,7 @@
 -- `held::sets::num_active` meets its contract: the loop's invariant: p of the variables passed are enabled. Assumes nothing.
 use Prim.Native.Nat.{◌≤◌, ◌-◌}
 use mathlib.Core.Path.{◌≡◌}
-use Rattle.variables.specs.ActiveLaws.{enabled_count}
+use Rattle.variables.proofs.ActiveLaws.{enabled_count}
 use Rattle.held.specs.JobFrom.{variable_count_from, variables_from}
 use Rattle.held.proofs.sets.num_active.Given as goal
 

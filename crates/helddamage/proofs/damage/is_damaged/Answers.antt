@@ -6,7 +6,7 @@ use native.Mathlib.Omega.{arith}
 use mathlib.Core.Bool.{and-eq-true_iff}
 use lib.Dec.{ltb}
 use borrow.Author.Tests.{lt-ltb, le-ltb}
-use Rattle.variables.specs.ActiveLaws.{count-le}
+use Rattle.variables.proofs.ActiveLaws.{count-le}
 use Rattle.jobs.specs.Checks.{job_taken, record_taken}
 use Rattle.jobs.specs.Counts.{counts}
 use Rattle.jobs.specs.Records.{method, known_kinds}

@@ -8,7 +8,8 @@ use Rattle.held.specs.JobFrom.{operand_count_from, operands_from}
 use Rattle.merit.specs.Evaluation.{term, counted_total}
 use Rattle.meritcalls.proofs.Evaluating.{term_is}
 use Rattle.heldmerit.specs.HeldOver.{merit_over}
-use Rattle.heldmerit.specs.Over.{terms_over, terms-more}
+use Rattle.heldmerit.specs.Over.{terms_over}
+use Rattle.heldmerit.proofs.Over.{terms-more}
 use Rattle.heldmerit.proofs.evaluation.merit_of.Goals as goal
 
 pub loop-n-init : goal.loop-n-init

@@ -10,7 +10,8 @@ use Rattle.lists.specs.Tab.{tab, tab-step}
 use Rattle.merit.specs.Evaluation.{residual}
 use Rattle.meritcalls.proofs.Evaluating.{residual-is}
 use Rattle.heldmerit.specs.HeldOver.{residuals_over}
-use Rattle.heldmerit.specs.Over.{residual_over, all-stand}
+use Rattle.heldmerit.specs.Over.{residual_over}
+use Rattle.heldmerit.proofs.Over.{all-stand}
 use Rattle.heldmerit.proofs.evaluation.residuals_of.Goals as goal
 
 pub loop-n-init : goal.loop-n-init

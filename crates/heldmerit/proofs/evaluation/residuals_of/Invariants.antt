@@ -3,7 +3,8 @@ use mathlib.Core.Path.{◌≡◌}
 use Prim.Native.Nat.{◌≤◌, ◌-◌}
 use Rattle.held.specs.JobFrom.{operand_count_from, operands_from}
 use Rattle.merit.specs.Steps.{RootKnown}
-use Rattle.heldmerit.specs.Over.{residual_over, Standing}
+use Rattle.heldmerit.specs.Over.{residual_over}
+use Rattle.heldmerit.proofs.Over.{Standing}
 use Rattle.heldmerit.proofs.evaluation.residuals_of.Given as goal
 
 abbrev pub invariant-loop-n : goal.invariant-loop-n

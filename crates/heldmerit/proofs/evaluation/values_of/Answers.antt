@@ -21,7 +21,7 @@ use Rattle.meritcalls.proofs.Answers.{laid-evaluation}
 use Rattle.runs.specs.JobMerit.{lens_with}
 use Rattle.held.specs.EntryLaws.{indices-long}
 use Rattle.held.specs.JobFrom.{held_job}
-use Rattle.heldmerit.specs.Over.{all-stand, value-next}
+use Rattle.heldmerit.proofs.Over.{all-stand, value-next}
 use Rattle.std.proofs.Common.{rules}
 use Rattle.heldmerit.proofs.evaluation.values_of.Goals as goal
 

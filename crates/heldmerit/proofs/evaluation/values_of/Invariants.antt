@@ -8,7 +8,7 @@ use Rattle.optics.specs.Properties.{paraxial_of}
 use Rattle.optics.specs.Types.{flat_surface}
 use Rattle.optics.specs.declared.types.Paraxial.TheVariants.{Failed}
 use Rattle.merit.specs.Evaluation.{value_at}
-use Rattle.heldmerit.specs.Over.{Standing}
+use Rattle.heldmerit.proofs.Over.{Standing}
 use Rattle.heldmerit.proofs.evaluation.values_of.Given as goal
 
 abbrev pub invariant-loop-n : goal.invariant-loop-n

@@ -2,8 +2,8 @@
 use mathlib.Core.Path.{sym, ap, ◌∙◌}
 use mathlib.Core.Bool.{true, false}
 use borrow.Author.Tests.{not-true, not-false}
-use Rattle.merit.specs.CallLaws.{none}
-use Rattle.merit.specs.CallLaws.{traceable}
+use Rattle.merit.proofs.CallLaws.{none}
+use Rattle.merit.proofs.CallLaws.{traceable}
 use Rattle.intervals.specs.declared.types.WorkedLimits.{WorkedLimits}
 use Rattle.intervalcalls.proofs.Answers.{by-trace, by-limits, done, too_few, not-given, taken_as}
 use Rattle.intervalcalls.proofs.calls.limits_traced.Goals as goal

@@ -1,6 +1,6 @@
 -- `meritcalls::calls::evaluated` meets its contract. Assumes nothing.
 use mathlib.Core.Path.{sym, ◌∙◌}
-use Rattle.merit.specs.CallLaws.{none, evaluable}
+use Rattle.merit.proofs.CallLaws.{none, evaluable}
 use Rattle.meritcalls.proofs.Answers.{evaluated_refused, evaluated-done}
 use Rattle.meritcalls.proofs.calls.evaluated.Goals as goal
 

@@ -2,7 +2,7 @@
 use mathlib.Core.Path.{◌≡◌, ◌∙◌}
 use native.Mathlib.Omega.{arith}
 use lib.ListN.{length}
-use Rattle.merit.specs.CheckLaws.{slots-known}
+use Rattle.merit.proofs.CheckLaws.{slots-known}
 use Rattle.meritcalls.proofs.Answers.{laid-room, laid-evaluation}
 use Rattle.std.proofs.Common.{rules}
 use Rattle.meritcalls.proofs.calls.lens_evaluation.Goals as goal

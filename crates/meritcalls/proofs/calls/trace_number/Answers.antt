@@ -3,7 +3,7 @@ use mathlib.Core.Bool.{not}
 use mathlib.Core.Path.{sym, ap, ◌∙◌}
 use borrow.Author.Tests.{eq-eqb, ne_eqb, lt-ltb, le-ltb}
 use Rattle.merit.specs.Calls.{trace_number}
-use Rattle.merit.specs.CallLaws.{counts-room}
+use Rattle.merit.proofs.CallLaws.{counts-room}
 use Rattle.meritcalls.proofs.calls.trace_number.Goals as goal
 
 pub returns-then-not-lens_counts_taken : goal.returns-then-not-lens_counts_taken

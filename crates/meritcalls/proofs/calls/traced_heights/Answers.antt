@@ -1,6 +1,6 @@
 -- `meritcalls::calls::traced_heights` meets its contract. Assumes nothing.
 use mathlib.Core.Path.{sym, ◌∙◌}
-use Rattle.merit.specs.CallLaws.{none, traceable}
+use Rattle.merit.proofs.CallLaws.{none, traceable}
 use Rattle.meritcalls.proofs.Answers.{trace-refused, trace-failed, trace-done}
 use Rattle.meritcalls.proofs.calls.traced_heights.Goals as goal
 

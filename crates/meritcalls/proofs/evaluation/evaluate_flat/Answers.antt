@@ -12,10 +12,10 @@ use Rattle.optics.specs.Types.{flat_surface, slot_index}
 use Rattle.optics.specs.declared.types.Paraxial.{Paraxial}
 use Rattle.optics.specs.declared.types.Paraxial.TheVariants.{Failed}
 use Rattle.merit.specs.Evaluation.{values_after, value_at}
-use Rattle.merit.specs.EvaluationLaws.{values-after}
+use Rattle.merit.proofs.EvaluationLaws.{values-after}
 use Rattle.merit.specs.OperandTable.{operand_at}
 use Rattle.merit.specs.Operands.{value_of}
-use Rattle.merit.specs.ValueLaws.{value_same}
+use Rattle.merit.proofs.ValueLaws.{value_same}
 use Rattle.meritcalls.proofs.Evaluating.{laid, residual-is, term_is, first, next, last}
 use Rattle.meritcalls.proofs.evaluation.evaluate_flat.Goals as goal
 

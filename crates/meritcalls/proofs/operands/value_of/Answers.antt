@@ -1,7 +1,7 @@
 -- `meritcalls::operands::value_of` meets its contract. Assumes nothing.
 use mathlib.Core.Path.{ap, ◌∙◌}
 use Rattle.merit.specs.Operands.{counted, focal_length, f_number, back_focus, magnification, edge_counted, value_of}
-use Rattle.merit.specs.ValueLaws.{of-same}
+use Rattle.merit.proofs.ValueLaws.{of-same}
 use Rattle.meritcalls.proofs.operands.value_of.Goals as goal
 
 pub returns-in-EffectiveFocalLength : goal.returns-in-EffectiveFocalLength

@@ -1,7 +1,7 @@
 use Prim.Native.Nat.{ℕ, ◌+◌, ◌*◌, ◌/◌, ◌%◌, ◌^◌, ◌≤◌, ◌<◌}
 use Rattle.floats.specs.Steps.{Nears}
 use native.Mathlib.Omega.{arith}
-use Rattle.floats.specs.RootLaws.{nears-most}
+use Rattle.floats.proofs.RootLaws.{nears-most}
 use Rattle.roots.proofs.Scaled.{shifted, scaled}
 use Rattle.roots.proofs.root.scaled_root.Goals as goal
 

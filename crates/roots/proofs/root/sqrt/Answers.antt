@@ -4,7 +4,7 @@ use mathlib.Core.Bool.{true}
 use lib.Ieee.{Float, binary64, fits, of_bits, lt, div}
 use Rattle.floats.specs.Constants.{zero64, one64, nought, infinite, no_number, over-number}
 use Rattle.floats.specs.BasicLaws.{is-so}
-use Rattle.floats.specs.SqrtCases.{Finite, finite-case, infinite-case, zero-case, other-case}
+use Rattle.floats.proofs.SqrtCases.{Finite, finite-case, infinite-case, zero-case, other-case}
 use Rattle.roots.proofs.root.sqrt.Goals as goal
 
 finite : (x : Float) → fits binary64 x ≡ true → lt (of_bits binary64 0) x ≡ true → lt x (div binary64 one64 zero64) ≡ true → Finite x

@@ -6,7 +6,7 @@ use Prim.Native.Nat.{ℕ, ◌<◌, ◌≤◌}
 use native.Mathlib.Omega.{arith}
 use borrow.Author.Tests.{lt-ltb, le-ltb}
 use Rattle.lists.specs.Refusals.{Refusal, refusal, first_refusal, behind}
-use Rattle.merit.specs.CallLaws.{none}
+use Rattle.merit.proofs.CallLaws.{none}
 use Rattle.jobs.specs.declared.types.Job.{Job}
 use Rattle.jobs.specs.Checks.{counts_wrong, job_refusals}
 use Rattle.jobs.specs.Filled.{filled}

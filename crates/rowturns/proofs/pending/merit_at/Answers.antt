@@ -3,7 +3,7 @@ use Prim.Native.Nat.{◌*◌}
 use lib.ListN.{drop, replicate}
 use Rattle.floats.specs.Constants.{zero64}
 use Rattle.held.specs.JobFrom.{surface_count_from}
-use Rattle.heldmerit.specs.HeldOver.{merit-held}
+use Rattle.heldmerit.proofs.HeldOver.{merit-held}
 use Rattle.rowturns.proofs.pending.merit_at.Goals as goal
 
 pub returns : goal.returns

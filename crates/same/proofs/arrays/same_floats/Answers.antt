@@ -6,7 +6,7 @@ use Prim.Native.Nat.{ℕ}
 use native.Mathlib.Omega.{arith}
 use lib.ListN.{length, get_or}
 use Rattle.lists.specs.All.{all_below, all_more}
-use Rattle.alike.specs.SameLaws.{unlike-lengths, unlike, all_alike}
+use Rattle.alike.proofs.SameLaws.{unlike-lengths, unlike, all_alike}
 use lib.Ieee.{Float, nan}
 use Rattle.alike.specs.Same.{same_float}
 use Rattle.std.proofs.Common.{rules}

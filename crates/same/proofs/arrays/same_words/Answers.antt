@@ -8,7 +8,7 @@ use lib.Dec.{eqb}
 use lib.ListN.{length, get_or}
 use borrow.Author.Tests.{eq-eqb, ne_eqb}
 use Rattle.lists.specs.All.{all_below, all_more}
-use Rattle.alike.specs.SameLaws.{unlike-lengths, unlike, all_alike}
+use Rattle.alike.proofs.SameLaws.{unlike-lengths, unlike, all_alike}
 use Rattle.std.proofs.Common.{rules}
 use Rattle.same.proofs.arrays.same_words.Goals as goal
 

@@ -13,7 +13,7 @@ use Rattle.kinds.proofs.Over.{polish-phase}
 use Rattle.held.specs.JobFrom.{operand_count_from, settings_from, variables_from, held_job}
 use Rattle.held.specs.RowFrom.{damped_from, state_from}
 use Rattle.runs.specs.JobMerit.{evaluate_of}
-use Rattle.heldmerit.specs.HeldOver.{merit-held}
+use Rattle.heldmerit.proofs.HeldOver.{merit-held}
 use Rattle.turns.proofs.advance.advance_annealing.Goals as goal
 
 pub returns-then-phase-eq5 : goal.returns-then-phase-eq5

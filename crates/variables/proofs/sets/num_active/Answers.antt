@@ -2,7 +2,7 @@
 use mathlib.Core.Path.{◌≡◌, refl}
 use native.Mathlib.Omega.{arith}
 use Rattle.variables.specs.Active.{enabled_of}
-use Rattle.variables.specs.ActiveLaws.{count-le, count-more, count_past}
+use Rattle.variables.proofs.ActiveLaws.{count-le, count-more, count_past}
 use Rattle.variables.proofs.sets.num_active.Goals as goal
 use Rattle.variables.proofs.sets.num_active.Goals.{else-d, then-d}
 

@@ -1,7 +1,7 @@
 -- `variables::sets::num_active` meets its contract: the loop's invariant: p of the variables passed are enabled. Assumes nothing.
 use Prim.Native.Nat.{◌≤◌, ◌-◌}
 use mathlib.Core.Path.{◌≡◌}
-use Rattle.variables.specs.ActiveLaws.{enabled_count}
+use Rattle.variables.proofs.ActiveLaws.{enabled_count}
 use Rattle.variables.proofs.sets.num_active.Given as goal
 
 abbrev pub invariant-loop-i : goal.invariant-loop-i

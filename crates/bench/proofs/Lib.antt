@@ -1,0 +1,13 @@
+pub mod Rounds
+pub mod Fair
+pub mod DealLaws
+pub mod Accepted
+pub mod CallLaws
+pub mod ListingLaws
+pub mod Pairs
+pub mod Admission
+pub mod Results
+pub mod Places
+pub mod Agreement
+pub mod Dealings
+pub mod Proved

@@ -1,0 +1,2 @@
+pub mod LensLaws
+pub mod ByRecord

@@ -1,0 +1,6 @@
+pub mod NearestRoot
+pub mod OnlyNearest
+pub mod Examples
+pub mod Risen
+pub mod Signs
+pub mod NearestUnits

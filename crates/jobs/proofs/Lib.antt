@@ -1,0 +1,4 @@
+pub mod SameLaws
+pub mod RecordLaws
+pub mod UnusedLaws
+pub mod CheckLaws
