@@ -4,14 +4,14 @@ use Rattle.std.proofs.Common.{eq-eqb}
 use Rattle.std.specs.Float.{nan}
 use Rattle.std.specs.Float.Ieee.Bits.{is_true}
 use Rattle.lists.specs.All.{all_below, all_from}
-use Rattle.text.specs.Numbers.{bits_of}
 use Rattle.optics.specs.declared.types.OpticalSurface.{OpticalSurface}
 use Rattle.optics.specs.Types.{surface_at}
 use Rattle.runs.specs.declared.types.OptimizationResult.{OptimizationResult}
 use Rattle.held.specs.declared.types.HeldRow.{HeldRow}
 use Rattle.bench.specs.declared.types.Bench.{Bench}
 use Rattle.bench.specs.Benches.{held_at}
-use Rattle.alike.specs.Same.{same_float, same_floats, same_words, same_row, same_bench, same_surface, same_result}
+use Rattle.alike.specs.Same.{same_floats, same_words, same_row, same_bench, same_surface, same_result}
+use Rattle.alike.proofs.FloatItself.{float}
 use Rattle.alike.proofs.SameLaws.{all_alike}
 
 and : (p q : Bool) → p ≡ true → q ≡ true → (p && q) ≡ true
@@ -20,9 +20,6 @@ and false q e f = e
 
 all : (alike : ℕ → Bool) (n : ℕ) → ((i : ℕ) → alike i ≡ true) → all_below alike n ≡ true
 all alike n h = is_true (all_below alike n) (all_from alike n (λ i l. rw (h i) tt))
-
-float : (x : Float) → same_float x x ≡ true
-float x = eq-eqb (bits_of x) (bits_of x) refl
 
 floats : (a : List Float) → same_floats a a ≡ true
 floats a = all_alike (length a) (length a) _ refl (all _ (length a) (λ i. float (get_or a i nan)))

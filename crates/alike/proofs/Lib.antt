@@ -1,3 +1,4 @@
 pub mod SameLaws
 pub mod Equal
 pub mod Itself
+pub mod FloatItself

@@ -11,3 +11,4 @@ pub mod Places
 pub mod Agreement
 pub mod Dealings
 pub mod Proved
+pub mod RefusedCalls

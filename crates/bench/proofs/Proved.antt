@@ -55,6 +55,7 @@ use Rattle.bench.proofs.Admission.{Admissible}
 use Rattle.bench.proofs.Places.{KeptRow, not-vacant, undamaged, zero-vacant, held_kept}
 use Rattle.bench.specs.OrderLaws.{ordered-perm, rising-ordered}
 use Rattle.bench.proofs.Agreement.{Agree, kept_at, same_answer, agree-step}
+use Rattle.bench.proofs.RefusedCalls.{refused-changes-nothing}
 use Rattle.bench.proofs.Results.{evaluable, returned}
 use Rattle.bench.proofs.Dealings.{dealt-turns, dealt-rows, most-dealt, how-many, spent, place-next, fair-run, within-run}
 use Rattle.bench.specs.Theorem.{bench_after, SameBench, RowHolds, SamePlace, Returned, ReturnedBy, Demand3}
@@ -165,29 +166,6 @@ other-rows b place n other h = go (turn_number b place n)
     go : (m : ℕ) → row_at (unless_refused m (with_row b place (turned (row_at b place))) b) other ≡ row_at b other
     go zero = ap row_from (get_or-set_other b.rows place other (held_from (turned (row_at b place))) no_row h)
     go (suc m) = refl
-
-number_in : Answer → ℕ
-number_in (number n) = n
-number_in (fetched r) = 0
-number_in (listed l) = 0
-number_in (dealt n) = 0
-
-refused-changes-nothing : (b : Bench) (c : Call) (n : ℕ) → bench_answer b c ≡ number (suc n) → bench_step b c ≡ b
-unfolding bench_answer bench_step number_in left_by
-refused-changes-nothing b (admit place r) n e = stays (Calls.admit_number b place r) n (with_row b place (Rows.admitted (job_from r))) b (ap number_in e)
-refused-changes-nothing b (turn place l) n e = stays (turn_number b place l) n (with_row b place (turned (row_at b place))) b (ap number_in e)
-refused-changes-nothing b (fetch place) n e = refl
-refused-changes-nothing b (release place) n e = stays (Calls.release_number b place) n (with_row b place zero_row) b (ap number_in e)
-refused-changes-nothing b listing n e = refl
-refused-changes-nothing b (deal t l) n e = go (Calls.deal_number b l) e
-  where
-    go : (m : ℕ) → answer_unless m (dealt (length (unless_refused m (served bench_dealer t b) []))) ≡ number (suc n)
-        → left_by served_bench b (unless_refused m (served bench_dealer t b) []) ≡ b
-    go zero e = absurd (none n (ap number_in e))
-      where
-        none : (n : ℕ) → 0 ≡ suc n → ⊥
-        none n h = omega arith
-    go (suc m) e = refl
 
 -- ---- the bound
 turns-bounded : (f : Surfaces → MeritEvaluation) (job : Job) → ReadBack job → (k : ℕ) → (row_after f k job).turns ≤ bound job

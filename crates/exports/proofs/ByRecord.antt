@@ -29,6 +29,7 @@ use Rattle.jobs.specs.Entries.{operand_record, operand_of, no_operand_record, op
 use Rattle.jobs.specs.Kept.{kept_job}
 use Rattle.jobs.proofs.RecordLaws.{job-back, record-known}
 use Rattle.jobs.specs.Records.{record_of, operand_record_at, known_variables, known_operands}
+use Rattle.exports.proofs.AnyRecord.{too_many, all_known, when-known, when-unknown}
 use Rattle.exports.specs.Lenses.{lens_of, function_of, are_operands, evaluate_record_number, evaluated_record, number_of, trace_record_number}
 
 -- of any record of numbers
@@ -53,40 +54,10 @@ pub record ByRecord (j : Job) : Type 0 where
   pub limits_traced : (l : ThicknessLimits) (slot : ℕ) (old : TraceLimits) →
       limits_as old (lens_of (record_of j)) l slot ≡ limits_as old j.prescription l slot
 
--- `evaluate` of more than 12 operands
-too_many : (p : OpticalPrescription) (f : MeritFunction) → 12 < f.operand_count → evaluate_number p f ≡ 1
-too_many p f m = (evaluate-1 p f).1 (no-count (lens_counts_taken p.surface_count p.slot_count) (lt-leb _ _ m), tt)
-  where
-    no-count : (b : Bool) {c : Bool} → c ≡ false → not (b && c) ≡ true
-    no-count true e = ap not e
-    no-count false e = refl
-
 -- ---- any record
 module _ (r : JobRecord) where
-  all_known : ((n : ℕ) → n < r.operand_count → (operand_record_at r n).kind < 8) → known_operands r ≡ true
-  all_known h = is_true (known_operands r) (all_from _ _ (λ n l. lt→ltb _ _ (h n l)))
-
-  when-known : known_operands r ≡ true → evaluate_record_number r ≡ evaluate_number (lens_of r) (function_of r)
-  unfolding evaluate_record_number are_operands
-  when-known k =
-      let number = evaluate_number (lens_of r) (function_of r) in
-      ap (λ (all : Bool). cond (not (ltb 12 r.operand_count) && all) number 1) k ∙ by (ltb 12 r.operand_count) refl
-    where
-      by : (b : Bool) → ltb 12 r.operand_count ≡ b
-          → cond (not b && true) (evaluate_number (lens_of r) (function_of r)) 1 ≡ evaluate_number (lens_of r) (function_of r)
-      by true e = sym (too_many (lens_of r) (function_of r) (ltb-true _ _ e))
-      by false e = refl
-
-  when-unknown : (n : ℕ) → n < r.operand_count → 8 ≤ (operand_record_at r n).kind → evaluate_record_number r ≡ 1
-  unfolding evaluate_record_number are_operands
-  when-unknown n l m = by (ltb 12 r.operand_count) (not-all (λ (i : ℕ). operand_known (operand_record_at r i)) _ n l (le-ltb _ _ m))
-    where
-      by : (b : Bool) {k : Bool} → k ≡ false → cond (not b && k) (evaluate_number (lens_of r) (function_of r)) 1 ≡ 1
-      by true e = refl
-      by false e = rw e
-
   pub by-kinds : ByKinds r
-  by-kinds = record { known = λ h. when-known (all_known h); unknown = when-unknown }
+  by-kinds = record { known = λ h. when-known r (all_known r h); unknown = when-unknown r }
 
 -- ---- the record of a job
 module _ (j : Job) where

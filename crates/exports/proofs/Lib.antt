@@ -1,2 +1,3 @@
 pub mod LensLaws
 pub mod ByRecord
+pub mod AnyRecord

@@ -11,6 +11,7 @@ use Rattle.optics.specs.declared.types.OpticalPrescription.{OpticalPrescription}
 use Rattle.merit.specs.Check.{operands_taken}
 use Rattle.merit.specs.Calls.{unless_refused, evaluate_refusals, evaluate_number, lens_evaluation, evaluated_as}
 use Rattle.merit.specs.Calls.{trace_refusals, trace_number, answer_of, traced_number, trace_answer}
+use Rattle.merit.proofs.Unrefused.{unrefused, number_of}
 use Rattle.merit.specs.Passing.{Evaluable, Traceable}
 use Rattle.merit.specs.declared.types.MeritEvaluation.{MeritEvaluation}
 use Rattle.merit.specs.declared.types.MeritFunction.{MeritFunction}
@@ -88,22 +89,8 @@ Refusing Done = ⊥
 Refusing Failed = ⊥
 Refusing (Refused n) = Unit {0}
 
-abbrev Doing : Traced → Type 0
-Doing Done = Unit {0}
-Doing Failed = ⊥
-Doing (Refused n) = ⊥
-
 not-suc : (n : ℕ) → suc n ≡ 0 → ⊥
 not-suc n e = omega arith
-
--- an answer that refuses nothing, by the count
-unrefused : (count : ℕ) (b : Bool) → ltb count 2 ≡ b → ((cond b Failed Done ≡ Done) ↔ (2 ≤ count)) × ((cond b Failed Done ≡ Failed) ↔ (count < 2))
-unrefused count true e =
-    let few = ltb-true count 2 e in
-    ((λ h. absurd (subst Doing (sym h) tt), λ h. absurd (lt_irrefl 2 (lt_of_le_of_lt h few))), (λ h. few, λ h. refl))
-unrefused count false e =
-    let many = ltb-false count 2 e in
-    ((λ h. many, λ h. refl), (λ h. absurd (subst Doing h tt), λ h. absurd (lt_irrefl 2 (lt_of_le_of_lt many h))))
 
 answer-done : (n count : ℕ) → (answer_of n count ≡ Done) ↔ ((n ≡ 0) × (2 ≤ count))
 answer-done zero count = let by = (unrefused count (ltb count 2) refl).0 in (λ e. (refl, by.0 e), λ h. by.1 h.1)
@@ -116,15 +103,6 @@ answer-failed (suc n) count = (λ e. absurd (subst Refusing e tt), λ h. absurd 
 module _ (p : OpticalPrescription) (slot rows : ℕ) where
   abbrev fitting : Bool
   fitting = lens_counts_taken p.surface_count p.slot_count && eqb rows p.surface_count
-
-  -- an answer's number is the list's
-  number_of : (n count : ℕ) → traced_number (answer_of n count) ≡ n
-  number_of zero count = go (ltb count 2)
-    where
-      go : (b : Bool) → traced_number (cond b Failed Done) ≡ 0
-      go true = refl
-      go false = refl
-  number_of (suc n) count = refl
 
   pub traced-number : traced_number (trace_answer p slot rows) ≡ trace_number p slot rows
   unfolding trace_answer

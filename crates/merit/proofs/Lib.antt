@@ -4,3 +4,4 @@ pub mod OverflowLaws
 pub mod CheckLaws
 pub mod CallLaws
 pub mod UsedLaws
+pub mod Unrefused

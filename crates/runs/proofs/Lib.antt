@@ -37,3 +37,4 @@ pub mod ShorterLoops
 pub mod ShorterLaws
 pub mod OverflowLaws
 pub mod ClearedLaws
+pub mod Merged

@@ -14,23 +14,12 @@ use Rattle.runs.specs.MultiStartRun.{Best, some, the_best, is_lower, merged, tri
 use Rattle.runs.specs.Outcomes.{FiniteAnswer}
 use Rattle.runs.proofs.RunEnds.{damped-descends}
 use Rattle.runs.proofs.MultiStartBase.{NotAbove, same, below, trials-below, multi_start-value}
+use Rattle.runs.proofs.Merged.{merged-result}
 use Rattle.runs.proofs.Prefix.{no-draws, before, trials-from}
 
 at_most : (x y z : Float) → NotAbove x y → T (le y z) → T (le x z)
 at_most x y z (same p) h = subst (λ (t : Float). T (le t z)) (sym p) h
 at_most x y z (below p) h = le_trans x y z (lt→le x y p) h
-
--- what is merged in is not below what comes out
-merged-result : (best result : OptimizationResult) → Number best.final_merit → Number result.final_merit
-    → T (le (merged (some best) result).final_merit result.final_merit)
-unfolding merged is_lower
-merged-result best result p q =
-    go (lt result.final_merit best.final_merit) (not-lt→le result.final_merit best.final_merit q p)
-  where
-    go : (b : Bool) → (T (not b) → T (le best.final_merit result.final_merit))
-        → T (le (cond b result best).final_merit result.final_merit)
-    go true h = le-self result.final_merit q
-    go false h = h tt
 
 module _ (f : Surfaces → MeritEvaluation) (o : Optimizer) (base : Surfaces) where
   -- what trial t, counted from 0, comes to: a damped run from its own start
