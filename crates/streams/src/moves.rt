@@ -3,7 +3,8 @@
 ghost use Rattle.std.specs.Prelude.{◌≡◌, ◌≤◌, true, length};
 
 use crate::console::Console;
-use std::io::{Error, ErrorKind, Print, Read};
+use crate::parts;
+use std::io::{Error, ErrorKind, Print, Read, Write};
 
 // How many bytes were moved, and whether that went well.
 #[derive(Clone, Copy)]
@@ -17,11 +18,28 @@ fn is_passing(error: &Error) -> bool {
     error.kind() == ErrorKind::Interrupted || error.kind() == ErrorKind::WouldBlock
 }
 
+// Writes what the system says of an error, without its number, and answers how many bytes that has.
+fn put_message(error: &Error, text: &mut [u8]) -> usize
+    ensures { result ≤ length text.new }
+{
+    let room = text.len();
+    let mut rest = &mut text[..];
+    let _ = write!(rest, "{error} (");
+    let left = rest.len();
+    let n = room - left.min(room);
+    parts::find(text, 0, n, b'(').saturating_sub(1)
+}
+
 // Says what failed, and why.
-fn failed(console: Console, what: &str, error: Error) -> Moved
+fn failed(console: Console, what: &[u8], error: &Error) -> Moved
     ensures { result.bytes ≡ 0 }
 {
-    let _ = eprintln!(console.errors; "{what}: {error}");
+    let mut text = [0u8; 320];
+    let n = put_message(error, &mut text);
+    let _ = console.errors.write_all(what);
+    let _ = console.errors.write_all(b": ");
+    let _ = console.errors.write_all(&text[..n]);
+    let _ = console.errors.write_all(b"\n");
     Moved {
         bytes: 0,
         is_good: false,
@@ -44,7 +62,7 @@ pub(crate) fn read_some(console: Console, room: &mut [u8]) -> Moved
             }
             Err(error) => {
                 if !is_passing(&error) {
-                    return failed(console, "standard input", error);
+                    return failed(console, b"standard input", &error);
                 }
             }
         }
@@ -71,7 +89,7 @@ fn write_some(console: Console, text: &[u8]) -> Moved
                     is_good: true,
                 };
             }
-            failed(console, "standard output", error)
+            failed(console, b"standard output", &error)
         }
     }
 }
