@@ -67,10 +67,8 @@ pub(crate) fn read_some(console: Console, room: &mut [u8]) -> Moved
             }
         }
     }
-    Moved {
-        bytes: 0,
-        is_good: false,
-    }
+    let used_up = Error::from(ErrorKind::TimedOut);
+    failed(console, b"standard input", &used_up)
 }
 
 // One write: as much as the system takes at the moment.
@@ -78,6 +76,10 @@ fn write_some(console: Console, text: &[u8]) -> Moved
     ensures { result.bytes ≤ length text.now }
 {
     match console.output.write_some(text) {
+        Ok(0) => {
+            let nothing = Error::from(ErrorKind::WriteZero);
+            failed(console, b"standard output", &nothing)
+        }
         Ok(bytes) => Moved {
             bytes: bytes,
             is_good: true,
@@ -99,15 +101,18 @@ pub(crate) fn write_all(console: Console, text: &[u8]) -> bool
     ensures { length text.now ≡ 0 → result ≡ true }
 {
     let mut done = 0;
-    for _ in 0..u64::MAX {
-        if done >= text.len() {
-            return true;
+    let mut tries = u64::MAX;
+    while done < text.len() {
+        if tries == 0 {
+            let used_up = Error::from(ErrorKind::TimedOut);
+            return failed(console, b"standard output", &used_up).is_good;
         }
         let moved = write_some(console, &text[done..]);
         if !moved.is_good {
             return false;
         }
         done += moved.bytes;
+        tries -= 1;
     }
-    done >= text.len()
+    true
 }
