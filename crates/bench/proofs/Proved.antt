@@ -1,5 +1,5 @@
 -- Demand 3 holds. Assumes nothing.
-use Rattle.std.specs.Prelude.{◌≡◌, refl, Bool, true, false, List, [], ◌∷◌, ◌↔◌, ◌≢◌, ℕ, zero, suc, ◌≤◌, ◌<◌, T, length, get_or}
+use Rattle.std.specs.Prelude.{◌≡◌, refl, Bool, true, false, List, [], ◌∷◌, ◌↔◌, ◌≢◌, ℕ, zero, suc, ◌≤◌, ◌<◌, T, get_or}
 use Rattle.std.proofs.Common.{sym, ap, ◌∙◌, subst, true≢false, zero-le, arith, get_or-set_other, ext_get_or}
 use Rattle.std.proofs.lemmas.Bool.{false≢true, not-false}
 use Rattle.lists.specs.Refusals.{first_refusal, answers-none, none_of}
@@ -41,15 +41,12 @@ use Rattle.held.specs.declared.types.HeldRow.{HeldRow}
 use Rattle.bench.specs.declared.types.Bench.{Bench}
 use Rattle.runs.specs.JobMerit.{lens_with, evaluate_of}
 use Rattle.runs.specs.Turn.{turned}
-use Rattle.bench.specs.Dealing.{served}
 use Rattle.bench.specs.Book.{Call, admit, turn, fetch, release, listing, deal, Answer, number, fetched, listed, dealt, answer_unless, Entry, empty, holds}
 use Rattle.bench.specs.Book.{Book, empty_book, entry_at, is_empty, is_finished, result_of, count_of, places_where}
 use Rattle.bench.specs.Book.{run_after, left_by, answers_by, book_answer, book_step, book_after}
 use Rattle.bench.specs.Book as Book
 use Rattle.bench.specs.Benches.{zero_row, no_row, empty_bench, held_at, row_at, with_row}
-use Rattle.bench.specs.Calls.{is_vacant, turn_number, bench_dealer, served_bench, bench_answer, bench_step}
-use Rattle.bench.specs.Calls as Calls
-use Rattle.bench.proofs.CallLaws.{stays}
+use Rattle.bench.specs.Calls.{is_vacant, turn_number, bench_answer, bench_step}
 use Rattle.bench.proofs.Pairs.{none, both, pair-get_or, pair-map}
 use Rattle.bench.proofs.Admission.{Admissible}
 use Rattle.bench.proofs.Places.{KeptRow, not-vacant, undamaged, zero-vacant, held_kept}

@@ -1,5 +1,5 @@
 -- A call that is refused changes nothing: whatever the bench. Assumes nothing.
-use Rattle.std.specs.Prelude.{◌≡◌, refl, List, [], ℕ, zero, suc, length}
+use Rattle.std.specs.Prelude.{◌≡◌, refl, [], ℕ, zero, suc, length}
 use Rattle.std.proofs.Common.{ap, arith}
 use Rattle.merit.specs.Calls.{unless_refused}
 use Rattle.jobs.specs.Kept.{job_from}

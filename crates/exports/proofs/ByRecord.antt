@@ -1,23 +1,19 @@
 -- A lens by itself, asked by the record of a job: each call is the call by value on the job's lens and operands, whatever the job. Assumes nothing.
-use Rattle.std.specs.Prelude.{◌≡◌, Bool, not, ◌&&◌, List, ℕ, ◌<◌, ◌≤◌, get_or}
+use Rattle.std.specs.Prelude.{◌≡◌, Bool, List, ℕ, ◌<◌, ◌≤◌, get_or}
 use Rattle.std.proofs.Math.Path.{refl, sym, ap}
-use Rattle.std.proofs.Common.{◌∙◌, arith, lt→ltb}
-use Rattle.std.proofs.Math.Bool.{true, false, cond}
+use Rattle.std.proofs.Common.{◌∙◌, arith}
+use Rattle.std.proofs.Math.Bool.{true, false}
 use Rattle.std.proofs.Math.Dec.{ltb}
 use Rattle.std.specs.Float.Ieee.Bits.{is_true}
 use Rattle.std.specs.Float.Ieee.Fits.{and_r}
-use borrow.Author.Tests.{ltb-true, ltb-false, le-ltb, lt-leb}
+use borrow.Author.Tests.{ltb-true, ltb-false, le-ltb}
 use Rattle.lists.specs.Tab.{tab, get_or-tab}
-use Rattle.lists.specs.All.{all_below, all_from, not-all}
-use Rattle.optics.specs.Kept.{lens_counts_taken}
-use Rattle.optics.specs.declared.types.OpticalPrescription.{OpticalPrescription}
+use Rattle.lists.specs.All.{all_below}
 use Rattle.optics.specs.declared.types.ParaxialRay.{ParaxialRay}
 use Rattle.merit.specs.declared.types.MeritEvaluation.{MeritEvaluation}
-use Rattle.merit.specs.declared.types.MeritFunction.{MeritFunction}
 use Rattle.merit.specs.declared.types.MeritOperand.{MeritOperand}
 use Rattle.merit.specs.declared.types.Traced.TheVariants.{Done, Failed, Refused}
 use Rattle.merit.specs.Calls.{evaluate_number, evaluated_as, trace_answer, traced_rays}
-use Rattle.merit.proofs.CallLaws.{evaluate-1}
 use Rattle.merit.specs.OperandTable.{no_operand, operand_at}
 use Rattle.merit.proofs.UsedLaws.{SameLens, SameOperands, evaluate-same, evaluated-same}
 use Rattle.intervals.specs.Calls.{limits_number, limits_as}
@@ -25,7 +21,7 @@ use Rattle.intervals.specs.declared.types.ThicknessLimits.{ThicknessLimits}
 use Rattle.intervals.specs.declared.types.TraceLimits.{TraceLimits}
 use Rattle.jobs.specs.declared.types.Job.{Job}
 use Rattle.jobs.specs.declared.types.JobRecord.{JobRecord}
-use Rattle.jobs.specs.Entries.{operand_record, operand_of, no_operand_record, operand_known}
+use Rattle.jobs.specs.Entries.{operand_record, operand_of, no_operand_record}
 use Rattle.jobs.specs.Kept.{kept_job}
 use Rattle.jobs.proofs.RecordLaws.{job-back, record-known}
 use Rattle.jobs.specs.Records.{record_of, operand_record_at, known_variables, known_operands}

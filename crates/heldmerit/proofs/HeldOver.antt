@@ -2,10 +2,9 @@
 use Rattle.std.specs.Prelude.{◌≡◌, List, ℕ, Float}
 use Rattle.std.proofs.Common.{◌∙◌}
 use Rattle.optics.specs.Types.{surface_at, slot_index}
-use Rattle.merit.specs.Evaluation.{counted_total, entries}
 use Rattle.runs.specs.JobMerit.{evaluate_of}
 use Rattle.runs.specs.Run.{Surfaces}
-use Rattle.held.specs.JobFrom.{surface_count_from, operand_count_from, pupil_from, indices_from, operands_from, held_job}
+use Rattle.held.specs.JobFrom.{surface_count_from, pupil_from, indices_from, operands_from, held_job}
 use Rattle.heldmerit.specs.HeldOver.{merit_over, residuals_over}
 use Rattle.heldmerit.proofs.Over.{merit-over, residuals-over}
 

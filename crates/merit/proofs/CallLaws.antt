@@ -1,7 +1,7 @@
 -- What callers may use of the calls' refusals: each number is answered exactly when its cause holds and no cause in front of it does. Assumes nothing.
-use Rattle.std.specs.Prelude.{◌≡◌, Bool, true, false, not, cond, ◌&&◌, ◌↔◌, T, leb, ltb, eqb}
+use Rattle.std.specs.Prelude.{◌≡◌, Bool, true, false, not, ◌&&◌, ◌↔◌, T, leb, ltb, eqb}
 use Rattle.std.proofs.Math.Path.{refl}
-use Rattle.std.proofs.Common.{sym, ◌∙◌, subst, lt_irrefl, lt_of_le_of_lt, arith, ltb-true, ltb-false, leb→le, ltb→lt, eqb→eq}
+use Rattle.std.proofs.Common.{sym, ◌∙◌, subst, arith, leb→le, ltb→lt, eqb→eq}
 use Prim.Native.Nat.{ℕ, zero, suc, ◌≤◌, ◌<◌}
 use Rattle.std.specs.Float.Ieee.Fits.{and_l, and_r}
 use Rattle.lists.specs.Refusals.{NoneOf, before, answers, answers-none, none_of, let_through}

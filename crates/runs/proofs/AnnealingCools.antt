@@ -7,10 +7,9 @@ use Prim.Native.Nat.{ℕ, zero, suc}
 use Rattle.std.specs.Float.Ieee.{binary64, lt, le, sub, mul}
 use Rattle.floats.specs.Constants.{zero64}
 use Rattle.xorshift.specs.Xorshift.{step_of}
-use Rattle.xorshift.specs.Draws.{unit_of}
 use Rattle.merit.specs.declared.types.MeritEvaluation.{MeritEvaluation}
-use Rattle.runs.specs.Run.{Surfaces, Run, bind, value, value-bind}
-use Rattle.runs.specs.AnnealingRun.{Annealer, Walk, with_rng, cooled, if_best, prob, trial_params, after_draws, trial_presc, moved, accepted, if_drawn}
+use Rattle.runs.specs.Run.{Surfaces, bind, value, value-bind}
+use Rattle.runs.specs.AnnealingRun.{Annealer, Walk, with_rng, cooled, if_best, trial_params, after_draws, trial_presc, moved, accepted, if_drawn}
 use Rattle.runs.specs.AnnealingRun.{if_not_risen, judged, tried, steps, cycles}
 use Rattle.runs.specs.AnnealingRow.{walk_first, walk, walk_of, is_cycle, resume_cycles, resume_steps, advance_at}
 use Rattle.runs.specs.State.{State}

@@ -16,7 +16,6 @@ use Rattle.variables.specs.declared.types.Follower.TheVariants.{None}
 use Rattle.variables.specs.declared.types.VariableDef.{VariableDef}
 use Rattle.variables.specs.declared.types.VariableSet.{VariableSet}
 use Rattle.variables.specs.declared.types.VariableType.TheVariants.{Thickness}
-use Rattle.merit.specs.declared.types.MeritEvaluation.{MeritEvaluation}
 use Rattle.jobs.specs.Defaults.{annealing_defaults}
 use Rattle.jobs.specs.Sample.{Unused, n1, n2, n8, n16}
 use Rattle.runs.specs.Run.{Surfaces}

@@ -1,5 +1,5 @@
 -- What a trial's result is merged into is not above it. Assumes nothing.
-use Rattle.std.specs.Prelude.{◌≡◌, Bool, true, false, not, cond, T}
+use Rattle.std.specs.Prelude.{Bool, true, false, not, cond, T}
 use Rattle.std.specs.Float.Ieee.{lt, le}
 use Rattle.floatlaws.specs.Order.{Number, le-self, not-lt→le}
 use Rattle.runs.specs.declared.types.OptimizationResult.{OptimizationResult}

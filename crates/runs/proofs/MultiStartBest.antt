@@ -1,8 +1,8 @@
 -- A multi-start run ends no higher than any of its trials, where every merit is finite. Assumes nothing but what is named.
-use Rattle.std.specs.Prelude.{◌≡◌, Bool, true, false, not, cond, ℕ, zero, suc, ◌+◌, ◌<◌, T, Float}
+use Rattle.std.specs.Prelude.{◌≡◌, ℕ, zero, suc, ◌+◌, ◌<◌, T, Float}
 use Rattle.std.proofs.Common.{sym, ap, ◌∙◌, subst, add-zero, zero-add, arith}
-use Rattle.std.specs.Float.Ieee.{lt, le}
-use Rattle.floatlaws.specs.Order.{Number, le_trans, lt→le, le-self, le-numbers, not-lt→le}
+use Rattle.std.specs.Float.Ieee.{le}
+use Rattle.floatlaws.specs.Order.{Number, le_trans, lt→le, le-numbers}
 use Rattle.floatlaws.specs.CallerLaws.{finite-test, finite_number}
 use Rattle.xorshift.specs.Xorshift.{seeded}
 use Rattle.merit.specs.declared.types.MeritEvaluation.{MeritEvaluation}
@@ -10,7 +10,7 @@ use Rattle.runs.specs.declared.types.OptimizationResult.{OptimizationResult}
 use Rattle.runs.specs.Run.{Surfaces, value, value-bind}
 use Rattle.runs.proofs.Ends.{Ends-value}
 use Rattle.runs.specs.DampedRun.{Optimizer, damped}
-use Rattle.runs.specs.MultiStartRun.{Best, some, the_best, is_lower, merged, trial_presc, trials, multi_start}
+use Rattle.runs.specs.MultiStartRun.{Best, some, the_best, merged, trial_presc, trials, multi_start}
 use Rattle.runs.specs.Outcomes.{FiniteAnswer}
 use Rattle.runs.proofs.RunEnds.{damped-descends}
 use Rattle.runs.proofs.MultiStartBase.{NotAbove, same, below, trials-below, multi_start-value}

@@ -20,7 +20,7 @@ use Rattle.runs.specs.declared.types.DampedState.{DampedState}
 use Rattle.runs.specs.declared.types.OptimizationResult.{OptimizationResult}
 use Rattle.runs.specs.declared.types.Row.{Row}
 use Rattle.runs.specs.Run.{Surfaces}
-use Rattle.runs.specs.MultiStartRun.{some, is_lower, merged, trial_presc, after_draws}
+use Rattle.runs.specs.MultiStartRun.{some, is_lower, merged, trial_presc}
 use Rattle.runs.specs.Zeros.{zero_result}
 use Rattle.runs.specs.AnnealingRun.{Annealer, Walk, with_rng, cooled, if_best, prob, moved, accepted, if_drawn, if_not_risen, judged, trial_params, started}
 use Rattle.runs.specs.AnnealingRun.{polisher}
