@@ -23,14 +23,16 @@ Admitted r = admit_number empty_bench 0 r ≡ 0
 
 -- the lens with a thickness variable
 pub drawings-admitted : (u : Unused) → Admitted (request u damped) × Admitted (request u multi_start) × Admitted (request u annealing)
-unfolding neg lt le is_nan of_bits finite_of all_below within above_zero_up_to surface_taken lens_taken enabled_of variable_taken variables_taken followers_taken kind_taken
+unfolding neg lt le is_nan of_bits finite_of all_below within above_zero_up_to surface_taken lens_taken enabled_of variable_taken variables_taken
+    followers_taken kind_taken
     weight_taken operand_taken from_zero_to dls_taken multi_start_taken annealing_taken zero_row tab admit_number
 drawings-admitted u = (refl, refl, refl)
 
 -- "at most 16 surfaces, 1 to 4 wavelength slots, at most 8 variables and 12 operands": so many are admitted, all numbers and settings at their limits
 pub limits-admitted : Admitted (at_limits 16 4 8 12 Limits.damped) × Admitted (at_limits 16 4 8 12 Limits.multi_start)
     × Admitted (at_limits 16 4 8 12 Limits.annealing)
-unfolding neg lt le is_nan of_bits finite_of all_below within above_zero_up_to surface_taken lens_taken enabled_of variable_taken variables_taken followers_taken kind_taken
+unfolding neg lt le is_nan of_bits finite_of all_below within above_zero_up_to surface_taken lens_taken enabled_of variable_taken variables_taken
+    followers_taken kind_taken
     weight_taken operand_taken from_zero_to dls_taken multi_start_taken annealing_taken zero_row tab admit_number
 limits-admitted = (refl, refl, refl)
 

@@ -17,7 +17,8 @@ use Rattle.bench.specs.declared.types.Bench.{Bench}
 use Rattle.bench.specs.Refusals.{no_place, scratch_short, admit_refusals}
 use Rattle.bench.specs.Dealing.{served}
 use Rattle.bench.specs.Benches.{row_at}
-use Rattle.bench.specs.Calls.{is_vacant, admit_number, turn_refusals, turn_number, scratch_after, fetch_refusals, fetch_number, fetched_result, release_refusals}
+use Rattle.bench.specs.Calls.{is_vacant, admit_number, turn_refusals, turn_number, scratch_after, fetch_refusals, fetch_number, fetched_result}
+use Rattle.bench.specs.Calls.{release_refusals}
 use Rattle.bench.specs.Calls.{release_number, any_damaged, deal_refusals, deal_number, served_in, dealt_scratch, cleared_by, bench_dealer}
 
 -- "Scratch from 128 upward is taken, and 9 is now given below 128." (request 11)

@@ -20,7 +20,8 @@ use Rattle.bench.specs.Refusals.{no_place, scratch_short}
 use Rattle.bench.specs.Dealing.{place_after, nowhere, next_served, served, Throughout, next_after, times}
 use Rattle.bench.specs.Book.{Call, admit, turn, fetch, release, listing, deal, number, dealt, answer_unless, left_by, answers_by}
 use Rattle.bench.specs.Benches.{no_row, row_at, with_row}
-use Rattle.bench.specs.Calls.{is_vacant, is_live, admit_number, turn_refusals, turn_number, release_number, deal_refusals, deal_number, bench_dealer, served_bench}
+use Rattle.bench.specs.Calls.{is_vacant, is_live, admit_number, turn_refusals, turn_number, release_number, deal_refusals, deal_number, bench_dealer}
+use Rattle.bench.specs.Calls.{served_bench}
 use Rattle.bench.specs.Calls.{served_in, bench_answer, bench_step}
 use Rattle.bench.proofs.Rounds.{split, Says, found}
 use Rattle.bench.proofs.Fair.{fair, within-four}

@@ -124,12 +124,15 @@ entry-said r s (holds i m) (holds j n) p h g =
     λ t. holds ((sym h.same_job ∙ ap job_of_row p ∙ g.same_job) t) ((sym h.turns ∙ ap (λ (r : Row). r.turns) p ∙ g.turns) t)
 
 module _ (some others : List Call) where
-  entries-equal : SameBench (bench_after some) (bench_after others) → (place : ℕ) → place < 4 → entry_at (book_after some) place ≡ entry_at (book_after others) place
+  entries-equal : SameBench (bench_after some) (bench_after others) → (place : ℕ) → place < 4
+      → entry_at (book_after some) place ≡ entry_at (book_after others) place
   entries-equal p place h =
-      entry-said _ _ (entry_at (book_after some) place) (entry_at (book_after others) place) (ap (λ (rows : List HeldRow). row_from (get_or rows place no_row)) p)
+      entry-said _ _ (entry_at (book_after some) place) (entry_at (book_after others) place)
+      (ap (λ (rows : List HeldRow). row_from (get_or rows place no_row)) p)
       (same_place some place h) (same_place others place h)
 
-  rows-equal : ((place : ℕ) → place < 4 → entry_at (book_after some) place ≡ entry_at (book_after others) place) → SameBench (bench_after some) (bench_after others)
+  rows-equal : ((place : ℕ) → place < 4 → entry_at (book_after some) place ≡ entry_at (book_after others) place)
+      → SameBench (bench_after some) (bench_after others)
   rows-equal q =
       ext_get_or no_row (bench_after some).rows (bench_after others).rows ((agree_after some).four ∙ sym (agree_after others).four) λ place h.
       at place (subst (λ (n : ℕ). place < n) (agree_after some).four h)
@@ -152,7 +155,8 @@ same-jobs a b e =
 
 -- ---- one call on any bench
 one-merit : (b : Bench) (place n : ℕ) → turn_number b place n ≡ 0
-    → bench_step b (turn place n) ≡ with_row b place (Rows.advance (row_at b place) (evaluate_of (job_of_row (row_at b place)) (pending_surfaces (row_at b place))))
+    → bench_step b (turn place n) ≡ with_row b place
+    (Rows.advance (row_at b place) (evaluate_of (job_of_row (row_at b place)) (pending_surfaces (row_at b place))))
 unfolding bench_step turned
 one-merit b place n e = ap (λ (m : ℕ). unless_refused m (with_row b place (turned (row_at b place))) b) e
 
@@ -170,7 +174,8 @@ unfolding row_after turned_unless
 turns-bounded f job back zero = subst (λ (n : ℕ). n ≤ bound job) (sym (turns-admitted job)) zero-le
 turns-bounded f job back (suc k) = go (Rows.is_finished (row_after f k job)) refl (turns-bounded f job back k)
   where
-    go : (b : Bool) → Rows.is_finished (row_after f k job) ≡ b → (row_after f k job).turns ≤ bound job → (turned_unless f b (row_after f k job)).turns ≤ bound job
+    go : (b : Bool) → Rows.is_finished (row_after f k job) ≡ b → (row_after f k job).turns ≤ bound job
+        → (turned_unless f b (row_after f k job)).turns ≤ bound job
     go true e h = h
     go false e h =
         subst (λ (n : ℕ). n ≤ bound job) (sym (turns-advance (row_after f k job) (f (pending_surfaces (row_after f k job))) ∙ ap suc (turns-after f job k e)))

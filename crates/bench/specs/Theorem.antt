@@ -125,7 +125,8 @@ pub record Demand3 : Type 0 where
   -- ---- "In every such list a working turn works out just one merit"
   -- that of the surfaces pending, and makes the new row of it, on any bench whatever; no other row changes
   pub one_merit : (b : Bench) (place length : ℕ) → turn_number b place length ≡ 0 →
-      bench_step b (turn place length) ≡ with_row b place (advance (row_at b place) (evaluate_of (job_of_row (row_at b place)) (pending_surfaces (row_at b place))))
+      bench_step b (turn place length)
+      ≡ with_row b place (advance (row_at b place) (evaluate_of (job_of_row (row_at b place)) (pending_surfaces (row_at b place))))
   pub others : (b : Bench) (place length other : ℕ) → other ≢ place → row_at (bench_step b (turn place length)) other ≡ row_at b other
   -- "a refused call changes nothing"
   pub refused : (b : Bench) (c : Call) (n : ℕ) → bench_answer b c ≡ number (suc n) → bench_step b c ≡ b
@@ -167,7 +168,8 @@ pub record Demand3 : Type 0 where
   -- "and answers how many were dealt"
   pub how_many : (b : Bench) (n scratch : ℕ) → deal_number b scratch ≡ 0 → bench_answer b (deal n scratch) ≡ dealt (length (served_in b n scratch))
   -- "two jobs unfinished and undamaged throughout differ by at most one in the turns dealt to them"
-  pub fair : (b : Bench) (ds : List (ℕ × ℕ)) (i j : ℕ) → i < 4 → j < 4 → Throughout bench_dealer i b (served_by b ds) → Throughout bench_dealer j b (served_by b ds)
+  pub fair : (b : Bench) (ds : List (ℕ × ℕ)) (i j : ℕ) → i < 4 → j < 4 → Throughout bench_dealer i b (served_by b ds)
+      → Throughout bench_dealer j b (served_by b ds)
       → times i (served_by b ds) ≤ times j (served_by b ds) + 1
   -- "an unfinished, undamaged job is served within four turns dealt": whichever turns come before, it is among the next four
   pub within_four : (b : Bench) (ds : List (ℕ × ℕ)) (before after : List ℕ) (i : ℕ) → i < 4 → served_by b ds ≡ before ++ after

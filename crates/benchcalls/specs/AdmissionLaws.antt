@@ -16,7 +16,8 @@ use Rattle.benchcalls.specs.Admission.{record_number, record_row_of}
 use Rattle.benchcalls.specs.Placed.{same_row, admit-past, admitted-there}
 
 module _ (b : Bench) (place : ℕ) where
-  pub record-past : 3 < place → (q : RequestRecord) (r : ℕ) → r ≡ record_number q place → (r ≡ admit_record_number b place q) × (b ≡ admitted_record_bench b place q)
+  pub record-past : 3 < place → (q : RequestRecord) (r : ℕ) → r ≡ record_number q place → (r ≡ admit_record_number b place q)
+      × (b ≡ admitted_record_bench b place q)
   unfolding record_number
   record-past h q r e = by (is_request q) e
     where

@@ -19,7 +19,8 @@ use Rattle.bench.specs.Dealing.{place_after, Found, at, nowhere, first_from, nex
 use Rattle.bench.proofs.Rounds.{after_small}
 use Rattle.bench.specs.Book.{left_by}
 use Rattle.bench.specs.Benches.{row_at, with_row}
-use Rattle.bench.specs.Calls.{is_live, turn_number, turned_bench, scratch_after, deal_number, bench_dealer, served_bench, served_in, dealt_bench, dealt_of, cleared_by}
+use Rattle.bench.specs.Calls.{is_live, turn_number, turned_bench, scratch_after, deal_number, bench_dealer, served_bench, served_in, dealt_bench, dealt_of}
+use Rattle.bench.specs.Calls.{cleared_by}
 use Rattle.bench.specs.Calls.{dealt_scratch}
 use Rattle.bench.proofs.Dealings.{with_next, starts-below, long, turn-taken, turn-live}
 use Rattle.dealing.specs.declared.types.Round.{Round}

@@ -14,8 +14,10 @@ use Rattle.variables.specs.Values.{extracted}
 use Rattle.merit.specs.declared.types.MeritEvaluation.{MeritEvaluation}
 use Rattle.runs.specs.declared.types.DampedState.{DampedState}
 use Rattle.runs.specs.Run.{Surfaces}
-use Rattle.runs.specs.DampedRun.{Optimizer, Current, on, settled, started, raised, with_differences, is_stationary, is_reduction, rel_improvement, moved, accepted}
-use Rattle.runs.specs.DampedRow.{Phase, first, minus, candidate, finished, phase_of, current_of, at_plus, ended, resume_attempts, resume_stationary, resume_columns}
+use Rattle.runs.specs.DampedRun.{Optimizer, Current, on, settled, started, raised, with_differences, is_stationary, is_reduction, rel_improvement, moved}
+use Rattle.runs.specs.DampedRun.{accepted}
+use Rattle.runs.specs.DampedRow.{Phase, first, minus, candidate, finished, phase_of, current_of, at_plus, ended, resume_attempts, resume_stationary}
+use Rattle.runs.specs.DampedRow.{resume_columns}
 use Rattle.runs.specs.DampedRow.{resume_after, resume_reduced, pending_at, advance_at, pending, advance, resume_iterations}
 use Rattle.dls.specs.DampedSteps.{with_jacobian, with_current, relative_gain, iteration_entered}
 

@@ -14,7 +14,8 @@ use Rattle.exports.specs.Lenses.{lens_of, function_of, are_operands, evaluate_re
 -- ---- by value
 module _ (j : JobRecord) where
   with_number : (n : ℕ) → evaluate_record_number j ≡ n →
-      ◌≡◌ {A = Evaluated} (record { evaluation = unless_refused n (lens_evaluation (lens_of j) (function_of j)) zero_evaluation; number = n }) (record_evaluated j)
+      ◌≡◌ {A = Evaluated} (record { evaluation = unless_refused n (lens_evaluation (lens_of j) (function_of j)) zero_evaluation; number = n })
+      (record_evaluated j)
   unfolding record_evaluated
   with_number n e = λ i. record { evaluation = unless_refused (sym e i) (lens_evaluation (lens_of j) (function_of j)) zero_evaluation; number = sym e i }
 

@@ -1,6 +1,8 @@
 -- The square root of `floats` is the nearest `f64`: `nearest`. Assumes nothing.
 use Rattle.std.specs.Prelude.{◌≡◌, refl, ℕ, zero, suc, ◌+◌, ◌-◌, ◌*◌, ◌/◌, ◌%◌, ◌^◌, ◌≤◌, ◌<◌, Bool, true, false, not, ℤ, T, ltb, Float}
-use Rattle.std.proofs.Common.{sym, ap, ◌∙◌, subst, le_trans, le_of_eq, lt_of_lt_of_le, lt_irrefl, zero-lt-suc, zero-mul, mul-pos, mul_assoc, mul_comm, mul_right_comm, mul-le-mul, mul-le-mul_right, lt_of_mul-lt-mul_right, mul-lt-mul_of_pos_right, arith, true≢false, ltb→lt, lt→ltb, nltb→le, pow-add, pow_pos, shl_lt}
+use Rattle.std.proofs.Common.{sym, ap, ◌∙◌, subst, le_trans, le_of_eq, lt_of_lt_of_le, lt_irrefl, zero-lt-suc, zero-mul, mul-pos, mul_assoc, mul_comm}
+use Rattle.std.proofs.Common.{mul_right_comm, mul-le-mul, mul-le-mul_right, lt_of_mul-lt-mul_right, mul-lt-mul_of_pos_right, arith, true≢false, ltb→lt, lt→ltb}
+use Rattle.std.proofs.Common.{nltb→le, pow-add, pow_pos, shl_lt}
 use Rattle.std.specs.Float.{nan, inf, fin, binary64}
 use Rattle.std.specs.Float.Ieee.{up, down, size, odd, lt, fits}
 use Rattle.std.specs.Float.Ieee.Digits.{size-lt, size_reaches, size-le}

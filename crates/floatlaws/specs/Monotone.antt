@@ -1,7 +1,8 @@
 -- The order of floats through the rounded operations: a sum grows with both terms, a product with a factor by the other's sign, a quotient by a positive
 -- divisor with the dividend. Assumes nothing.
 use Rattle.std.specs.Prelude.{◌≡◌, refl, ◌⊎◌, ℕ, ◌+◌, ◌-◌, ◌*◌, ◌≤◌, ◌<◌, Bool, true, false, not, cond, T, ltb, eqb, Float}
-use Rattle.std.proofs.Common.{sym, ap, ap₂, ◌∙◌, subst, inl, inr, le_trans, le_of_eq, mul-pos, mul_comm, mul-le-mul_right, add-mul, zero-mul, mul-zero, add-zero, zero-add, arith, ltb→lt, nltb→le, eqb→eq}
+use Rattle.std.proofs.Common.{sym, ap, ap₂, ◌∙◌, subst, inl, inr, le_trans, le_of_eq, mul-pos, mul_comm, mul-le-mul_right, add-mul, zero-mul, mul-zero}
+use Rattle.std.proofs.Common.{add-zero, zero-add, arith, ltb→lt, nltb→le, eqb→eq}
 use Rattle.std.proofs.Math.Nat.{mul-mul-mul_comm}
 use Rattle.std.specs.Float.{nan, inf, fin, Format}
 use Rattle.std.specs.Float.Ieee.{up, down, neg, le, round, sum, add, sub, mul, div, unlike}

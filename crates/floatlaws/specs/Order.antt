@@ -1,5 +1,6 @@
 -- `lt` and `le` on floats: transitive, total where there is no NaN. Assumes nothing.
-use Rattle.std.proofs.Common.{sym, inl, inr, le_trans as nat-le-trans, le_of_eq, add-mul, le_of_mul-le-mul_right, mul_right_comm, lt_of_mul-lt-mul_right, mul-lt-mul_of_pos_right, mul-pos, arith, ltb→lt, lt→ltb, nltb→le}
+use Rattle.std.proofs.Common.{sym, inl, inr, le_trans as nat-le-trans, le_of_eq, add-mul, le_of_mul-le-mul_right, mul_right_comm, lt_of_mul-lt-mul_right}
+use Rattle.std.proofs.Common.{mul-lt-mul_of_pos_right, mul-pos, arith, ltb→lt, lt→ltb, nltb→le}
 use Rattle.std.specs.Prelude.{◌⊎◌, Bool, true, false, not, ◌&&◌, ◌||◌, ℕ, zero, suc, ◌+◌, ◌*◌, ◌≤◌, ◌<◌, T, Float}
 use Rattle.std.specs.Bool.{beq}
 use Rattle.std.specs.Float.{nan, inf, fin}

@@ -63,7 +63,8 @@ pub bits-number : (x : Float) → T (fits binary64 x) → T (not (nan_bits binar
 bits-number x t = elim (number-or-nan x) [
   | inl p ↦ subst (λ (y : Float). T (not (nan_bits binary64 (bits y)))) (sym p) (unfold nan_bits to_bits of_bits eq in tt)
   | inr q ↦
-      subst (λ (b : Bool). T (not (nan_bits binary64 (to_bits binary64 (get_or (of_bits binary64 0 ∷ x ∷ []) (bool_byte b) nan) % 9223372036854775808)))) (sym q.0)
+      subst (λ (b : Bool). T (not (nan_bits binary64 (to_bits binary64 (get_or (of_bits binary64 0 ∷ x ∷ []) (bool_byte b) nan) % 9223372036854775808))))
+      (sym q.0)
       (subst (λ (b : Bool). T (not b)) (sym (nan_bits_is binary64 (to_bits binary64 x % 9223372036854775808)))
       (subst (λ (y : Float). T (not (is_nan y))) (sym (cleared x t q.1)) (magnitude-number x q.1)))
 ]

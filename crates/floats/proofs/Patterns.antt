@@ -2,7 +2,10 @@
 use Rattle.std.specs.Float.{inf}
 use Rattle.std.specs.Float.{nan}
 use Rattle.std.specs.Prelude.{◌≡◌, refl, Bool, true, not, ◌&&◌, cond, ℤ, pos, negsuc, T, ltb, leb, eqb, Float}
-use Rattle.std.proofs.Common.{sym, ◌∙◌, subst, inl, inr, le_trans, le_of_eq, le_antisymm, lt_of_not-le, lt_of_lt_of_le, lt_of_le_of_lt, lt_irrefl, eq-or-lt_of_le, zero-lt-suc, zero-add, mul-one, mul-pos, mul_assoc, mul_right_comm, mul-le-mul_right, mul-lt-mul_of_pos_right, lt_of_mul-lt-mul_right, mul-div_cancel, le-div_iff_mul-le, div-one, pow-suc, true≢false, lt→ltb, ltb→lt, leb→le, nltb→le, pow-add, pow_pos, pow_mono, shl_lt}
+use Rattle.std.proofs.Common.{sym, ◌∙◌, subst, inl, inr, le_trans, le_of_eq, le_antisymm, lt_of_not-le, lt_of_lt_of_le, lt_of_le_of_lt, lt_irrefl}
+use Rattle.std.proofs.Common.{eq-or-lt_of_le, zero-lt-suc, zero-add, mul-one, mul-pos, mul_assoc, mul_right_comm, mul-le-mul_right, mul-lt-mul_of_pos_right}
+use Rattle.std.proofs.Common.{lt_of_mul-lt-mul_right, mul-div_cancel, le-div_iff_mul-le, div-one, pow-suc, true≢false, lt→ltb, ltb→lt, leb→le, nltb→le, pow-add}
+use Rattle.std.proofs.Common.{pow_pos, pow_mono, shl_lt}
 use Rattle.std.proofs.Math.Path.{ap}
 use Prim.Native.Nat.{ℕ, zero, suc, ◌+◌, ◌-◌, ◌*◌, ◌/◌, ◌%◌, ◌^◌, ◌≤◌, ◌<◌}
 use native.Mathlib.Omega.{arith}

@@ -7,7 +7,8 @@ use Rattle.variables.specs.Active.{no_variable, variable_at}
 use Rattle.merit.specs.OperandTable.{no_operand, operand_at}
 use Rattle.jobs.specs.Entries.{variable_of, operand_of, no_variable_record, no_operand_record}
 use Rattle.jobs.specs.Records.{variable_record_at, operand_record_at}
-use Rattle.held.specs.JobFrom.{indices_from, variable_record_from, operand_record_from, variable_records_from, operand_records_from, job_record_from, variables_from}
+use Rattle.held.specs.JobFrom.{indices_from, variable_record_from, operand_record_from, variable_records_from, operand_records_from, job_record_from}
+use Rattle.held.specs.JobFrom.{variables_from}
 use Rattle.held.specs.JobFrom.{operands_from}
 use Rattle.held.specs.Standing.{whole}
 
@@ -25,7 +26,8 @@ module _ (counts : List ℕ) (numbers : List Float) where
       get_or-tab (λ (k : ℕ). variable_of (variable_record_at (job_record_from counts numbers) k)) 8 i no_variable h ∙ ap variable_of (variable-record i h)
 
   pub operand-from : (n : ℕ) → n < 12 → operand_at (operands_from counts numbers) n ≡ operand_of (operand_record_from counts numbers n)
-  operand-from n h = get_or-tab (λ (k : ℕ). operand_of (operand_record_at (job_record_from counts numbers) k)) 12 n no_operand h ∙ ap operand_of (operand-record n h)
+  operand-from n h = get_or-tab (λ (k : ℕ). operand_of (operand_record_at (job_record_from counts numbers) k)) 12 n no_operand h
+      ∙ ap operand_of (operand-record n h)
 
 -- the indices are a part of the numbers
 pub indices-part : (numbers : List Float) → 195 ≤ length numbers → take 64 (drop 64 numbers) ≡ indices_from numbers

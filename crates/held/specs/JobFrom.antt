@@ -17,7 +17,8 @@ use Rattle.held.specs.Places.{surface_count_at, slot_count_at, variable_count_at
 use Rattle.held.specs.Places.{max_cooling_cycles_at, seed_at}
 use Rattle.held.specs.Places.{variable_kind_at, variable_surface_at, enabled_at, follows_at, follower_at, min_value_at, max_value_at, step_size_at}
 use Rattle.held.specs.Places.{operand_kind_at, slot_or_surface_at, limit_at, target_at, weight_at}
-use Rattle.held.specs.Places.{index_at, pupil_at, initial_damping_at, relative_merit_tolerance_at, gradient_tolerance_at, relative_step_at, initial_temperature_at}
+use Rattle.held.specs.Places.{index_at, pupil_at, initial_damping_at, relative_merit_tolerance_at, gradient_tolerance_at, relative_step_at}
+use Rattle.held.specs.Places.{initial_temperature_at}
 use Rattle.held.specs.Places.{cooling_rate_at}
 
 -- the sixteen surfaces that stand in flat numbers

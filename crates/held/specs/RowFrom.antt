@@ -105,7 +105,8 @@ result_from b surfaces values residuals = record {
   converged = b.converged;
 }
 
-abbrev pub state_from : RowHead → (surfaces jacobian values residuals plus_residuals params candidate best_surfaces best_values best_residuals : List Float) → State
+abbrev pub state_from : RowHead → (surfaces jacobian values residuals plus_residuals params candidate best_surfaces best_values best_residuals : List Float)
+    → State
 state_from h surfaces jacobian values residuals plus_residuals params candidate best_surfaces best_values best_residuals = record {
   damped = damped_from h.damped surfaces jacobian values residuals plus_residuals params candidate;
   best = result_from h.best best_surfaces best_values best_residuals;

@@ -62,7 +62,8 @@ module _ (r : JobRecord) where
       ∷ []
 
   unfoldable pub held_counts : List ℕ
-  held_counts = (first_counts ++ in_turn (λ (i : ℕ). variable_counts (variable_record_at r i)) 8) ++ in_turn (λ (n : ℕ). operand_counts (operand_record_at r n)) 12
+  held_counts = (first_counts ++ in_turn (λ (i : ℕ). variable_counts (variable_record_at r i)) 8)
+      ++ in_turn (λ (n : ℕ). operand_counts (operand_record_at r n)) 12
 
   unfoldable pub held_numbers : List Float
   held_numbers =

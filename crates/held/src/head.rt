@@ -1,6 +1,7 @@
 // The numbers of a row that are no arrays: read one by one or together, and written back.
 ghost use Rattle.std.specs.Prelude.{◌≡◌};
-ghost use Rattle.held.specs.RowFrom.{kind_from, turns_from, phase_from, iteration_from, column_from, attempt_from, trial_from, cycle_from, step_from, head_from};
+ghost use Rattle.held.specs.RowFrom.{kind_from, turns_from, phase_from, iteration_from, column_from, attempt_from, trial_from, cycle_from, step_from};
+ghost use Rattle.held.specs.RowFrom.{head_from};
 ghost use Rattle.held.specs.Written.{held_words, held_scalars};
 
 use crate::places;

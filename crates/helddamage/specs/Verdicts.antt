@@ -15,7 +15,8 @@ use Rattle.jobs.specs.Records.{dls_config, multi_start_config, annealing_config,
 use Rattle.runs.specs.Rows.{is_finished, finished_by, bound}
 use Rattle.runs.specs.Damage.{is_kind, state_sound, job_sound, turns_sound, damaged}
 use Rattle.kinds.specs.Limits.{CountsWithin}
-use Rattle.held.specs.JobFrom.{surface_count_from, slot_count_from, operand_count_from, settings_from, job_record_from, held_job, prescription_from, variables_from}
+use Rattle.held.specs.JobFrom.{surface_count_from, slot_count_from, operand_count_from, settings_from, job_record_from, held_job, prescription_from}
+use Rattle.held.specs.JobFrom.{variables_from}
 use Rattle.held.specs.JobFrom.{operands_from}
 use Rattle.held.specs.RowFrom.{kind_from, turns_from, row_from}
 use Rattle.helddamage.specs.Others.{Others, held_with, state_with}
@@ -78,7 +79,8 @@ module _ (counts : List ℕ) (numbers : List Float) (kind : ℕ) where
   pub record_is : record_taken kind (job_record_from counts numbers)
       ≡ counts_taken (held_job counts numbers kind)
       && lens_taken (prescription_from counts numbers)
-      && (variables_taken (surface_count_from counts) (variables_from counts numbers) && followers_taken (surface_count_from counts) (variables_from counts numbers)
+      && (variables_taken (surface_count_from counts) (variables_from counts numbers)
+      && followers_taken (surface_count_from counts) (variables_from counts numbers)
       && known_variables (job_record_from counts numbers))
       && (operands_taken (slot_count_from counts) (operands_from counts numbers) && known_operands (job_record_from counts numbers))
       && settings_taken (method kind (settings_from counts numbers))
@@ -129,7 +131,8 @@ module _ (words counts : List ℕ) (numbers surfaces best : List Float) (o : Oth
   judged = damaged (row_from (held_with words counts numbers surfaces best o))
 
   abbrev pub sound_state : Bool
-  sound_state = state_sound (method (kind_from words) (settings_from counts numbers)) (held_job counts numbers (kind_from words)) (state_with words surfaces best o)
+  sound_state = state_sound (method (kind_from words) (settings_from counts numbers)) (held_job counts numbers (kind_from words))
+      (state_with words surfaces best o)
 
   abbrev pub ended : Bool
   ended = finished_by (method (kind_from words) (settings_from counts numbers)) (state_with words surfaces best o)

@@ -6,7 +6,8 @@ ghost use Rattle.variables.specs.Taken.{variable_taken, variables_taken, followe
 ghost use Rattle.merit.specs.Check.{operands_taken};
 ghost use Rattle.jobs.specs.Checks.{multi_start_taken, settings_taken, counts_taken, record_taken};
 ghost use Rattle.jobs.specs.Records.{multi_start_config, method, known_variables, known_operands};
-ghost use Rattle.held.specs.JobFrom.{standing, surface_count_from, slot_count_from, variable_count_from, operand_count_from, settings_from, job_record_from, held_job};
+ghost use Rattle.held.specs.JobFrom.{standing, surface_count_from, slot_count_from, variable_count_from, operand_count_from, settings_from, job_record_from};
+ghost use Rattle.held.specs.JobFrom.{held_job};
 ghost use Rattle.held.specs.JobFrom.{prescription_from, variables_from, operands_from};
 
 use variables::VariableDef;

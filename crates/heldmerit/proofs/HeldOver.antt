@@ -19,4 +19,5 @@ module _ (counts : List ℕ) (numbers values : List Float) where
       → values ≡ (evaluate_of (held_job counts numbers kind) s).values → r ≡ (evaluate_of (held_job counts numbers kind) s).residuals
   unfolding residuals_over evaluate_of
   residuals-held e kind s w =
-      e ∙ residuals-over (surface_at s) (slot_index (indices_from numbers)) (pupil_from numbers) (surface_count_from counts) (operands_from counts numbers) values w
+      e ∙ residuals-over (surface_at s) (slot_index (indices_from numbers)) (pupil_from numbers) (surface_count_from counts)
+      (operands_from counts numbers) values w

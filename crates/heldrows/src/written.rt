@@ -6,7 +6,8 @@ ghost use Rattle.lists.specs.Tab.{tab};
 ghost use Rattle.optics.specs.Flat.{laid_flat};
 ghost use Rattle.jobs.specs.Entries.{no_variable_record, no_operand_record};
 ghost use Rattle.held.specs.Places.{variable_kind_at, operand_kind_at, min_value_at, limit_at, pupil_at};
-ghost use Rattle.held.specs.Written.{in_turn, variable_counts, operand_counts, variable_numbers, operand_numbers, first_counts, pupil_and_settings, held_counts};
+ghost use Rattle.held.specs.Written.{in_turn, variable_counts, operand_counts, variable_numbers, operand_numbers, first_counts, pupil_and_settings};
+ghost use Rattle.held.specs.Written.{held_counts};
 ghost use Rattle.held.specs.Written.{held_numbers};
 
 use crate::types::HeldJob;

@@ -71,7 +71,8 @@ module _ (p : OpticalPrescription) (l : ThicknessLimits) (slot : ℕ) (old : Tra
     pub nominal_track : number ≡ 0 → Nominal p l → written.track ≡ exactly (track_of p)
     -- "crossed limits" are those that no thickness lies inside; limits that meet, also as -0.0 and +0.0, are not crossed
     pub crossed_empty : (k : ℕ) → T (crossed (thickness_at l k)) → (x : Float) → Between (thickness_at l k) x → ⊥
-    pub uncrossed_holds : (k : ℕ) → T (ends_finite (thickness_at l k)) → T (not (crossed (thickness_at l k))) → Between (thickness_at l k) (thickness_at l k).low
+    pub uncrossed_holds : (k : ℕ) → T (ends_finite (thickness_at l k)) → T (not (crossed (thickness_at l k)))
+        → Between (thickness_at l k) (thickness_at l k).low
     -- refused: nothing is written
     pub kept : 0 < number → written ≡ old
     -- "give 19, after all that a trace by itself checks"

@@ -22,7 +22,8 @@ use Rattle.jobs.specs.declared.types.Method.{Method}
 use Rattle.jobs.specs.declared.types.Method.TheVariants.{Damped, MultiStart, Annealing}
 use Rattle.jobs.specs.Filled.{filled}
 use Rattle.jobs.specs.Kept.{kept_job, job_from}
-use Rattle.jobs.specs.Entries.{variable_kind, variable_type, one_if, variable_record, variable_of, operand_kind, slot_or_surface, limit_of, slot_type, surface_type}
+use Rattle.jobs.specs.Entries.{variable_kind, variable_type, one_if, variable_record, variable_of, operand_kind, slot_or_surface, limit_of, slot_type}
+use Rattle.jobs.specs.Entries.{surface_type}
 use Rattle.jobs.specs.Entries.{follows_of, follower_surface, follower_of}
 use Rattle.jobs.specs.Entries.{operand_type, operand_record, operand_of, no_variable_record, no_operand_record, variable_known, operand_known}
 use Rattle.jobs.specs.Records.{method_kind, settings_record, method, kind_of, record_of, variable_record_at, operand_record_at, job_of, known_kinds}

@@ -1,6 +1,7 @@
 // A job in numbers alone, as a row holds it, and read back.
 ghost use Rattle.std.specs.Prelude.{◌≡◌, ◌≤◌};
-ghost use Rattle.jobs.specs.Records.{variable_records, operand_records, variables_of, operands_of, dls_settings, annealing_settings, settings_record, dls_config};
+ghost use Rattle.jobs.specs.Records.{variable_records, operand_records, variables_of, operands_of, dls_settings, annealing_settings, settings_record};
+ghost use Rattle.jobs.specs.Records.{dls_config};
 ghost use Rattle.jobs.specs.Records.{multi_start_config, annealing_config, method, record_of, job_of, known_variables, known_operands, known_kinds};
 
 use crate::types::{

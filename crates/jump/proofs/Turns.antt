@@ -44,7 +44,8 @@ module _ (t : List ℕ) (k : ℕ) (inside : 64 * k + 64 ≤ length t) where
       ap (λ (l : List ℕ). apply l bits) (drop-cons (row k t) i 0 (omega (arith, long)))
       ∙ ap (λ (w : ℕ). taken (bits % 2) w (apply (drop (suc i) (row k t)) (bits / 2))) (row_word t k i h)
 
-  pub next_bit : (state sum bits i : ℕ) → i < 64 → Summed state sum bits i → Summed state (bit_xor sum (get_or t (64 * k + i) 0 * (bits % 2))) (bits / 2) (i + 1)
+  pub next_bit : (state sum bits i : ℕ) → i < 64 → Summed state sum bits i
+      → Summed state (bit_xor sum (get_or t (64 * k + i) 0 * (bits % 2))) (bits / 2) (i + 1)
   next_bit state sum bits i h e =
       let w = get_or t (64 * k + i) 0 in
       let rest = apply (drop (suc i) (row k t)) (bits / 2) in

@@ -162,9 +162,12 @@ pub record Known : Type 0 where
   pub admitted : (u : Unused) → Admitted (request u damped) × Admitted (request u multi_start) × Admitted (request u annealing)
 
 pub known : Known
-unfolding trace_number trace_answer step_of seeded step_times radius_of lt magnitude finite_of of_bits neg div tab all_below Curvature.curvature arriving paraxial_of
-    within above_zero_up_to surface_taken lens_taken finite_or is_focal_length is_magnified track shortfall sag_of value_of difference residual term total counted_total
-    kind_taken weight_taken operand_taken evaluate_number sqrt_of le sub mul is_nan enabled_of followers_taken applied_to applied run_by DampedRun.damped iterations bind
+unfolding trace_number trace_answer step_of seeded step_times radius_of lt magnitude finite_of of_bits neg div tab all_below Curvature.curvature arriving
+    paraxial_of
+    within above_zero_up_to surface_taken lens_taken finite_or is_focal_length is_magnified track shortfall sag_of value_of difference residual term total
+    counted_total
+    kind_taken weight_taken operand_taken evaluate_number sqrt_of le sub mul is_nan enabled_of followers_taken applied_to applied run_by DampedRun.damped
+    iterations bind
     after_merits after_merit is_done value
     lesser greater ends_finite refraction_finite transfer_finite track_limits arrival_finite Limits.arriving limits_taken limits_number add
 known = record {

@@ -1,6 +1,7 @@
 -- Lists of which some entries are in use and all others are zero, and loops that clear the others. Assumes nothing.
 use Rattle.std.specs.Prelude.{◌≡◌, refl, Bool, true, false, cond, List, ◌≢◌, ℕ, ◌+◌, ◌≤◌, ◌<◌, ltb, length, get_or, set}
-use Rattle.std.proofs.Common.{sym, ap, ◌∙◌, inl, inr, eq-or-lt_of_le, le_of_suc-le-suc, add-one, arith, length-set, get_or-set_same, get_or-set_other, ext_get_or, lt-ltb}
+use Rattle.std.proofs.Common.{sym, ap, ◌∙◌, inl, inr, eq-or-lt_of_le, le_of_suc-le-suc, add-one, arith, length-set, get_or-set_same, get_or-set_other}
+use Rattle.std.proofs.Common.{ext_get_or, lt-ltb}
 use Rattle.std.proofs.lemmas.Bool.{false≢true}
 use Rattle.lists.specs.Tab.{tab, length-tab, get_or-tab, tab-same}
 
@@ -75,7 +76,8 @@ module _ {A : Type 0} (used : ℕ → Bool) (z d : A) (start : List A) where
 
     pub clear-end : (n : ℕ) → length start ≡ n → n ≤ i → l ≡ kept used (λ (k : ℕ). get_or start k d) z n
     clear-end n e h =
-        ext_get_or d l (kept used (λ (k : ℕ). get_or start k d) z n) (c.full ∙ e ∙ sym (length-kept used _ z n)) (λ k m. at k (rw (c.full, e) at m) (used k) refl)
+        ext_get_or d l (kept used (λ (k : ℕ). get_or start k d) z n) (c.full ∙ e ∙ sym (length-kept used _ z n))
+        (λ k m. at k (rw (c.full, e) at m) (used k) refl)
       where
         at : (k : ℕ) → k < n → (b : Bool) → used k ≡ b → get_or l k d ≡ get_or (kept used (λ (k : ℕ). get_or start k d) z n) k d
         at k m true u = c.stays k u ∙ sym (kept-used used _ z n k d m u)

@@ -44,7 +44,8 @@ module _ (surface : ℕ → OpticalSurface) (index : ℕ → ℕ → Float) (pup
   unfolding values_after tab
   values-are zero h = refl
   values-are (suc n) h =
-      tab-step (value_at surface index pupil count f) (replicate 12 zero64) (values_after surface index pupil count f n) n (value_at surface index pupil count f n)
+      tab-step (value_at surface index pupil count f) (replicate 12 zero64) (values_after surface index pupil count f n) n
+      (value_at surface index pupil count f n)
       nan (values-are n (omega arith)) refl (rw length-replicate h)
       ∙ ap (λ (k : ℕ). tab (value_at surface index pupil count f) k ++ drop k (replicate 12 zero64)) (add-one n)
 

@@ -1,6 +1,7 @@
 -- Request 6: an overflowed total is ranked last. Every finite f64 is at most what it counts, so it lies below none. Assumes nothing.
 use Rattle.std.specs.Prelude.{◌≡◌, refl, Bool, true, false, not, ◌&&◌, T, leb, ltb, eqb, ℤ, pos, negsuc, Float}
-use Rattle.std.proofs.Common.{sym, ◌∙◌, subst, le_trans, mul_assoc, mul-le-mul, mul-le-mul_right, lt_of_mul-lt-mul_right, le-mul_of_pos_right, arith, ltb→lt, leb→le, pow-add, pow_pos, pow_mono}
+use Rattle.std.proofs.Common.{sym, ◌∙◌, subst, le_trans, mul_assoc, mul-le-mul, mul-le-mul_right, lt_of_mul-lt-mul_right, le-mul_of_pos_right, arith, ltb→lt}
+use Rattle.std.proofs.Common.{leb→le, pow-add, pow_pos, pow_mono}
 use Rattle.std.proofs.Math.Path.{ap}
 use Rattle.std.proofs.Math.Bool.{cond}
 use Prim.Native.Nat.{ℕ, zero, suc, ◌+◌, ◌-◌, ◌*◌, ◌%◌, ◌^◌, ◌≤◌, ◌<◌}

@@ -17,7 +17,8 @@ use Rattle.edges.specs.declared.types.Sag.TheVariants.{Missing}
 
 -- a value turns on the trace of the slot that its operand names, and on no other
 pub value_same : (earlier : List Float) (slot slot' : ℕ → Paraxial) (surface : ℕ → OpticalSurface) (count : ℕ) (kind : OperandType) → T (slot_known kind)
-    → (slot_named kind < 4 → slot (slot_named kind) ≡ slot' (slot_named kind)) → value_of earlier slot surface count kind ≡ value_of earlier slot' surface count kind
+    → (slot_named kind < 4 → slot (slot_named kind) ≡ slot' (slot_named kind))
+    → value_of earlier slot surface count kind ≡ value_of earlier slot' surface count kind
 unfolding value_of
 value_same earlier slot slot' surface count (EffectiveFocalLength w) k h = ap (λ (p : Paraxial). counted (focal_length p)) (h (ltb→lt w 4 k))
 value_same earlier slot slot' surface count (WorkingFNumber w) k h = ap (λ (p : Paraxial). counted (f_number p)) (h (ltb→lt w 4 k))

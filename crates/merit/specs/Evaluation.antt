@@ -47,7 +47,8 @@ module _ (surface : ℕ → OpticalSurface) (index : ℕ → ℕ → Float) (pup
   unfoldable pub values_after : ℕ → List Float
   values_after zero = replicate 12 zero64
   values_after (suc n) =
-      set (values_after n) n (value_of (values_after n) (λ (w : ℕ). paraxial_of surface (index w) pupil count) surface count (operand_at function n).operand_type)
+      set (values_after n) n (value_of (values_after n) (λ (w : ℕ). paraxial_of surface (index w) pupil count) surface count
+      (operand_at function n).operand_type)
 
   -- value n, after those before it
   abbrev pub value_at : ℕ → Float

@@ -19,7 +19,8 @@ use Rattle.optics.specs.declared.types.OpticalPrescription.{OpticalPrescription}
 use Rattle.optics.specs.declared.types.OpticalSurface.{OpticalSurface}
 use Rattle.optics.specs.declared.types.ParaxialRay.{ParaxialRay}
 use Rattle.merit.specs.OperandTable.{zero_evaluation}
-use Rattle.merit.specs.Calls.{unless_refused, evaluate_number, lens_evaluation, evaluated_as, evaluated_of, lens_ray, lens_trace, sixteen, trace_number, answer_of}
+use Rattle.merit.specs.Calls.{unless_refused, evaluate_number, lens_evaluation, evaluated_as, evaluated_of, lens_ray, lens_trace, sixteen, trace_number}
+use Rattle.merit.specs.Calls.{answer_of}
 use Rattle.merit.specs.Calls.{nothing_traced, heights_of, traced_heights, trace_answer, traced_row, traced_rays}
 use Rattle.merit.specs.Passing.{Traceable}
 use Rattle.merit.proofs.CallLaws.{none, stays, evaluate-keeps, done-traceable}
@@ -67,7 +68,8 @@ module _ (p : OpticalPrescription) (f : MeritFunction) (old : MeritEvaluation) w
   unfolding evaluated_of
   evaluated-kept h = (refl, sym (evaluate-keeps p f old h))
 
-  pub evaluated-stored : (evaluated_of p f).number ≤ 0 → ((evaluated_of p f).number ≡ evaluate_number p f) × ((evaluated_of p f).evaluation ≡ evaluated_as old p f)
+  pub evaluated-stored : (evaluated_of p f).number ≤ 0 → ((evaluated_of p f).number ≡ evaluate_number p f)
+      × ((evaluated_of p f).evaluation ≡ evaluated_as old p f)
   unfolding evaluated_of
   evaluated-stored h =
       let z = none (evaluate_number p f) h in (

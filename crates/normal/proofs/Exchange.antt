@@ -101,7 +101,8 @@ module _ (p c : ℕ) (l : List Float) where
       go : (b : Bool) → get_or (cond b l (parts_exchanged (system_place c c) (system_place best c) (p + 1 - c) l)) x nan ≡ get_or l x nan
       go true = refl
       go false =
-          part_out (λ (z : ℕ). get_or l (system_place c c + z) nan) (sets l (system_place c c) (part_of l (system_place best c) (p + 1 - c))) (system_place best c)
+          part_out (λ (z : ℕ). get_or l (system_place c c + z) nan) (sets l (system_place c c) (part_of l (system_place best c) (p + 1 - c)))
+          (system_place best c)
           (p + 1 - c) x nan (narrow best within o)
           ∙ part_out (λ (z : ℕ). get_or l (system_place best c + z) nan) l (system_place c c) (p + 1 - c) x nan (narrow c below o)
 

@@ -59,7 +59,8 @@ module _ (m : ℕ) (jacobian : Matrix) where
             let same = eqb-true (place a b) (place i j) t in
             ap (λ (x : ℕ). get_or (with_product m jacobian i j l) (product_at + x) nan) same ∙ product-new ∙ place_same m jacobian i j a b same
         go false t =
-            get_or-set_other l (product_at + place i j) (product_at + place a b) (normal_product m jacobian i j) nan (apart (eqb-false (place a b) (place i j) t))
+            get_or-set_other l (product_at + place i j) (product_at + place a b) (normal_product m jacobian i j) nan
+            (apart (eqb-false (place a b) (place i j) t))
             ∙ e
 
     product-out : (x : ℕ) → product_at + product_length ≤ x → get_or (with_product m jacobian i j l) x nan ≡ get_or l x nan

@@ -68,7 +68,8 @@ pub record Partly (p c n : ℕ) (l : List Float) (a : Matrix) : Type 0 where
   pub done : (i j : ℕ) → i < suc c + n → min i (suc c) ≤ j → j ≤ p → get_or l (system_place i j) nan ≡ reduced c a i j
   pub left : (i j : ℕ) → suc c + n ≤ i → i < p → c ≤ j → j ≤ p → get_or l (system_place i j) nan ≡ a i j
 
-module _ (p c n : ℕ) (q : List Float) (a : Matrix) (pivot : Float) (below : suc c + n < p) (most : p ≤ 8) (long : scratch_length ≤ length q) (is : pivot ≡ a c c)
+module _ (p c n : ℕ) (q : List Float) (a : Matrix) (pivot : Float) (below : suc c + n < p) (most : p ≤ 8) (long : scratch_length ≤ length q)
+    (is : pivot ≡ a c c)
     (w : Partly p c n q a) where
   abbrev r : ℕ
   r = suc c + n

@@ -64,7 +64,8 @@ module _ (p c : ℕ) (l₀ l b : List Float) (pivot : Float) (s : Stage p c l₀
   pub stage-stop : eq pivot zero64 ≡ true → Eliminated p l₀ b No
   unfolding solvable
   stage-stop z = record {
-    answer = λ a h. ap solved_if (sym (not-all (λ (k : ℕ). not (eq (pivot_of p a k) zero64)) p c below (ap (λ (x : Float). not (eq x zero64)) (sym (pivot-is a h))
+    answer = λ a h. ap solved_if (sym
+        (not-all (λ (k : ℕ). not (eq (pivot_of p a k) zero64)) p c below (ap (λ (x : Float). not (eq x zero64)) (sym (pivot-is a h))
         ∙ ap not z)));
     done = λ a h e. absurd (no-yes e);
     long = long-b;

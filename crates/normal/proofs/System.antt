@@ -52,7 +52,8 @@ module _ (p : ℕ) (damping : Float) (h : Matrix) (g : Vector) (i j : ℕ) where
 
 -- a turn of the loop that lays out row i
 pub row-turn : (l q : List Float) (p i j first : ℕ) (damping v : Float) → i < p → j ≤ p → p ≤ 8 → first ≡ system_place i 0
-    → q ≡ sets l (system_place i 0) (tab (damped_system p damping (product_in l) (gradient_in l) i) j) → v ≡ damped_system p damping (product_in q) (gradient_in q) i j
+    → q ≡ sets l (system_place i 0) (tab (damped_system p damping (product_in l) (gradient_in l) i) j)
+    → v ≡ damped_system p damping (product_in q) (gradient_in q) i j
     → set q (first + j) v ≡ sets l (system_place i 0) (tab (damped_system p damping (product_in l) (gradient_in l) i) (j + 1))
 row-turn l q p i j first damping v hi hj hp ef e ev =
     let f : Vector = damped_system p damping (product_in l) (gradient_in l) i in

@@ -43,7 +43,8 @@ module _ (l : List Float) (a b n k : ℕ) (apart : a + n ≤ b) (below : k < n) 
       let f : ℕ → Float = λ (j : ℕ). sub binary64 (get_or l (b + j) nan) (mul binary64 factor (get_or l (a + j) nan)) in
       let lower : get_or p (b + k) nan ≡ get_or l (b + k) nan =
       ap (λ (x : List Float). get_or x (b + k) nan) e ∙ part_out f l b k (b + k) nan (inr (le_refl (b + k))) in
-      let upper : get_or p (a + k) nan ≡ get_or l (a + k) nan = ap (λ (x : List Float). get_or x (a + k) nan) e ∙ part_out f l b k (a + k) nan (inl (omega arith)) in
+      let upper : get_or p (a + k) nan ≡ get_or l (a + k) nan = ap (λ (x : List Float). get_or x (a + k) nan) e
+      ∙ part_out f l b k (a + k) nan (inl (omega arith)) in
       part_step f l p b k (b + k) _ e refl (λ i. sub binary64 (lower i) (mul binary64 factor (upper i)))
 
 -- ---- a loop that starts behind c: how many it has passed at r
@@ -61,14 +62,16 @@ pub pivot-turn : (a : Matrix) (c r : ℕ) → c < r → pivot_row a c (r + 1 - s
 unfolding pivot_row
 pivot-turn a c r h =
     let q : c + suc (r - suc c) ≡ r = omega arith in
-    ap (pivot_row a c) (one_more c r h) ∙ ap (λ (x : ℕ). cond (lt (magnitude (a (pivot_row a c (r - suc c)) c)) (magnitude (a x c))) x (pivot_row a c (r - suc c)))
+    ap (pivot_row a c) (one_more c r h)
+    ∙ ap (λ (x : ℕ). cond (lt (magnitude (a (pivot_row a c (r - suc c)) c)) (magnitude (a x c))) x (pivot_row a c (r - suc c)))
     q
 
 pub right-turn : (p : ℕ) (a : Matrix) (i : ℕ) (xs : List Float) (k : ℕ) → i < k → right_side p a i xs (k + 1 - suc i)
     ≡ sub binary64 (right_side p a i xs (k - suc i)) (mul binary64 (a i k) (get_or xs (k - suc i) nan))
 unfolding right_side
 right-turn p a i xs k h =
-    ap (right_side p a i xs) (one_more i k h) ∙ ap (λ (x : ℕ). sub binary64 (right_side p a i xs (k - suc i)) (mul binary64 (a i x) (get_or xs (k - suc i) nan)))
+    ap (right_side p a i xs) (one_more i k h)
+    ∙ ap (λ (x : ℕ). sub binary64 (right_side p a i xs (k - suc i)) (mul binary64 (a i x) (get_or xs (k - suc i) nan)))
     (passed i k h)
 
 -- a number of a part, counted from the part's first
@@ -88,7 +91,8 @@ module _ (p i : ℕ) (l : List Float) where
       → sub binary64 rest (mul binary64 (get_or l x nan) (get_or l (step_at + k) nan)) ≡ sofar (k + 1 - suc i)
   right-again k x rest h b e ex =
       let y = in-part l (step_at + suc i) (p - suc i) (k - suc i) (step_at + k) (omega arith) (omega arith) in
-      (λ n. sub binary64 (e n) (mul binary64 (get_or l (ex n) nan) (sym y n))) ∙ sym (right-turn p (system_in l) i (part_of l (step_at + suc i) (p - suc i)) k h)
+      (λ n. sub binary64 (e n) (mul binary64 (get_or l (ex n) nan) (sym y n)))
+      ∙ sym (right-turn p (system_in l) i (part_of l (step_at + suc i) (p - suc i)) k h)
 
   pub unknown-is : (k x : ℕ) (rest : Float) → k ≡ p → rest ≡ sofar (k - suc i) → x ≡ system_place i i → div binary64 rest (get_or l x nan) ≡ unknown_in p l i
   unfolding unknown_in

@@ -1,6 +1,7 @@
 -- Surfaces laid flat read back as they were. Assumes nothing.
 use Rattle.std.specs.Prelude.{◌≡◌, refl, ℕ, zero, suc, ◌+◌, ◌*◌, ◌≤◌, ◌<◌, List, ◌++◌, Float, length, get_or, set, take, drop}
-use Rattle.std.proofs.Common.{sym, ap, ◌∙◌, append_assoc, inl, inr, add-zero, eq-or-lt_of_le, le_of_suc-le-suc, add-one, arith, length-append, length-drop, get_or-append-add, drop-drop, take_at}
+use Rattle.std.proofs.Common.{sym, ap, ◌∙◌, append_assoc, inl, inr, add-zero, eq-or-lt_of_le, le_of_suc-le-suc, add-one, arith, length-append, length-drop}
+use Rattle.std.proofs.Common.{get_or-append-add, drop-drop, take_at}
 use Rattle.std.specs.Float.{nan}
 use Rattle.std.proofs.Math.Seq.{drop-append-add}
 use Rattle.std.proofs.lemmas.List.Edits.{sets, sets-eq}

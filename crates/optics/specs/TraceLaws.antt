@@ -33,7 +33,8 @@ pub rays-are : (surface : ℕ → OpticalSurface) (index : ℕ → Float) (pupil
     → rays_of (tab (λ (k : ℕ). (ray_at surface index pupil k).y) count ++ hs) (tab (λ (k : ℕ). (ray_at surface index pupil k).u) count ++ us) count
     ≡ trace_of surface index pupil count
 rays-are surface index pupil count hs us =
-    tab-same _ _ count (λ k h. λ i. ray_of (at (λ (k : ℕ). (ray_at surface index pupil k).y) hs k h i) (at (λ (k : ℕ). (ray_at surface index pupil k).u) us k h i))
+    tab-same _ _ count (λ k h. λ i. ray_of (at (λ (k : ℕ). (ray_at surface index pupil k).y) hs k h i)
+    (at (λ (k : ℕ). (ray_at surface index pupil k).u) us k h i))
   where
     at : (f : ℕ → Float) (l : List Float) (k : ℕ) → k < count → get_or (tab f count ++ l) k nan ≡ f k
     at f l k h = get_or-append (tab f count) l nan k (rw (length-tab f count) h) ∙ get_or-tab f count k nan h

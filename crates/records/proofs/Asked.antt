@@ -64,7 +64,8 @@ all-given kind s = by (eqb kind 1) (eqb kind 2)
   where
     by : (one two : Bool) →
         method_of
-        (cond one (Ask.Damped (dls_request s all_given)) (cond two (Ask.MultiStart (multi_start_request s all_given)) (Ask.Annealing (annealing_request s all_given))))
+        (cond one (Ask.Damped (dls_request s all_given))
+        (cond two (Ask.MultiStart (multi_start_request s all_given)) (Ask.Annealing (annealing_request s all_given))))
         ≡ cond one (Damped (dls_config s)) (cond two (MultiStart (multi_start_config s)) (Annealing (annealing_config s)))
     by true two = refl
     by false true = refl

@@ -18,7 +18,8 @@ use Rattle.runs.specs.DampedResumption as Damped'
 use Rattle.runs.proofs.DampedLaws as DampedLaws
 use Rattle.runs.proofs.DampedInvariant.{advanced-is}
 use Rattle.runs.specs.State.{State, with_damped}
-use Rattle.runs.specs.AnnealingRow.{Phase, walk_first, walk, polishing, phase_of, walk_of, at_walk_first, at_polish, at_step, is_cycle, resume_cycles, resume_steps}
+use Rattle.runs.specs.AnnealingRow.{Phase, walk_first, walk, polishing, phase_of, walk_of, at_walk_first, at_polish, at_step, is_cycle, resume_cycles}
+use Rattle.runs.specs.AnnealingRow.{resume_steps}
 use Rattle.runs.specs.AnnealingRow.{pending_at, advance_at, pending, advance, polished, result_of, resumption_at, resumption, finished_at, is_finished}
 
 module _ (a : Annealer) where
@@ -72,7 +73,8 @@ module _ (a : Annealer) where
       let e : cycle_count - c ≡ suc (cycle_count - suc c) = omega (arith, ltb-true) in
       ap (λ (n : ℕ). bind (cycles a n w) (polished a i)) e ∙ bind_assoc (steps a step_count w) _ (polished a i)
 
-  resumes-step : (i : Float) (w : Walk) (c k : ℕ) → ltb k step_count ≡ true → resumption a (at_step a i w c k) ≡ after i (step_count - k) (cycle_count - suc c) w
+  resumes-step : (i : Float) (w : Walk) (c k : ℕ) → ltb k step_count ≡ true
+      → resumption a (at_step a i w c k) ≡ after i (step_count - k) (cycle_count - suc c) w
   unfolding resumption resumption_at phase_of
   resumes-step i w c k h =
       let e : step_count - k ≡ suc (step_count - suc k) = omega (arith, ltb-true) in

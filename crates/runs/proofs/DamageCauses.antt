@@ -13,7 +13,8 @@ use Rattle.jobs.specs.Checks.{job_taken, record_taken}
 use Rattle.runs.specs.declared.types.Row.{Row}
 use Rattle.runs.specs.State.{State, state_of}
 use Rattle.runs.specs.Rows.{job_of_row, is_finished, bound}
-use Rattle.runs.specs.Damage.{is_kind, last_phase, is_phase, uses_current, uses_best, taken_if, up_to, surfaces_sound, counters_sound, iteration_limit, trial_limit}
+use Rattle.runs.specs.Damage.{is_kind, last_phase, is_phase, uses_current, uses_best, taken_if, up_to, surfaces_sound, counters_sound, iteration_limit}
+use Rattle.runs.specs.Damage.{trial_limit}
 use Rattle.runs.specs.Damage.{cycle_limit, step_limit, state_sound, job_sound, turns_sound, damaged}
 use Rattle.runs.proofs.StateSound.{Sound, sound-from}
 use Rattle.runs.proofs.DamageLaws.{parts, turns-part}

@@ -13,7 +13,8 @@ use Rattle.runs.specs.Run.{Surfaces, Run, bind}
 use Rattle.runs.proofs.Ends.{Ends, now, later, Any, Ends-more, Ends-bind}
 use Rattle.runs.specs.Zeros.{zero_jacobian}
 use Rattle.runs.specs.DampedRun.{Optimizer, Current, After, on, over, state_of, result_of, counted, raised, settled, started, presc_plus, presc_minus}
-use Rattle.runs.specs.DampedRun.{with_differences, columns, is_stationary, if_stationary, is_solved, candidate_params, test_presc, is_reduction, rel_improvement}
+use Rattle.runs.specs.DampedRun.{with_differences, columns, is_stationary, if_stationary, is_solved, candidate_params, test_presc, is_reduction}
+use Rattle.runs.specs.DampedRun.{rel_improvement}
 use Rattle.runs.specs.DampedRun.{moved, accepted, if_reduced, if_solved, attempts, iteration, going_on, iterations, damped}
 
 module _ (o : Optimizer) (Q : Surfaces → MeritEvaluation → Type 0) (Holds : Current → Type 0)
@@ -60,7 +61,8 @@ module _ (o : Optimizer) (Q : Surfaces → MeritEvaluation → Type 0) (Holds : 
   unfolding attempts
   ends-attempts zero j_mat s h = now h
   ends-attempts (suc left) j_mat s h =
-      ends-solved (is_solved o j_mat s) (candidate_params o j_mat s) s left (attempts o left j_mat (raised s)) h (ends-attempts left j_mat (raised s) (raises s h))
+      ends-solved (is_solved o j_mat s) (candidate_params o j_mat s) s left (attempts o left j_mat (raised s)) h
+      (ends-attempts left j_mat (raised s) (raises s h))
 
   ends-stationary : (b : Bool) (j_mat : List Float) (s : Current) → Holds s → Ends Q HoldsAfter 10 (if_stationary o b j_mat s)
   unfolding if_stationary

@@ -43,7 +43,8 @@ pub record Invariant (o : Optimizer) : Type 1 where
   pub state_plus : (s : Current) (j_mat : List Float) (q : ℕ) → Holds s → AtColumn q j_mat → State (at_plus s j_mat q)
   pub state_minus : (s : Current) (j_mat : List Float) (q : ℕ) (plus_residuals : List Float) → Holds s → AtColumn q j_mat → Residuals plus_residuals
       → State (at_minus s j_mat q plus_residuals)
-  pub state_candidate : (s : Current) (j_mat : List Float) (k : ℕ) (c : List Float) → Holds s → Full j_mat → Candidate c → k ≤ 10 → State (at_candidate s j_mat k c)
+  pub state_candidate : (s : Current) (j_mat : List Float) (k : ℕ) (c : List Float) → Holds s → Full j_mat → Candidate c → k ≤ 10
+      → State (at_candidate s j_mat k c)
   pub state_ended : (converged : Bool) (s : Current) → Holds s → State (ended converged s)
 
 module _ (o : Optimizer) (K : Invariant o) where

@@ -67,8 +67,11 @@ thickened u = value (evaluate_of (too_thin u)) (run (too_thin u))
 
 pub half-way : (u : Unused) → ((thickened u).final_merit ≡ quarter) × ((surface_at (thickened u).surfaces 0).thickness_mm ≡ two_and_half)
 unfolding of_bits neg lt le eq add sub mul div is_nan magnitude finite_of sqrt_of tab all_below enabled_of extracted clamped_values applied_to applied finite_or
-    shortfall value_of difference residual term total counted_total values_after sum_of normal_product gradient_of norm_of damped damped_system pivot_row exchanged
-    reduced pivoted eliminated pivot_of solvable right_side unknowns solution_of step_of step_found bind value Run.damped Run.iterations Run.iteration Run.columns
-    Run.if_stationary Run.is_stationary Run.attempts Run.if_solved Run.is_solved Run.candidate_params Run.test_presc Run.is_reduction Run.if_reduced Run.accepted
+    shortfall value_of difference residual term total counted_total values_after sum_of normal_product gradient_of norm_of damped damped_system pivot_row
+    exchanged
+    reduced pivoted eliminated pivot_of solvable right_side unknowns solution_of step_of step_found bind value Run.damped Run.iterations Run.iteration
+    Run.columns
+    Run.if_stationary Run.is_stationary Run.attempts Run.if_solved Run.is_solved Run.candidate_params Run.test_presc Run.is_reduction Run.if_reduced
+    Run.accepted
     Run.rel_improvement Run.settled Run.going_on Run.p_plus Run.p_minus Run.presc_plus Run.presc_minus Run.denom Run.with_differences run_by run evaluate_of
 half-way u = (refl, refl)

@@ -8,7 +8,8 @@ use Rattle.jobs.specs.declared.types.Job.{Job}
 use Rattle.jobs.specs.declared.types.Method.{Method}
 use Rattle.optics.specs.Check.{surfaces_taken}
 use Rattle.runs.specs.State.{State}
-use Rattle.runs.specs.Damage.{last_phase, is_phase, uses_current, uses_best, taken_if, surfaces_sound, iteration_limit, trial_limit, cycle_limit, step_limit, up_to}
+use Rattle.runs.specs.Damage.{last_phase, is_phase, uses_current, uses_best, taken_if, surfaces_sound, iteration_limit, trial_limit, cycle_limit, step_limit}
+use Rattle.runs.specs.Damage.{up_to}
 use Rattle.runs.specs.Damage.{counters_sound, state_sound}
 
 -- ---- tests joined

@@ -54,7 +54,8 @@ evaluation-clean job s = (entries-zero _ (operand_count_of job), entries-zero _ 
 -- ---- a finished row holds what its job's run comes to
 pub row-result : (f : Surfaces → MeritEvaluation) (job : Job) → ReadBack job → (k : ℕ) → is_finished (row_after f k job) ≡ true
     → result_of (row_after f k job) ≡ value f (run job)
-row-result f job back k h = sym (value-done f k (run job) (result_of (row_after f k job)) (sym (row-stands f job back k) ∙ resumption-done (row_after f k job) h))
+row-result f job back k h = sym
+    (value-done f k (run job) (result_of (row_after f k job)) (sym (row-stands f job back k) ∙ resumption-done (row_after f k job) h))
 
 -- ---- "the surfaces handed back have the merit printed beside them", and pass check 3
 pub result-evaluated : (job : Job)

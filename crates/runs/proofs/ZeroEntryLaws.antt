@@ -50,7 +50,8 @@ used e h = absurd (true≢false (sym e ∙ h))
 
 module _ (n p m : ℕ) where
   -- ---- the damped part: surfaces, parameters and a candidate alone, or in the loops
-  holding-zero : (b : Bool) (f : ℕ) {x : Surfaces} {params trial : List Float} → ZeroSurfaces (in_use b n) x → ZeroFrom (in_use (in_loops f || eqb f 6) p) 8 params
+  holding-zero : (b : Bool) (f : ℕ) {x : Surfaces} {params trial : List Float} → ZeroSurfaces (in_use b n) x
+      → ZeroFrom (in_use (in_loops f || eqb f 6) p) 8 params
       → ZeroFrom (in_use (eqb f 3 || eqb f 6) p) 8 trial →
       ZeroDamped n p m b (holding f x params trial)
   holding-zero b f s v c = record {
@@ -72,7 +73,8 @@ module _ (n p m : ℕ) where
 
   within-zero : (f : ℕ) → in_loops f ≡ true → has_merit f ≡ true → (s : Current) {j_mat r c : List Float} {q k : ℕ} → CleanCurrent n p m s
       → ZeroJacobian m (filled_columns p (within f s j_mat r c q k)) j_mat → ZeroFrom (in_use (eqb f 2) m) 12 r →
-      ZeroFrom (in_use (eqb f 3 || eqb f 6) p) 8 c → NoneUnless (eqb f 1 || eqb f 2) q → NoneUnless (eqb f 3) k → ZeroDamped n p m true (within f s j_mat r c q k)
+      ZeroFrom (in_use (eqb f 3 || eqb f 6) p) 8 c → NoneUnless (eqb f 1 || eqb f 2) q → NoneUnless (eqb f 3) k
+      → ZeroDamped n p m true (within f s j_mat r c q k)
   within-zero f l e s h j r c q k = record {
     surfaces = h.0;
     values = subst (λ (b : Bool). ZeroFrom (in_use b m) 12 s.evaluation.values) (sym e) h.2.0;

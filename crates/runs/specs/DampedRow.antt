@@ -114,7 +114,8 @@ module _ (o : Optimizer) where
   -- as many attempts are left, k are over
   unfoldable pub resume_attempts : (left : ℕ) (j_mat : List Float) → Current → (k : ℕ) → DampedState
   resume_attempts zero j_mat s k = ended false s
-  resume_attempts (suc left) j_mat s k = resume_solved (is_solved o j_mat s) (candidate_params o j_mat s) j_mat s k (resume_attempts left j_mat (raised s) (suc k))
+  resume_attempts (suc left) j_mat s k =
+      resume_solved (is_solved o j_mat s) (candidate_params o j_mat s) j_mat s k (resume_attempts left j_mat (raised s) (suc k))
 
   unfoldable pub resume_stationary : Bool → (j_mat : List Float) → Current → DampedState
   resume_stationary true j_mat s = ended true s

@@ -55,8 +55,10 @@ module _ (n p m : ℕ) where
   pub data CleanDamped : DampedState → Type 0 where
     is_first : {initial : Surfaces} → ZeroSurfaces n initial → CleanDamped (at_first initial)
     is_plus : {s : Current} {j_mat : List Float} {q : ℕ} → CleanCurrent s → q < p → ZeroJacobian m q j_mat → CleanDamped (at_plus s j_mat q)
-    is_minus : {s : Current} {j_mat r : List Float} {q : ℕ} → CleanCurrent s → q < p → ZeroJacobian m q j_mat → ZeroFrom m 12 r → CleanDamped (at_minus s j_mat q r)
-    is_candidate : {s : Current} {j_mat c : List Float} {k : ℕ} → CleanCurrent s → ZeroJacobian m p j_mat → ZeroFrom p 8 c → CleanDamped (at_candidate s j_mat k c)
+    is_minus : {s : Current} {j_mat r : List Float} {q : ℕ} → CleanCurrent s → q < p → ZeroJacobian m q j_mat → ZeroFrom m 12 r
+        → CleanDamped (at_minus s j_mat q r)
+    is_candidate : {s : Current} {j_mat c : List Float} {k : ℕ} → CleanCurrent s → ZeroJacobian m p j_mat → ZeroFrom p 8 c
+        → CleanDamped (at_candidate s j_mat k c)
     is_ended : (converged : Bool) (s : Current) → CleanCurrent s → CleanDamped (ended converged s)
 
   -- ---- the run's state, for each kind

@@ -17,7 +17,8 @@ pub further : (i to byte : ℕ) (xs : List ℕ) → i < to → i < length xs →
 unfolding index_of
 further i to byte xs h k e =
     let n : i + 1 ≡ suc i = omega arith in
-    let s : index_of byte (slice i to xs) ≡ suc (index_of byte (slice (suc i) to xs)) = ap (index_of byte) (slice_more i to xs h k) ∙ rw (ne_eqb (get_or xs i 0) byte e) in
+    let s : index_of byte (slice i to xs) ≡ suc (index_of byte (slice (suc i) to xs)) = ap (index_of byte) (slice_more i to xs h k)
+    ∙ rw (ne_eqb (get_or xs i 0) byte e) in
     rw n (rw s (omega arith))
 
 pub none : (to byte : ℕ) (xs : List ℕ) → index_of byte (slice to to xs) ≡ 0

@@ -1,5 +1,6 @@
 -- What waits in the output's buffer, and numbers as text. Definitions only.
-use Rattle.std.specs.Prelude.{◌≡◌, ℕ, zero, suc, ◌+◌, ◌%◌, ◌^◌, ◌≤◌, min, Bool, true, false, cond, List, [], ◌∷◌, ◌++◌, length, take, is_nan, nat_le, nat_lt, to_bits, Float}
+use Rattle.std.specs.Prelude.{◌≡◌, ℕ, zero, suc, ◌+◌, ◌%◌, ◌^◌, ◌≤◌, min, Bool, true, false, cond, List, [], ◌∷◌, ◌++◌, length, take, is_nan, nat_le, nat_lt}
+use Rattle.std.specs.Prelude.{to_bits, Float}
 use Rattle.std.specs.Float.{binary64}
 use Rattle.io.specs.Digits.{last_digits}
 use Rattle.streams.specs.declared.output.Waiting.{Waiting}

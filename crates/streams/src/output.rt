@@ -1,6 +1,7 @@
 // The output, gathered in a buffer.
 ghost use Rattle.std.specs.Prelude.{◌≡◌, ◌≤◌, min, [], ◌∷◌, length};
-ghost use Rattle.streams.specs.Output.{new_waiting, one_refused, one_unknown, with_bytes, clipped, Written, Put, hex_text, decimal_text, float_text, float_texts};
+ghost use Rattle.streams.specs.Output.{new_waiting, one_refused, one_unknown, with_bytes, clipped, Written, Put, hex_text, decimal_text, float_text};
+ghost use Rattle.streams.specs.Output.{float_texts};
 
 use crate::console::Console;
 use crate::{moves, parts};

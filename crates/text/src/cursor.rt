@@ -3,7 +3,8 @@
 ghost use Rattle.std.specs.Prelude.{◌≡◌, ◌≤◌, ◌++◌, length, drop};
 ghost use Rattle.lists.specs.Tab.{tab};
 ghost use Rattle.text.specs.Words.{between};
-ghost use Rattle.text.specs.Cursor.{new_cursor, moved_to, out_of_form, number_read, number_from, decimal_from, within_from, float_read, float_from, past_floats};
+ghost use Rattle.text.specs.Cursor.{new_cursor, moved_to, out_of_form, number_read, number_from, decimal_from, within_from, float_read, float_from};
+ghost use Rattle.text.specs.Cursor.{past_floats};
 ghost use Rattle.text.specs.Cursor.{float_at, past_tag, past_word, done_with};
 
 use crate::fields::{FloatField, NumberField};

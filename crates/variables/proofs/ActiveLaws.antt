@@ -58,7 +58,8 @@ module _ (v : VariableSet) where
       no : (i : ℕ) → i < 0 → ⊥
       no i h = omega arith
   place (suc n) i h e = elim (eq-or-lt_of_le (le_of_suc-le-suc h)) [
-    | inl s ↦ subst (λ (k : ℕ). (enabled_count k < enabled_count (suc n)) × (get_or (enabled_of v (suc n)) (enabled_count k) no_variable ≡ variable_at v k)) (sym s)
+    | inl s ↦ subst (λ (k : ℕ). (enabled_count k < enabled_count (suc n)) × (get_or (enabled_of v (suc n)) (enabled_count k) no_variable ≡ variable_at v k))
+        (sym s)
         (last (subst (λ (k : ℕ). (variable_at v k).enabled ≡ true) s e))
     | inr l ↦ let r = place n i l e in (grown r.0, get_or-append (enabled_of v n) (if_enabled (variable_at v n)) no_variable (enabled_count i) r.0 ∙ r.1)
   ]
@@ -85,15 +86,18 @@ module _ (v : VariableSet) where
       below : (i : ℕ) → i < n → i < suc n
       below i l = omega arith
 
-      past : (q < enabled_count n → P (get_or (enabled_of v n) q no_variable)) → (variable_at v n).enabled ≡ false → P (get_or (enabled_of v (suc n)) q no_variable)
+      past : (q < enabled_count n → P (get_or (enabled_of v n) q no_variable)) → (variable_at v n).enabled ≡ false
+          → P (get_or (enabled_of v (suc n)) q no_variable)
       past earlier e = rw (enabled-past n e) (earlier (rw (enabled-past n e) at l))
 
-      ends : (q < enabled_count n → P (get_or (enabled_of v n) q no_variable)) → (variable_at v n).enabled ≡ true → (q ≡ enabled_count n) ⊎ (q < enabled_count n)
+      ends : (q < enabled_count n → P (get_or (enabled_of v n) q no_variable)) → (variable_at v n).enabled ≡ true
+          → (q ≡ enabled_count n) ⊎ (q < enabled_count n)
           → P (get_or (enabled_of v n ++ (variable_at v n ∷ [])) q no_variable)
       ends earlier e (inl s) = rw (get_or_at (enabled_of v n) (variable_at v n) [] no_variable q (sym s)) (h n (omega arith) e)
       ends earlier e (inr k) = rw (get_or-append (enabled_of v n) (variable_at v n ∷ []) no_variable q k) (earlier k)
 
-      on : (q < enabled_count n → P (get_or (enabled_of v n) q no_variable)) → (variable_at v n).enabled ≡ true → P (get_or (enabled_of v (suc n)) q no_variable)
+      on : (q < enabled_count n → P (get_or (enabled_of v n) q no_variable)) → (variable_at v n).enabled ≡ true
+          → P (get_or (enabled_of v (suc n)) q no_variable)
       on earlier e = rw (enabled-more n e) (ends earlier e (eq-or-lt_of_le (omega (arith, rw (enabled-more n e, length-append) at l))))
 
   -- a loop over the variables that has counted q enabled ones comes to an enabled one: it is the one that the q-th value belongs to

@@ -16,4 +16,5 @@ returns c =
     c.next_word-id.ensures.value
     ∙ ap (λ (w : Word). word_from line w.to)
     c.next_word-tag.ensures.value in
-    let kind = put_as (ap (λ (w : Word). number_texts (text_of line w) a.kind) second) c.put_number.ensures.put in record { bytes_in_bounds = search rules; put = then c.put-waiting.ensures.put kind (search rules) }
+    let kind = put_as (ap (λ (w : Word). number_texts (text_of line w) a.kind) second) c.put_number.ensures.put in
+    record { bytes_in_bounds = search rules; put = then c.put-waiting.ensures.put kind (search rules) }

@@ -16,4 +16,5 @@ returns c =
     let named =
     put_as (ap (number_texts (32 ∷ 102 ∷ 105 ∷ 101 ∷ 108 ∷ 100 ∷ [])) field)
     c.put_number-waiting-2.ensures.put in
-    let parted = then (then number named (search rules)) c.put-waiting.ensures.put (search rules) in record { bytes_in_bounds = search rules; put = (then parted c.put_fault.ensures.put (search rules)) }
+    let parted = then (then number named (search rules)) c.put-waiting.ensures.put (search rules) in
+    record { bytes_in_bounds = search rules; put = (then parted c.put_fault.ensures.put (search rules)) }

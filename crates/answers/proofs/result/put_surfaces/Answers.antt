@@ -29,4 +29,5 @@ returns c =
     let a = c.args in
     let l = c.loop-i in
     let e : l.i ≡ min a.count 16 = omega arith in
-    let start = put-from-clip a.waiting a.out.now c.within-held.ensures in record { bytes_in_bounds = search rules; put = put_as (ap (surfaces_texts a.surfaces) e) (then start l.invariant.3 (search rules)) }
+    let start = put-from-clip a.waiting a.out.now c.within-held.ensures in
+    record { bytes_in_bounds = search rules; put = put_as (ap (surfaces_texts a.surfaces) e) (then start l.invariant.3 (search rules)) }

@@ -32,4 +32,5 @@ loop-round-smaller c =
     e.0 e.1 e.2 long).1
 
 pub returns : goal.returns
-returns c = ends c.args.bench.now c.args.turns c.args.scratch.now c.loop-round.round c.loop-round.bench c.loop-round.scratch c.loop-round.invariant c.loop-round-test.false
+returns c = ends c.args.bench.now c.args.turns c.args.scratch.now c.loop-round.round c.loop-round.bench c.loop-round.scratch c.loop-round.invariant
+    c.loop-round-test.false

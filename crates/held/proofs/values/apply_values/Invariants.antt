@@ -7,7 +7,8 @@ use Rattle.held.specs.Standing.{Behind}
 use Rattle.held.proofs.values.apply_values.Given as goal
 
 abbrev pub invariant-loop-i : goal.invariant-loop-i
-invariant-loop-i l = Applying (variables_from l.counts l.numbers) l.values (standing l.initial.flat) (standing l.flat) l.q l.i × (l.count ≡ variable_count_from l.counts) × Behind l.initial.flat l.flat
+invariant-loop-i l = Applying (variables_from l.counts l.numbers) l.values (standing l.initial.flat) (standing l.flat) l.q l.i
+    × (l.count ≡ variable_count_from l.counts) × Behind l.initial.flat l.flat
 
 abbrev pub decreases-loop-i : goal.decreases-loop-i
 decreases-loop-i l = l.count - l.i

@@ -10,7 +10,8 @@ use Rattle.floats.specs.Basic.{clamp_of}
 use Rattle.held.proofs.values.clamp_values.Given as goal
 
 abbrev pub invariant-loop-i : goal.invariant-loop-i
-invariant-loop-i l = Filling (variables_from l.counts l.numbers) (λ (d : VariableDef) (k : ℕ). clamp_of (get_or l.values k nan) d.min_value d.max_value) l.initial.x l.x l.q l.i
+invariant-loop-i l = Filling (variables_from l.counts l.numbers)
+    (λ (d : VariableDef) (k : ℕ). clamp_of (get_or l.values k nan) d.min_value d.max_value) l.initial.x l.x l.q l.i
     × (l.count ≡ variable_count_from l.counts)
 
 abbrev pub decreases-loop-i : goal.decreases-loop-i

@@ -9,7 +9,8 @@ use Rattle.held.specs.JobFrom.{standing}
 use Rattle.held.proofs.values.extract_values.Given as goal
 
 abbrev pub invariant-loop-i : goal.invariant-loop-i
-invariant-loop-i l = Filling (variables_from l.counts l.numbers) (λ (d : VariableDef) (k : ℕ). value_of (standing l.flat) d.var_type) l.initial.x l.x l.q l.i × (l.count ≡ variable_count_from l.counts)
+invariant-loop-i l = Filling (variables_from l.counts l.numbers) (λ (d : VariableDef) (k : ℕ). value_of (standing l.flat) d.var_type) l.initial.x l.x l.q l.i
+    × (l.count ≡ variable_count_from l.counts)
 
 abbrev pub decreases-loop-i : goal.decreases-loop-i
 decreases-loop-i l = l.count - l.i

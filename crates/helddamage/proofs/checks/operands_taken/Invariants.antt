@@ -11,7 +11,8 @@ use Rattle.held.specs.JobFrom.{slot_count_from, operand_count_from, job_record_f
 use Rattle.helddamage.proofs.checks.operands_taken.Given as goal
 
 abbrev pub invariant-loop-n : goal.invariant-loop-n
-invariant-loop-n l = (l.n ≤ l.many) × (l.many ≡ operand_count_from l.counts) × (all_below (λ (k : ℕ). operand_taken (slot_count_from l.counts) (operand_at (operands_from l.counts l.numbers) k)
+invariant-loop-n l = (l.n ≤ l.many) × (l.many ≡ operand_count_from l.counts)
+    × (all_below (λ (k : ℕ). operand_taken (slot_count_from l.counts) (operand_at (operands_from l.counts l.numbers) k)
     && operand_known (operand_record_at (job_record_from l.counts l.numbers) k)) l.n ≡ true)
 
 abbrev pub decreases-loop-n : goal.decreases-loop-n

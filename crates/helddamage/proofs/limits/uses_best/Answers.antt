@@ -35,4 +35,5 @@ returns-else-trial-gt0 c =
     ∙ sym (ap (λ (m : Method). uses_best m s) (is-multi-start _ r c.in-2.is))
 
 pub returns-in_default : goal.returns-in_default
-returns-in_default c = λ r s e t. ap (λ (k : ℕ). eqb k 6) (sym e) ∙ sym (ap (λ (m : Method). uses_best m s) (is-annealing _ r (λ e. omega arith) (λ e. omega arith)))
+returns-in_default c = λ r s e t. ap (λ (k : ℕ). eqb k 6) (sym e)
+    ∙ sym (ap (λ (m : Method). uses_best m s) (is-annealing _ r (λ e. omega arith) (λ e. omega arith)))

@@ -8,7 +8,8 @@ use Rattle.heldmerit.proofs.Over.{Standing}
 use Rattle.heldmerit.proofs.evaluation.residuals_of.Given as goal
 
 abbrev pub invariant-loop-n : goal.invariant-loop-n
-invariant-loop-n l = (l.n ≤ l.many) × (l.many ≡ operand_count_from l.counts) × Standing (residual_over (operands_from l.counts l.numbers) l.values) l.n l.residuals × RootKnown l.known
+invariant-loop-n l = (l.n ≤ l.many) × (l.many ≡ operand_count_from l.counts)
+    × Standing (residual_over (operands_from l.counts l.numbers) l.values) l.n l.residuals × RootKnown l.known
 
 abbrev pub decreases-loop-n : goal.decreases-loop-n
 decreases-loop-n l = l.many - l.n

@@ -12,9 +12,11 @@ use Rattle.heldmerit.proofs.Over.{Standing}
 use Rattle.heldmerit.proofs.evaluation.values_of.Given as goal
 
 abbrev pub invariant-loop-n : goal.invariant-loop-n
-invariant-loop-n l = (l.n ≤ l.many) × Standing (value_at (flat_surface l.flat) (slot_index (indices_from l.numbers)) (pupil_from l.numbers) (surface_count_from l.counts)
+invariant-loop-n l = (l.n ≤ l.many)
+    × Standing (value_at (flat_surface l.flat) (slot_index (indices_from l.numbers)) (pupil_from l.numbers) (surface_count_from l.counts)
     (operands_from l.counts l.numbers)) l.n l.values × (l.many ≡ operand_count_from l.counts) × (l.count ≡ surface_count_from l.counts)
-    × ((w : ℕ) → w < 4 → get_or l.slots w Failed ≡ paraxial_of (flat_surface l.flat) (slot_index (indices_from l.numbers) w) (pupil_from l.numbers) (surface_count_from l.counts))
+    × ((w : ℕ) → w < 4 → get_or l.slots w Failed
+    ≡ paraxial_of (flat_surface l.flat) (slot_index (indices_from l.numbers) w) (pupil_from l.numbers) (surface_count_from l.counts))
 
 abbrev pub decreases-loop-n : goal.decreases-loop-n
 decreases-loop-n l = l.many - l.n

@@ -10,7 +10,8 @@ use Rattle.heldrows.proofs.written.lay_operands.Given as goal
 
 abbrev pub invariant-loop-n : goal.invariant-loop-n
 invariant-loop-n l = (l.n ≤ 12) × (length l.counts ≡ length l.initial.counts) × (length l.numbers ≡ length l.initial.numbers)
-    × (take (operand_kind_at l.n) l.counts ≡ take (operand_kind_at 0) l.initial.counts ++ in_turn (λ (k : ℕ). operand_counts (get_or l.records k no_operand_record)) l.n)
+    × (take (operand_kind_at l.n) l.counts ≡ take (operand_kind_at 0) l.initial.counts
+    ++ in_turn (λ (k : ℕ). operand_counts (get_or l.records k no_operand_record)) l.n)
     × (take (limit_at l.n) l.numbers ≡ take (limit_at 0) l.initial.numbers ++ in_turn (λ (k : ℕ). operand_numbers (get_or l.records k no_operand_record)) l.n)
 
 abbrev pub decreases-loop-n : goal.decreases-loop-n

@@ -10,8 +10,10 @@ use Rattle.heldrows.proofs.written.lay_variables.Given as goal
 
 abbrev pub invariant-loop-i : goal.invariant-loop-i
 invariant-loop-i l = (l.i ≤ 8) × (length l.counts ≡ length l.initial.counts) × (length l.numbers ≡ length l.initial.numbers)
-    × (take (variable_kind_at l.i) l.counts ≡ take (variable_kind_at 0) l.initial.counts ++ in_turn (λ (k : ℕ). variable_counts (get_or l.records k no_variable_record)) l.i)
-    × (take (min_value_at l.i) l.numbers ≡ take (min_value_at 0) l.initial.numbers ++ in_turn (λ (k : ℕ). variable_numbers (get_or l.records k no_variable_record)) l.i)
+    × (take (variable_kind_at l.i) l.counts ≡ take (variable_kind_at 0) l.initial.counts
+    ++ in_turn (λ (k : ℕ). variable_counts (get_or l.records k no_variable_record)) l.i)
+    × (take (min_value_at l.i) l.numbers ≡ take (min_value_at 0) l.initial.numbers
+    ++ in_turn (λ (k : ℕ). variable_numbers (get_or l.records k no_variable_record)) l.i)
 
 abbrev pub decreases-loop-i : goal.decreases-loop-i
 decreases-loop-i l = 8 - l.i

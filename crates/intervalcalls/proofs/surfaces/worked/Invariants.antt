@@ -12,7 +12,8 @@ invariant-loop-k l = (l.k ≤ l.count) ×
     (l.count ≤ 16) ×
     (length l.initial.heights ≡ 16) ×
     (length l.initial.slopes ≡ 16) ×
-    Working (surface_at l.surfaces) (thickness_at (record { thicknesses = l.thicknesses })) (slot_index l.indices l.slot) l.pupil l.initial.heights l.initial.slopes l.heights l.slopes l.track l.ray
+    Working (surface_at l.surfaces) (thickness_at (record { thicknesses = l.thicknesses }))
+    (slot_index l.indices l.slot) l.pupil l.initial.heights l.initial.slopes l.heights l.slopes l.track l.ray
     l.arrived l.finite l.k
 
 abbrev pub decreases-loop-k : goal.decreases-loop-k

@@ -9,7 +9,8 @@ use Rattle.jobs.specs.Entries.{operand_record}
 use Rattle.jobs.proofs.jobrecords.operand_records.Given as goal
 
 abbrev pub invariant-loop-i : goal.invariant-loop-i
-invariant-loop-i l = (length l.initial.records ≡ 12) × (l.i ≤ 12) × (l.records ≡ tab (λ (k : ℕ). operand_record (operand_at l.f k)) l.i ++ drop l.i l.initial.records)
+invariant-loop-i l = (length l.initial.records ≡ 12) × (l.i ≤ 12)
+    × (l.records ≡ tab (λ (k : ℕ). operand_record (operand_at l.f k)) l.i ++ drop l.i l.initial.records)
 
 abbrev pub decreases-loop-i : goal.decreases-loop-i
 decreases-loop-i l = 12 - l.i

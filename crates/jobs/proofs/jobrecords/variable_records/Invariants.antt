@@ -9,7 +9,8 @@ use Rattle.jobs.specs.Entries.{variable_record}
 use Rattle.jobs.proofs.jobrecords.variable_records.Given as goal
 
 abbrev pub invariant-loop-i : goal.invariant-loop-i
-invariant-loop-i l = (length l.initial.records ≡ 8) × (l.i ≤ 8) × (l.records ≡ tab (λ (k : ℕ). variable_record (variable_at l.v k)) l.i ++ drop l.i l.initial.records)
+invariant-loop-i l = (length l.initial.records ≡ 8) × (l.i ≤ 8)
+    × (l.records ≡ tab (λ (k : ℕ). variable_record (variable_at l.v k)) l.i ++ drop l.i l.initial.records)
 
 abbrev pub decreases-loop-i : goal.decreases-loop-i
 decreases-loop-i l = 8 - l.i

@@ -9,7 +9,8 @@ use Rattle.jobs.specs.Entries.{variable_of, no_variable_record}
 use Rattle.jobs.proofs.jobrecords.variables_of.Given as goal
 
 abbrev pub invariant-loop-i : goal.invariant-loop-i
-invariant-loop-i l = (length l.initial.variables ≡ 8) × (l.i ≤ 8) × (l.variables ≡ tab (λ (k : ℕ). variable_of (get_or l.records k no_variable_record)) l.i ++ drop l.i l.initial.variables)
+invariant-loop-i l = (length l.initial.variables ≡ 8) × (l.i ≤ 8)
+    × (l.variables ≡ tab (λ (k : ℕ). variable_of (get_or l.records k no_variable_record)) l.i ++ drop l.i l.initial.variables)
 
 abbrev pub decreases-loop-i : goal.decreases-loop-i
 decreases-loop-i l = 8 - l.i

@@ -5,7 +5,8 @@ use Rattle.std.proofs.Common.{◌≡◌, ◌≤◌, length}
 use Rattle.leaves.proofs.lines.answer_all.Given as goal
 
 abbrev pub invariant-loop-steps : goal.invariant-loop-steps
-invariant-loop-steps l = (length l.buf ≡ length l.initial.buf) × (length l.out ≡ length l.initial.out) × (l.input.from ≤ l.input.to) × (l.input.to ≤ length l.buf)
+invariant-loop-steps l = (length l.buf ≡ length l.initial.buf) × (length l.out ≡ length l.initial.out) × (l.input.from ≤ l.input.to)
+    × (l.input.to ≤ length l.buf)
 
 abbrev pub decreases-loop-steps : goal.decreases-loop-steps
 decreases-loop-steps l = l.steps

@@ -9,4 +9,5 @@ returns c =
     then
     c.put-waiting.ensures.put
     c.put_float-waiting.ensures.put (search rules) in
-    let values = then total c.put_row-waiting.ensures.put (search rules) in record { bytes_in_bounds = search rules; put = then values c.put_row.ensures.put (search rules) }
+    let values = then total c.put_row-waiting.ensures.put (search rules) in
+    record { bytes_in_bounds = search rules; put = then values c.put_row.ensures.put (search rules) }

@@ -11,7 +11,8 @@ use Rattle.lensanswers.specs.Lens.{ends_texts, all_ends_texts}
 use Rattle.std.proofs.Common.{rules}
 use Rattle.lensanswers.proofs.limits.put_surfaces.Goals as goal
 
-one_more : (ys us : List Interval) (i : ℕ) → all_ends_texts ys us i ++ ends_texts (get_or ys i no_interval) (get_or us i no_interval) ≡ all_ends_texts ys us (i + 1)
+one_more : (ys us : List Interval) (i : ℕ) → all_ends_texts ys us i
+    ++ ends_texts (get_or ys i no_interval) (get_or us i no_interval) ≡ all_ends_texts ys us (i + 1)
 unfolding all_ends_texts
 one_more ys us i = rw add-one
 

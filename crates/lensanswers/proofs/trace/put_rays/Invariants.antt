@@ -7,7 +7,8 @@ use Rattle.lensanswers.specs.Lens.{rays_texts}
 use Rattle.lensanswers.proofs.trace.put_rays.Given as goal
 
 abbrev pub invariant-loop-i : goal.invariant-loop-i
-invariant-loop-i l = (l.i ≤ l.n) × (length l.out ≡ length l.initial.out) × (l.held.bytes ≤ length l.out) × Put l.initial.held l.initial.out (rays_texts l.rays l.i) l.held l.out
+invariant-loop-i l = (l.i ≤ l.n) × (length l.out ≡ length l.initial.out) × (l.held.bytes ≤ length l.out)
+    × Put l.initial.held l.initial.out (rays_texts l.rays l.i) l.held l.out
 
 abbrev pub decreases-loop-i : goal.decreases-loop-i
 decreases-loop-i l = l.n - l.i

@@ -6,7 +6,8 @@ use Rattle.meritcalls.proofs.Evaluating.{Evaluated}
 use Rattle.meritcalls.proofs.evaluation.evaluate_flat.Given as goal
 
 abbrev pub invariant-loop-n : goal.invariant-loop-n
-invariant-loop-n l = Evaluated (flat_surface l.flat) (slot_index l.indices) l.pupil l.count (record { operands = l.operands; operand_count = l.many }) l.initial.values l.initial.residuals l.values l.residuals
+invariant-loop-n l = Evaluated (flat_surface l.flat) (slot_index l.indices) l.pupil l.count
+    (record { operands = l.operands; operand_count = l.many }) l.initial.values l.initial.residuals l.values l.residuals
     l.total l.n × RootKnown l.known
 
 abbrev pub decreases-loop-n : goal.decreases-loop-n

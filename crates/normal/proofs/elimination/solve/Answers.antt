@@ -18,5 +18,6 @@ returns c =
     let e = u in
     let x = e.args in
     let yes : e.eliminate-eliminated.result ≡ Yes = cc in
-    solve-some x.p x.scratch.now e.eliminate-eliminated.new.scratch u.solve_upward.new.scratch (search rules) (search rules) (rw yes at e.eliminate-eliminated.ensures)
+    solve-some x.p x.scratch.now e.eliminate-eliminated.new.scratch u.solve_upward.new.scratch (search rules) (search rules)
+    (rw yes at e.eliminate-eliminated.ensures)
     u.solve_upward.ensures

@@ -9,7 +9,8 @@ use Rattle.normal.specs.Scratch.{system_in}
 use Rattle.normal.proofs.elimination.solve_upward.Given as goal
 
 abbrev pub invariant-loop-i : goal.invariant-loop-i
-invariant-loop-i l = (l.i ≤ l.p) × (length l.scratch ≡ length l.initial.scratch) × (l.scratch ≡ sets l.initial.scratch (step_at + l.i) (unknowns l.p (system_in l.initial.scratch) (l.p - l.i)))
+invariant-loop-i l = (l.i ≤ l.p) × (length l.scratch ≡ length l.initial.scratch)
+    × (l.scratch ≡ sets l.initial.scratch (step_at + l.i) (unknowns l.p (system_in l.initial.scratch) (l.p - l.i)))
 
 abbrev pub decreases-loop-i : goal.decreases-loop-i
 decreases-loop-i l = l.i

@@ -7,7 +7,8 @@ use Rattle.normal.specs.Loops.{with_products}
 use Rattle.normal.proofs.products.product.Given as goal
 
 abbrev pub invariant-loop-i : goal.invariant-loop-i
-invariant-loop-i l = (l.i ≤ l.p) × (length l.scratch ≡ length l.initial.scratch) × (l.scratch ≡ with_products l.m (jacobian_at l.jacobian) l.i l.initial.scratch)
+invariant-loop-i l = (l.i ≤ l.p) × (length l.scratch ≡ length l.initial.scratch)
+    × (l.scratch ≡ with_products l.m (jacobian_at l.jacobian) l.i l.initial.scratch)
 
 abbrev pub decreases-loop-i : goal.decreases-loop-i
 decreases-loop-i l = l.p - l.i

@@ -9,7 +9,8 @@ use Rattle.optics.specs.Properties.{paraxial_of}
 use Rattle.optics.proofs.properties.paraxial_slots.Given as goal
 
 abbrev pub invariant-loop-w : goal.invariant-loop-w
-invariant-loop-w l = (l.w ≤ 4) × (length l.slots ≡ 4) × (l.slots ≡ tab (λ (w : ℕ). paraxial_of (flat_surface l.flat) (slot_index l.indices w) l.pupil l.count) l.w ++ drop l.w l.initial.slots)
+invariant-loop-w l = (l.w ≤ 4) × (length l.slots ≡ 4)
+    × (l.slots ≡ tab (λ (w : ℕ). paraxial_of (flat_surface l.flat) (slot_index l.indices w) l.pupil l.count) l.w ++ drop l.w l.initial.slots)
 
 abbrev pub decreases-loop-w : goal.decreases-loop-w
 decreases-loop-w l = 4 - l.w

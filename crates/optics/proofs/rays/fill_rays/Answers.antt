@@ -14,5 +14,8 @@ loop-i-init c = search rules
 pub loop-i-preserved : goal.loop-i-preserved
 loop-i-preserved c =
     let l = c.loop-i in
-    let a = c.args in
-    (omega arith, tab-step (λ (k : ℕ). ray_of (get_or a.heights.now k nan) (get_or a.slopes.now k nan)) a.rays.now l.rays l.i _ no_ray l.invariant.1 c.ray_from-r.ensures (omega arith))
+    let a = c.args in (
+      omega arith,
+      tab-step (λ (k : ℕ). ray_of (get_or a.heights.now k nan) (get_or a.slopes.now k nan)) a.rays.now l.rays l.i _ no_ray l.invariant.1
+          c.ray_from-r.ensures (omega arith),
+    )

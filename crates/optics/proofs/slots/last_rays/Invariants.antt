@@ -9,7 +9,8 @@ use Rattle.optics.specs.Properties.{last_rays}
 use Rattle.optics.proofs.slots.last_rays.Given as goal
 
 abbrev pub invariant-loop-w : goal.invariant-loop-w
-invariant-loop-w l = (l.w ≤ 4) × (length l.last ≡ 4) × (l.last ≡ tab (λ (w : ℕ). last_rays (flat_surface l.flat) (slot_index l.indices w) l.pupil l.count) l.w ++ drop l.w l.initial.last)
+invariant-loop-w l = (l.w ≤ 4) × (length l.last ≡ 4)
+    × (l.last ≡ tab (λ (w : ℕ). last_rays (flat_surface l.flat) (slot_index l.indices w) l.pupil l.count) l.w ++ drop l.w l.initial.last)
 
 abbrev pub decreases-loop-w : goal.decreases-loop-w
 decreases-loop-w l = 4 - l.w

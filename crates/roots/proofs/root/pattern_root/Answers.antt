@@ -15,7 +15,13 @@ pub overflow_sub-z-then-e-eq0 : goal.overflow_sub-z-then-e-eq0
 overflow_sub-z-then-e-eq0 c = omega (arith, (lifted c.args.bits (omega arith) (omega arith)).few)
 
 pub scaled_root-requires : goal.scaled_root-requires
-scaled_root-requires c = omega (arith, (lifted c.args.bits (omega arith) (omega arith)).few, (lifted c.args.bits (omega arith) (omega arith)).is, (lifted c.args.bits (omega arith) (omega arith)).least, (lifted c.args.bits (omega arith) (omega arith)).most)
+scaled_root-requires c = omega (
+  arith,
+  (lifted c.args.bits (omega arith) (omega arith)).few,
+  (lifted c.args.bits (omega arith) (omega arith)).is,
+  (lifted c.args.bits (omega arith) (omega arith)).least,
+  (lifted c.args.bits (omega arith) (omega arith)).most,
+)
 
 pub returns-then-e-eq0 : goal.returns-then-e-eq0
 returns-then-e-eq0 c = low-root c.args.bits c.scaled_root.result (omega arith) (omega arith) c.scaled_root.ensures

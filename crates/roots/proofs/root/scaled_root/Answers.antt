@@ -5,7 +5,8 @@ use Rattle.floats.proofs.RootLaws.{nears-most}
 use Rattle.roots.proofs.Scaled.{shifted, scaled}
 use Rattle.roots.proofs.root.scaled_root.Goals as goal
 
-root-most : (d j q : ℕ) → 2 ^ 52 ≤ d → d < 2 ^ 53 → Nears (d * 2 ^ (j % 2) % 2 ^ 64 / 4 * 2 ^ 54 + d * 2 ^ (j % 2) % 2 ^ 64 % 4 * 4503599627370496) q → q ≤ 2 ^ 53
+root-most : (d j q : ℕ) → 2 ^ 52 ≤ d → d < 2 ^ 53 → Nears (d * 2 ^ (j % 2) % 2 ^ 64 / 4 * 2 ^ 54 + d * 2 ^ (j % 2) % 2 ^ 64 % 4 * 4503599627370496) q
+    → q ≤ 2 ^ 53
 root-most d j q lo hi n =
     let w : ℕ = d * 2 ^ (j % 2) % 2 ^ 64 in
     let s = shifted d (j % 2) lo hi (omega arith) in

@@ -4,7 +4,10 @@ use Rattle.std.proofs.Common.{rules}
 use Rattle.streams.proofs.input.go_on.Goals as goal
 
 pub returns-then-line : goal.returns-then-line
-returns-then-line c = record { from_le_to_2 = (search rules, search rules); went_on = record { there = λ h. (refl, refl); over = λ h. (refl, refl); read = λ h m. absurd (true≢false (sym c.if-line.true ∙ h)) } }
+returns-then-line c = record {
+  from_le_to_2 = (search rules, search rules);
+  went_on = record { there = λ h. (refl, refl); over = λ h. (refl, refl); read = λ h m. absurd (true≢false (sym c.if-line.true ∙ h)) };
+}
 
 pub returns-then-input : goal.returns-then-input
 returns-then-input c =
@@ -18,4 +21,7 @@ returns-then-input c =
     }
 
 pub returns : goal.returns
-returns c = record { from_le_to_2 = (search rules, search rules); went_on = record { there = λ h. (refl, refl); over = λ h. (refl, refl); read = λ h m. absurd (true≢false (sym m ∙ c.if-input.false)) } }
+returns c = record {
+  from_le_to_2 = (search rules, search rules);
+  went_on = record { there = λ h. (refl, refl); over = λ h. (refl, refl); read = λ h m. absurd (true≢false (sym m ∙ c.if-input.false)) };
+}

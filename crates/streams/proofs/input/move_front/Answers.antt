@@ -1,6 +1,7 @@
 -- `streams::input::move_front` meets its contract. The loop's invariant: the first i bytes are those from `from` on, and the rest is as it was.
 -- Assumes nothing.
-use Rattle.std.proofs.Common.{◌≡◌, ℕ, ◌+◌, ◌-◌, ◌<◌, ◌≤◌, List, length, get_or, take, drop, set, sym, refl, ap, ◌∙◌, add_comm, add-one, arith, length-drop, length-take-le, get_or-drop, drop-cons, take-suc, take_at, get_or-append-add, rules}
+use Rattle.std.proofs.Common.{◌≡◌, ℕ, ◌+◌, ◌-◌, ◌<◌, ◌≤◌, List, length, get_or, take, drop, set, sym, refl, ap, ◌∙◌, add_comm, add-one, arith, length-drop}
+use Rattle.std.proofs.Common.{length-take-le, get_or-drop, drop-cons, take-suc, take_at, get_or-append-add, rules}
 use Rattle.streams.proofs.Moved.{moved}
 use lib.Seq.{length_front, set_at, append_snoc}
 use Rattle.std.proofs.Common.{rules}

@@ -1,5 +1,6 @@
 -- `streams::input::read_on` meets its contract: what was kept stands before what came. Assumes nothing.
-use Rattle.std.proofs.Common.{◌≡◌, ℕ, zero, suc, ◌+◌, ◌≤◌, Bool, ltb, List, length, take, sym, ap, ◌∙◌, subst, arith, length-take-le, take_at, rules, le-ltb, lt-ltb}
+use Rattle.std.proofs.Common.{◌≡◌, ℕ, zero, suc, ◌+◌, ◌≤◌, Bool, ltb, List, length, take, sym, ap, ◌∙◌, subst, arith, length-take-le, take_at, rules, le-ltb}
+use Rattle.std.proofs.Common.{lt-ltb}
 use Rattle.streams.specs.declared.input.Input.{Input}
 use Rattle.streams.specs.Input.{roomed, held_bytes, read_to, ReadOn}
 use Rattle.std.proofs.Common.{rules}

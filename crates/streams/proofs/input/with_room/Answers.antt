@@ -21,7 +21,8 @@ module _ (buf : List ℕ) (input : Input) {r : Input} (left : List ℕ) where
 pub returns-then-to-from : goal.returns-then-to-from
 returns-then-to-from c =
     let a = c.args in
-    let p = dropped a.buf.now a.input a.buf.now c.if-to-from.true c.placed.ensures in record { value = (p.0, rw c.placed.ensures (omega arith)); buf_after = p.1 }
+    let p = dropped a.buf.now a.input a.buf.now c.if-to-from.true c.placed.ensures in
+    record { value = (p.0, rw c.placed.ensures (omega arith)); buf_after = p.1 }
 
 pub returns : goal.returns
 returns c =

@@ -1,5 +1,6 @@
 -- `streams::output::put` meets its contract: the text is too long for the buffer, or for what is left of it, or fits. Assumes nothing.
-use Rattle.std.proofs.Common.{◌≡◌, ℕ, ◌+◌, ◌<◌, ◌≤◌, List, [], ◌∷◌, ◌++◌, length, take, sym, ap, ◌∙◌, append_assoc, arith, length-append, length-take, length-take-le, take_at, rules, le-leb}
+use Rattle.std.proofs.Common.{◌≡◌, ℕ, ◌+◌, ◌<◌, ◌≤◌, List, [], ◌∷◌, ◌++◌, length, take, sym, ap, ◌∙◌, append_assoc, arith, length-append, length-take}
+use Rattle.std.proofs.Common.{length-take-le, take_at, rules, le-leb}
 use borrow.Author.Tests.{lt-leb}
 use Rattle.streams.specs.declared.output.Waiting.{Waiting}
 use Rattle.streams.specs.OutputLaws.{take_min, onward_then, same_lines}

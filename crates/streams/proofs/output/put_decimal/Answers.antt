@@ -1,5 +1,6 @@
 -- `streams::output::put_decimal` meets its contract: the fewest places, of which `io::decimal` speaks, are those that are looked for. Assumes nothing.
-use Rattle.std.proofs.Common.{◌≡◌, ℕ, zero, suc, ◌+◌, ◌-◌, ◌^◌, ◌<◌, ◌≤◌, List, [], ◌∷◌, sym, ap, ◌∙◌, ⊎_elim, le_of_suc-le-suc, eq-or-lt_of_le, lt_of_not-le, arith, lit<, rules, le-ltb, lt-ltb}
+use Rattle.std.proofs.Common.{◌≡◌, ℕ, zero, suc, ◌+◌, ◌-◌, ◌^◌, ◌<◌, ◌≤◌, List, [], ◌∷◌, sym, ap, ◌∙◌, ⊎_elim, le_of_suc-le-suc, eq-or-lt_of_le, lt_of_not-le}
+use Rattle.std.proofs.Common.{arith, lit<, rules, le-ltb, lt-ltb}
 use native.Mathlib.Nat.{pow-le-pow_right}
 use Rattle.io.specs.Digits.{last_digits, IsDigitCount}
 use Rattle.streams.specs.OutputLaws.{put_as}

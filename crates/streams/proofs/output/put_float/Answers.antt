@@ -22,7 +22,8 @@ float_to_bits-x c = is_number c.args.x c.if-x.false
 pub returns-then-x : goal.returns-then-x
 returns-then-x c =
     let a = c.args in
-    let p = c.put in record { bytes_in_bounds = p.ensures.bytes_in_bounds; put = put_as (ap (λ (text : List ℕ). text ∷ []) (nan-text a.x c.if-x.true)) p.ensures.put }
+    let p = c.put in
+    record { bytes_in_bounds = p.ensures.bytes_in_bounds; put = put_as (ap (λ (text : List ℕ). text ∷ []) (nan-text a.x c.if-x.true)) p.ensures.put }
 
 pub returns-else-x : goal.returns-else-x
 returns-else-x c =

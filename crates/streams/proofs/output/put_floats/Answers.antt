@@ -25,4 +25,5 @@ pub returns : goal.returns
 returns c =
     let l = c.loop-i in
     let a = c.args in
-    let start = put-from-clip a.waiting a.out.now c.within-held.ensures in record { bytes_in_bounds = search rules; put = put_as (ap float_texts (take_all l.i a.row.now (search rules))) (then start l.invariant.3 (search rules)) }
+    let start = put-from-clip a.waiting a.out.now c.within-held.ensures in
+    record { bytes_in_bounds = search rules; put = put_as (ap float_texts (take_all l.i a.row.now (search rules))) (then start l.invariant.3 (search rules)) }

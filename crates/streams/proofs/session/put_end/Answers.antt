@@ -10,4 +10,5 @@ returns c =
     c.put-waiting.ensures.put in
     let lines = then start c.put_count-waiting.ensures.put
     (search rules) in
-    let refused = then lines c.put_count-waiting-2.ensures.put (search rules) in record { bytes_in_bounds = search rules; put = then refused c.put_count.ensures.put (search rules) }
+    let refused = then lines c.put_count-waiting-2.ensures.put (search rules) in
+    record { bytes_in_bounds = search rules; put = then refused c.put_count.ensures.put (search rules) }

@@ -28,7 +28,13 @@ values_of-found-requires c =
     let job = held_job x.counts.now x.numbers.now x.kind in
     let n = (passed job pre.fact_3).counted in
     let k = c.pending_surfaces.ensures.fact_2 in
-    record { fact_1 = omega (arith, n.surfaces, k.long, pre.fact_1); fact_2 = n.surfaces; fact_3 = n.operands; fact_4 = pre.fact_2; fact_5 = operands-known job pre.fact_3 }
+    record {
+      fact_1 = omega (arith, n.surfaces, k.long, pre.fact_1);
+      fact_2 = n.surfaces;
+      fact_3 = n.operands;
+      fact_4 = pre.fact_2;
+      fact_5 = operands-known job pre.fact_3;
+    }
 
 pub advance_run-requires : goal.advance_run-requires
 advance_run-requires c =

@@ -15,7 +15,10 @@ overflow_add-p c = omega (arith, count-le c.args.v c.loop-i.i)
 
 pub loop-i-preserved : goal.loop-i-preserved
 loop-i-preserved c =
-    elim c.if-d.branch [ then-d w ↦ (omega arith, omega (arith, w.p-is, count-more c.args.v c.loop-i.i w.if-d.true)) | else-d w ↦ (omega arith, omega (arith, w.p-is, count_past c.args.v c.loop-i.i w.if-d.false)) ]
+    elim c.if-d.branch [
+      | then-d w ↦ (omega arith, omega (arith, w.p-is, count-more c.args.v c.loop-i.i w.if-d.true))
+      | else-d w ↦ (omega arith, omega (arith, w.p-is, count_past c.args.v c.loop-i.i w.if-d.false))
+    ]
 
 pub returns : goal.returns
 returns c =
