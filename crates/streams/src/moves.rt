@@ -1,6 +1,6 @@
 // Bytes to and from the system. A call that was only interrupted, or that finds nothing at the moment, is made again; what
 // fails otherwise is said on standard error.
-ghost use Rattle.std.specs.Prelude.{◌≡◌, ◌≤◌, true, length};
+ghost use Rattle.std.specs.Prelude.{◌≡◌, ◌≤◌, true, length, IfSome};
 
 use crate::console::Console;
 use crate::parts;
@@ -46,25 +46,33 @@ fn failed(console: Console, what: &[u8], error: &Error) -> Moved
     }
 }
 
+// One read: what there is at the moment, and nothing of an answer where it may be made again.
+fn read_once(console: Console, room: &mut [u8]) -> Option<Moved>
+    ensures { IfSome result (λ moved. moved.bytes ≤ length room.new) }
+{
+    let mut input = console.input;
+    match input.read(room) {
+        Ok(bytes) => Some(Moved {
+            bytes: bytes,
+            is_good: true,
+        }),
+        Err(error) => {
+            if is_passing(&error) {
+                return None;
+            }
+            Some(failed(console, b"standard input", &error))
+        }
+    }
+}
+
 // Waits for bytes, and reads what there is: none at the end of the input. A proved loop has to end: the tries are counted down,
 // from a number that no run uses up.
 pub(crate) fn read_some(console: Console, room: &mut [u8]) -> Moved
     ensures { result.bytes ≤ length room.new }
 {
-    let mut input = console.input;
     for _ in 0..u64::MAX {
-        match input.read(room) {
-            Ok(bytes) => {
-                return Moved {
-                    bytes: bytes,
-                    is_good: true,
-                };
-            }
-            Err(error) => {
-                if !is_passing(&error) {
-                    return failed(console, b"standard input", &error);
-                }
-            }
+        if let Some(moved) = read_once(console, room) {
+            return moved;
         }
     }
     let used_up = Error::from(ErrorKind::TimedOut);

@@ -2,21 +2,27 @@
 ghost use Rattle.std.specs.Prelude.{◌≡◌, ◌+◌, ◌≤◌, ◌++◌, length, drop};
 ghost use Rattle.streams.specs.Parts.{index_of, slice};
 
-// Where the first such byte stands from `from` on, or `to` where none does before that.
+// Where the first such byte stands in a part, or how long that is.
+fn index_in(part: &[u8], byte: u8) -> usize
+    ensures value { result ≡ index_of byte part.now }
+    ensures within { result ≤ length part.now }
+{
+    for (i, b) in part.iter().enumerate() {
+        if *b == byte {
+            return i;
+        }
+    }
+    part.len()
+}
+
+// The same from `from` up to `to`: `to` where there is none.
 pub(crate) fn find(buf: &[u8], from: usize, to: usize, byte: u8) -> usize
     requires from_le_to { from ≤ to }
     requires to_in_bounds { to ≤ length buf.now }
     ensures value { result ≡ from + index_of byte (slice from to buf.now) }
     ensures within { (from ≤ result) × (result ≤ to) }
 {
-    let mut i = from;
-    while i < to {
-        if buf[i] == byte {
-            return i;
-        }
-        i += 1;
-    }
-    to
+    from + index_in(&buf[from..to], byte)
 }
 
 // Writes text to the start of the buffer, and answers how many bytes it has.
