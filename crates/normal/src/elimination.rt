@@ -26,14 +26,12 @@ fn pivot_row(scratch: &[f64], p: usize, c: usize) -> usize
 {
     let mut best = c;
     let mut most = abs(scratch[system_place(c, c)]);
-    let mut r = c + 1;
-    while r < p {
+    for r in c + 1..p {
         let size = abs(scratch[system_place(r, c)]);
         if size > most {
             best = r;
             most = size;
         }
-        r += 1;
     }
     best
 }
@@ -44,12 +42,10 @@ fn exchange(scratch: &mut [f64], a: usize, b: usize, n: usize)
     requires fact_2 { b + n ≤ length scratch.old }
     ensures { scratch.new ≡ parts_exchanged a b n scratch.old }
 {
-    let mut k: usize = 0;
-    while k < n {
+    for k in 0..n {
         let x = scratch[a + k];
         scratch[a + k] = scratch[b + k];
         scratch[b + k] = x;
-        k += 1;
     }
 }
 
@@ -76,10 +72,8 @@ fn subtract(scratch: &mut [f64], a: usize, b: usize, n: usize, factor: f64)
     requires fact_2 { b + n ≤ length scratch.old }
     ensures { scratch.new ≡ part_subtracted a b n factor scratch.old }
 {
-    let mut k: usize = 0;
-    while k < n {
+    for k in 0..n {
         scratch[b + k] = scratch[b + k] - factor * scratch[a + k];
-        k += 1;
     }
 }
 
@@ -108,10 +102,8 @@ fn reduce_below(scratch: &mut [f64], p: usize, c: usize, pivot: f64)
     requires fact_3 { p ≤ most_variables }
     ensures { scratch.new ≡ rows_reduced p c pivot (p - suc c) scratch.old }
 {
-    let mut r = c + 1;
-    while r < p {
+    for r in c + 1..p {
         reduce_row(scratch, p, c, r, pivot);
-        r += 1;
     }
 }
 
@@ -121,14 +113,12 @@ fn eliminate(scratch: &mut [f64], p: usize) -> Solved
     requires fact_2 { p ≤ most_variables }
     ensures { Eliminated p scratch.old scratch.new result }
 {
-    let mut c: usize = 0;
-    while c < p {
+    for c in 0..p {
         let pivot = bring_pivot(scratch, p, c);
         if pivot == 0.0 {
             return Solved::No;
         }
         reduce_below(scratch, p, c, pivot);
-        c += 1;
     }
     Solved::Yes
 }
@@ -141,10 +131,8 @@ fn unknown(scratch: &[f64], p: usize, i: usize) -> f64
     ensures { result ≡ unknown_in p scratch.now i }
 {
     let mut rest = scratch[system_place(i, p)];
-    let mut k = i + 1;
-    while k < p {
+    for k in i + 1..p {
         rest = rest - scratch[system_place(i, k)] * scratch[STEP + k];
-        k += 1;
     }
     rest / scratch[system_place(i, i)]
 }
@@ -155,9 +143,7 @@ fn solve_upward(scratch: &mut [f64], p: usize)
     requires fact_2 { p ≤ most_variables }
     ensures { scratch.new ≡ solved_upward p scratch.old }
 {
-    let mut i = p;
-    while i > 0 {
-        i -= 1;
+    for i in (0..p).rev() {
         scratch[STEP + i] = unknown(scratch, p, i);
     }
 }

@@ -39,10 +39,8 @@ fn system_row(scratch: &mut [f64], p: usize, damping: f64, i: usize)
     ensures { scratch.new ≡ with_system_row p damping i scratch.old }
 {
     let first = system_place(i, 0);
-    let mut j: usize = 0;
-    while j <= p {
+    for j in 0..p + 1 {
         scratch[first + j] = system_entry(scratch, p, damping, i, j);
-        j += 1;
     }
 }
 
@@ -53,10 +51,8 @@ fn system(scratch: &mut [f64], p: usize, damping: f64)
     requires fact_2 { p ≤ most_variables }
     ensures { scratch.new ≡ with_system p damping p scratch.old }
 {
-    let mut i: usize = 0;
-    while i < p {
+    for i in 0..p {
         system_row(scratch, p, damping, i);
-        i += 1;
     }
 }
 
@@ -66,12 +62,10 @@ fn all_finite(scratch: &[f64], p: usize) -> Solved
     requires fact_2 { p ≤ most_variables }
     ensures { result ≡ solved_if (all_below (λ (k : ℕ). finite_of (get_or scratch.now (step_at + k) nan)) p) }
 {
-    let mut k: usize = 0;
-    while k < p {
+    for k in 0..p {
         if !is_finite(scratch[STEP + k]) {
             return Solved::No;
         }
-        k += 1;
     }
     Solved::Yes
 }

@@ -25,13 +25,11 @@ returns-then-not-is_finite c =
 pub loop-k-preserved : goal.loop-k-preserved
 loop-k-preserved c =
     let l = c in
-    let x = l.args in (
-      omega arith,
-      all_more (λ (n : ℕ). finite_of (get_or x.scratch.now (step_at + n) nan)) l.loop-k.k l.loop-k.invariant.1
-          (sym c.is_finite.ensures ∙ c.if-not-is_finite.false),
-    )
+    let x = l.args in
+    all_more (λ (n : ℕ). finite_of (get_or x.scratch.now (step_at + n) nan)) l.loop-k.k l.loop-k.invariant
+    (sym c.is_finite.ensures ∙ c.if-not-is_finite.false)
 
 pub returns : goal.returns
 returns c =
     let e : c.loop-k.k ≡ c.args.p = omega arith in
-    ap solved_if (sym (rw e at c.loop-k.invariant.1))
+    ap solved_if (sym (rw e at c.loop-k.invariant))
