@@ -50,9 +50,8 @@ pub fn polish_settings() -> DlsConfig
 fn multi_start_defaults() -> MultiStartConfig
     ensures { result ≡ multi_start_defaults }
 {
-    let runs = local_defaults();
     MultiStartConfig {
-        local_dls_config: runs,
+        local_dls_config: local_defaults(),
         num_trials: 10,
         seed: 42,
     }
@@ -133,15 +132,10 @@ fn method_of(request: MethodRequest) -> Method
 pub(crate) fn filled_job(request: JobRequest) -> Job
     ensures { result ≡ filled request }
 {
-    let prescription = request.prescription;
-    let variables = request.variables;
-    let merit_function = request.merit_function;
-    let asked = request.method;
-    let method = method_of(asked);
     Job {
-        prescription,
-        variables,
-        merit_function,
-        method,
+        prescription: request.prescription,
+        variables: request.variables,
+        merit_function: request.merit_function,
+        method: method_of(request.method),
     }
 }
