@@ -1,27 +1,26 @@
-// The sag of a surface, and the edge between two.
+// The sag of a surface, and the edge between two: each a number, or none where the conic does not reach so far out, or there is no second surface.
 ghost use Rattle.std.specs.Prelude.{◌≡◌, ◌*◌, ◌≤◌, length};
 ghost use Rattle.optics.specs.Curvature.{curvature};
 ghost use Rattle.optics.specs.Types.{flat_surface};
 ghost use Rattle.edges.specs.Edges.{sag_of, edge_from, edge_between, edge_of};
 
-use crate::types::Sag;
 use optics::OpticalSurface;
 
 // The sag at radius r of a conic k with curvature c. Every product from the left: another order rounds otherwise.
-fn sag_of(c: f64, r: f64, k: f64) -> Sag
+fn sag_of(c: f64, r: f64, k: f64) -> Option<f64>
     ensures { result ≡ sag_of c r k }
 {
     let t = 1.0 - (1.0 + k) * (c * c * r * r);
     if t < 0.0 {
-        return Sag::Missing;
+        return None;
     }
     if t != t {
-        return Sag::Missing;
+        return None;
     }
-    Sag::Is(c * r * r / (1.0 + roots::sqrt(t)))
+    Some(c * r * r / (1.0 + roots::sqrt(t)))
 }
 
-fn surface_sag(surface: OpticalSurface, r: f64) -> Sag
+fn surface_sag(surface: OpticalSurface, r: f64) -> Option<f64>
     ensures { result ≡ sag_of (curvature surface.radius_mm) r surface.conic_constant }
 {
     sag_of(
@@ -31,19 +30,13 @@ fn surface_sag(surface: OpticalSurface, r: f64) -> Sag
     )
 }
 
-fn edge_from(thickness: f64, first: Sag, second: Sag) -> Sag
+fn edge_from(thickness: f64, first: Option<f64>, second: Option<f64>) -> Option<f64>
     ensures { result ≡ edge_from thickness first second }
 {
-    let Sag::Is(z1) = first else {
-        return Sag::Missing;
-    };
-    let Sag::Is(z2) = second else {
-        return Sag::Missing;
-    };
-    Sag::Is(thickness + z2 - z1)
+    Some(thickness + second? - first?)
 }
 
-fn edge_between(surface: OpticalSurface, successor: OpticalSurface) -> Sag
+fn edge_between(surface: OpticalSurface, successor: OpticalSurface) -> Option<f64>
     ensures { result ≡ edge_between surface successor }
 {
     let r = floats::min(surface.semi_diameter_mm, successor.semi_diameter_mm);
@@ -53,15 +46,15 @@ fn edge_between(surface: OpticalSurface, successor: OpticalSurface) -> Sag
 }
 
 // The edge behind surface i, any number: i + 1 is formed only where i is a surface's.
-pub fn edge_of(flat: &[f64], count: usize, i: usize) -> Sag
+pub fn edge_of(flat: &[f64], count: usize, i: usize) -> Option<f64>
     requires { 4 * count ≤ length flat.now }
     ensures { result ≡ edge_of (flat_surface flat.now) count i }
 {
     if i >= count {
-        return Sag::Missing;
+        return None;
     }
     if i + 1 >= count {
-        return Sag::Missing;
+        return None;
     }
     let surface = optics::surface_at(flat, i);
     let successor = optics::surface_at(flat, i + 1);

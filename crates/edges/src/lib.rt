@@ -3,7 +3,5 @@
 #![tactic(auto)]
 
 mod edge;
-mod types;
 
 pub use edge::edge_of;
-pub use types::Sag;

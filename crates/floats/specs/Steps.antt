@@ -1,5 +1,5 @@
 -- What the functions that `sqrt` calls ensure. Definitions only: no contract that a caller of `sqrt` sees cites one.
-use Rattle.std.specs.Prelude.{◌≡◌, ℕ, ◌+◌, ◌-◌, ◌*◌, ◌/◌, ◌%◌, ◌^◌, ◌≤◌, ◌<◌, Bool, true, false, cond, ltb}
+use Rattle.std.specs.Prelude.{◌≡◌, ℕ, ◌+◌, ◌-◌, ◌*◌, ◌/◌, ◌%◌, ◌^◌, ◌≤◌, ◌<◌, cond, ltb, Option, Some, None}
 use Rattle.floats.specs.Sqrt.{nearest_root}
 
 -- a pattern's number in units of 2 ^ -1074
@@ -30,6 +30,7 @@ pub record Closer (w q q' : ℕ) : Type 0 where
   pub most : q' ≤ 2 ^ 53
   pub less : apart q' (nearest_root w) < apart q (nearest_root w)
 
-abbrev pub Mended : ℕ → ℕ → ℕ → Bool → Type 0
-Mended w q q' true = Nears w q
-Mended w q q' false = Closer w q q'
+-- what a step from q answers: nothing where q is the number that is sought, and else one that is nearer
+abbrev pub Mended : ℕ → ℕ → Option ℕ → Type 0
+Mended w q None = Nears w q
+Mended w q (Some q') = Closer w q q'

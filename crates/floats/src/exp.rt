@@ -8,10 +8,8 @@ fn terms(y: f64) -> f64
     ensures { result ≡ series 16 y one64 }
 {
     let mut s = 1.0;
-    let mut k = 16u32;
-    while k > 0 {
-        s = 1.0 + (y * s) / (k as f64);
-        k -= 1;
+    for k in (1..=16u32).rev() {
+        s = 1.0 + (y * s) / f64::from(k);
     }
     s
 }
@@ -20,10 +18,8 @@ fn power(x: f64) -> f64
     ensures { result ≡ squares 10 x }
 {
     let mut s = x;
-    let mut k = 10u32;
-    while k > 0 {
+    for _ in 0..10u32 {
         s = s * s;
-        k -= 1;
     }
     s
 }

@@ -1,5 +1,5 @@
 -- Values one after the other, and merit and residuals out of the values alone. Assumes nothing.
-use Rattle.std.specs.Prelude.{◌≡◌, List, ◌++◌, Float, get_or, drop, replicate}
+use Rattle.std.specs.Prelude.{◌≡◌, List, ◌++◌, Float, get_or, drop, replicate, Option, None}
 use Rattle.std.proofs.Math.Path.{refl}
 use Rattle.std.proofs.Common.{sym, ap, ◌∙◌, le_refl, add-one, arith}
 use Prim.Native.Nat.{ℕ, zero, suc, ◌+◌, ◌-◌, ◌≤◌, ◌<◌}
@@ -10,8 +10,7 @@ use Rattle.floats.specs.Constants.{zero64}
 use Rattle.lists.specs.Tab.{tab, length-tab, get_or-tab, tab-same, drop-replicate}
 use Rattle.optics.specs.Properties.{paraxial_of}
 use Rattle.optics.specs.declared.types.OpticalSurface.{OpticalSurface}
-use Rattle.optics.specs.declared.types.Paraxial.{Paraxial}
-use Rattle.optics.specs.declared.types.Paraxial.TheVariants.{Failed}
+use Rattle.optics.specs.declared.types.ParaxialProperties.{ParaxialProperties}
 use Rattle.merit.specs.Evaluation.{residual, term, counted_total, entries, values_after, value_at, total, evaluation_of}
 use Rattle.merit.proofs.EvaluationLaws.{values-after}
 use Rattle.merit.specs.OperandTable.{operand_at}
@@ -38,15 +37,15 @@ all-stand value m n values e h =
 
 -- value n, out of the traces of the slots and the values before it
 module _ (surface : ℕ → OpticalSurface) (index : ℕ → ℕ → Float) (pupil : Float) (count : ℕ) (f : MeritFunction) where
-  pub value-next : (slots : List Paraxial) (earlier : List Float) (n : ℕ) (o : MeritOperand) (r : Float) → SlotsKnown f → n < f.operand_count → n ≤ 12
-      → ((w : ℕ) → w < 4 → get_or slots w Failed ≡ paraxial_of surface (index w) pupil count) → Standing (value_at surface index pupil count f) n earlier → o
+  pub value-next : (slots : List (Option ParaxialProperties)) (earlier : List Float) (n : ℕ) (o : MeritOperand) (r : Float) → SlotsKnown f → n < f.operand_count → n ≤ 12
+      → ((w : ℕ) → w < 4 → get_or slots w None ≡ paraxial_of surface (index w) pupil count) → Standing (value_at surface index pupil count f) n earlier → o
       ≡ operand_at f n
-      → r ≡ value_of earlier (λ (w : ℕ). get_or slots w Failed) surface count o.operand_type → r ≡ value_at surface index pupil count f n
+      → r ≡ value_of earlier (λ (w : ℕ). get_or slots w None) surface count o.operand_type → r ≡ value_at surface index pupil count f n
   value-next slots earlier n o r known more room traced stand is e =
       let before : earlier ≡ values_after surface index pupil count f n =
       all-stand (value_at surface index pupil count f) n n earlier stand refl ∙ sym (values-after surface index pupil count f n room) in
       e
-      ∙ (λ i. value_of (before i) (λ (w : ℕ). get_or slots w Failed) surface count (is i).operand_type)
+      ∙ (λ i. value_of (before i) (λ (w : ℕ). get_or slots w None) surface count (is i).operand_type)
       ∙ value_same _ _ _ _ _ _ (known n more) (traced _)
 
 -- of the values of a lens merit and residuals are the lens's

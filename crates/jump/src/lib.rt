@@ -35,11 +35,9 @@ fn applied(tables: &[u64; 4096], k: usize, state: u64) -> u64
 {
     let mut sum = 0u64;
     let mut bits = state;
-    let mut i = 0usize;
-    while i < 64 {
-        sum = sum ^ at_bit(tables[64 * k + i], bits % 2);
-        bits = bits / 2;
-        i += 1;
+    for i in 0..64 {
+        sum ^= at_bit(tables[64 * k + i], bits % 2);
+        bits /= 2;
     }
     sum
 }
@@ -51,13 +49,11 @@ pub fn jump(state: u64, n: u64) -> u64
     let tables = stored();
     let mut x = state;
     let mut left = n;
-    let mut k = 0usize;
-    while k < 64 {
+    for k in 0..64 {
         if left % 2 == 1 {
             x = applied(&tables, k, x);
         }
-        left = left / 2;
-        k += 1;
+        left /= 2;
     }
     x
 }
@@ -81,11 +77,8 @@ pub fn drawn() -> [u64; 4096]
     ensures { result ≡ table }
 {
     let mut tables = [0u64; 4096];
-    let mut at = 0usize;
-    while at < 4096 {
-        let word = word_from(&tables, at);
-        tables[at] = word;
-        at += 1;
+    for at in 0..4096 {
+        tables[at] = word_from(&tables, at);
     }
     tables
 }

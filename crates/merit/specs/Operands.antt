@@ -1,19 +1,15 @@
 -- The value of an operand, "by the tests in `MeritOperand::evaluate`". Definitions only.
-use Rattle.std.specs.Prelude.{ℕ, zero, suc, Bool, cond, ◌&&◌, List, ltb, Float}
+use Rattle.std.specs.Prelude.{ℕ, zero, suc, Bool, cond, ◌&&◌, List, ltb, Float, Option, Some, None}
 use Rattle.std.specs.Float.{binary64}
 use Rattle.std.specs.Float.Ieee.{add, sub, div, lt, of_bits}
 use Rattle.floats.specs.Basic.{magnitude, finite_of}
 use Rattle.floats.specs.Constants.{zero64}
 use Rattle.optics.specs.declared.types.OpticalSurface.{OpticalSurface}
-use Rattle.optics.specs.declared.types.Paraxial.{Paraxial}
-use Rattle.optics.specs.declared.types.Paraxial.TheVariants.{Failed, Traced}
 use Rattle.optics.specs.declared.types.ParaxialProperties.{ParaxialProperties}
 use Rattle.edges.specs.Edges.{edge_of}
 use Rattle.merit.specs.declared.types.OperandType.{OperandType}
 use Rattle.merit.specs.declared.types.OperandType.TheVariants.{EffectiveFocalLength, WorkingFNumber, TotalTrack, BackFocalLength, ParaxialMagnification}
 use Rattle.merit.specs.declared.types.OperandType.TheVariants.{MinCenterThickness, MaxCenterThickness, MinEdgeThickness}
-use Rattle.edges.specs.declared.types.Sag.{Sag}
-use Rattle.edges.specs.declared.types.Sag.TheVariants.{Is, Missing}
 
 -- "Failures .. give 10,000, 100, 10,000 and 0 for the four paraxial kinds"
 abbrev pub ten_thousand : Float
@@ -40,24 +36,24 @@ finite_or other x = cond (finite_of x) x other
 unfoldable pub is_focal_length : Float → Bool
 is_focal_length x = finite_of x && lt least_focal_length (magnitude x)
 
-abbrev pub focal_length : Paraxial → Float
-focal_length Failed = ten_thousand
-focal_length (Traced q) = cond (is_focal_length q.efl_mm) q.efl_mm ten_thousand
+abbrev pub focal_length : Option ParaxialProperties → Float
+focal_length None = ten_thousand
+focal_length (Some q) = cond (is_focal_length q.efl_mm) q.efl_mm ten_thousand
 
-abbrev pub f_number : Paraxial → Float
-f_number Failed = hundred
-f_number (Traced q) = finite_or hundred q.f_number
+abbrev pub f_number : Option ParaxialProperties → Float
+f_number None = hundred
+f_number (Some q) = finite_or hundred q.f_number
 
-abbrev pub back_focus : Paraxial → Float
-back_focus Failed = ten_thousand
-back_focus (Traced q) = finite_or ten_thousand q.bfl_mm
+abbrev pub back_focus : Option ParaxialProperties → Float
+back_focus None = ten_thousand
+back_focus (Some q) = finite_or ten_thousand q.bfl_mm
 
 unfoldable pub is_magnified : ParaxialProperties → Bool
 is_magnified q = lt least_back_focus (magnitude q.bfl_mm) && lt least_divisor (magnitude q.efl_mm)
 
-abbrev pub magnification : Paraxial → Float
-magnification Failed = zero64
-magnification (Traced q) = cond (is_magnified q) (div binary64 q.bfl_mm q.efl_mm) zero64
+abbrev pub magnification : Option ParaxialProperties → Float
+magnification None = zero64
+magnification (Some q) = cond (is_magnified q) (div binary64 q.bfl_mm q.efl_mm) zero64
 
 -- the thicknesses added in rising order, from +0.0
 unfoldable pub track : (surface : ℕ → OpticalSurface) → ℕ → Float
@@ -83,12 +79,12 @@ abbrev pub of_surface : (i count : ℕ) → Float → Float
 of_surface i count x = cond (ltb i count) (counted x) penalty
 
 -- "the shortfall counts as for centre thickness. A failure or a missing successor counts 100,000." (request 3)
-abbrev pub edge_counted : (limit : Float) → Sag → Float
-edge_counted limit (Is edge) = counted (shortfall edge limit)
-edge_counted limit Missing = penalty
+abbrev pub edge_counted : (limit : Float) → Option Float → Float
+edge_counted limit (Some edge) = counted (shortfall edge limit)
+edge_counted limit None = penalty
 
 -- The value of an operand of a lens: `slot w` is what the trace of slot w gives, and `surface` gives its surfaces, of which there are count.
-unfoldable pub value_of : (earlier : List Float) (slot : ℕ → Paraxial) (surface : ℕ → OpticalSurface) (count : ℕ) → OperandType → Float
+unfoldable pub value_of : (earlier : List Float) (slot : ℕ → Option ParaxialProperties) (surface : ℕ → OpticalSurface) (count : ℕ) → OperandType → Float
 value_of earlier slot surface count (EffectiveFocalLength w) = counted (focal_length (slot w))
 value_of earlier slot surface count (WorkingFNumber w) = counted (f_number (slot w))
 value_of earlier slot surface count TotalTrack = counted (track surface count)

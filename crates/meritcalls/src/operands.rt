@@ -1,14 +1,13 @@
 // The value of an operand, by the tests of `MeritOperand::evaluate`.
-ghost use Rattle.std.specs.Prelude.{cond, ◌≡◌, ℕ, ◌*◌, ◌<◌, ◌≤◌, length, get_or};
+ghost use Rattle.std.specs.Prelude.{cond, ◌≡◌, ℕ, ◌*◌, ◌<◌, ◌≤◌, length, get_or, Some, None};
 ghost use Rattle.optics.specs.Types.{flat_surface};
-ghost use Rattle.optics.specs.declared.types.Paraxial.TheVariants.{Failed, Traced};
 ghost use Rattle.merit.specs.Operands.{finite_or, is_focal_length, is_magnified, focal_length, f_number, back_focus, magnification, track, shortfall, excess};
 ghost use Rattle.merit.specs.Operands.{counted, of_surface, edge_counted, value_of};
 
-use edges::{Sag, edge_of};
+use edges::edge_of;
 use floats::{abs, is_finite};
 use merit::OperandType;
-use optics::{Paraxial, ParaxialProperties};
+use optics::ParaxialProperties;
 
 // A number where it is finite, else what counts in its place.
 fn finite_or(other: f64, x: f64) -> f64
@@ -35,30 +34,30 @@ fn focal_length_or(other: f64, x: f64) -> f64
     other
 }
 
-fn focal_length(slot: Paraxial) -> f64
+fn focal_length(slot: Option<ParaxialProperties>) -> f64
     ensures { result ≡ focal_length slot }
 {
     match slot {
-        Paraxial::Failed => 10000.0,
-        Paraxial::Traced(q) => focal_length_or(10000.0, q.efl_mm),
+        None => 10000.0,
+        Some(q) => focal_length_or(10000.0, q.efl_mm),
     }
 }
 
-fn f_number(slot: Paraxial) -> f64
+fn f_number(slot: Option<ParaxialProperties>) -> f64
     ensures { result ≡ f_number slot }
 {
     match slot {
-        Paraxial::Failed => 100.0,
-        Paraxial::Traced(q) => finite_or(100.0, q.f_number),
+        None => 100.0,
+        Some(q) => finite_or(100.0, q.f_number),
     }
 }
 
-fn back_focus(slot: Paraxial) -> f64
+fn back_focus(slot: Option<ParaxialProperties>) -> f64
     ensures { result ≡ back_focus slot }
 {
     match slot {
-        Paraxial::Failed => 10000.0,
-        Paraxial::Traced(q) => finite_or(10000.0, q.bfl_mm),
+        None => 10000.0,
+        Some(q) => finite_or(10000.0, q.bfl_mm),
     }
 }
 
@@ -69,7 +68,7 @@ fn is_magnified(q: ParaxialProperties) -> bool
 }
 
 fn traced_magnification(q: ParaxialProperties) -> f64
-    ensures { result ≡ magnification (Traced q) }
+    ensures { result ≡ magnification (Some q) }
 {
     if is_magnified(q) {
         return q.bfl_mm / q.efl_mm;
@@ -77,12 +76,12 @@ fn traced_magnification(q: ParaxialProperties) -> f64
     0.0
 }
 
-fn magnification_of(slot: Paraxial) -> f64
+fn magnification_of(slot: Option<ParaxialProperties>) -> f64
     ensures { result ≡ magnification slot }
 {
     match slot {
-        Paraxial::Failed => 0.0,
-        Paraxial::Traced(q) => traced_magnification(q),
+        None => 0.0,
+        Some(q) => traced_magnification(q),
     }
 }
 
@@ -125,13 +124,13 @@ fn counted_value(x: f64) -> f64
     finite_or(100000.0, x)
 }
 
-fn slot_of(slots: [Paraxial; 4], w: usize) -> Paraxial
-    ensures { result ≡ get_or slots w Failed }
+fn slot_of(slots: [Option<ParaxialProperties>; 4], w: usize) -> Option<ParaxialProperties>
+    ensures { result ≡ get_or slots w None }
 {
     if w < 4 {
         return slots[w];
     }
-    Paraxial::Failed
+    None
 }
 
 // The thickness behind surface i, where there is such a surface.
@@ -156,25 +155,25 @@ fn of_surface(i: usize, count: usize, x: f64) -> f64
 }
 
 // What an edge falls short of the least; where it is missing, 100,000, before any limit is looked at.
-fn edge_counted(limit: f64, edge: Sag) -> f64
+fn edge_counted(limit: f64, edge: Option<f64>) -> f64
     ensures { result ≡ edge_counted limit edge }
 {
     match edge {
-        Sag::Is(e) => counted_value(shortfall_of(e, limit)),
-        Sag::Missing => 100000.0,
+        Some(e) => counted_value(shortfall_of(e, limit)),
+        None => 100000.0,
     }
 }
 
 // An operand's value, given the traces of the slots, on surfaces laid flat.
 pub fn value_of(
     kind: OperandType,
-    slots: [Paraxial; 4],
+    slots: [Option<ParaxialProperties>; 4],
     flat: &[f64],
     count: usize,
     earlier: [f64; 12],
 ) -> f64
     requires { 4 * count ≤ length flat.now }
-    ensures { result ≡ value_of earlier (λ (w : ℕ). get_or slots w Failed) (flat_surface flat.now) count kind }
+    ensures { result ≡ value_of earlier (λ (w : ℕ). get_or slots w None) (flat_surface flat.now) count kind }
 {
     match kind {
         OperandType::EffectiveFocalLength(w) => counted_value(focal_length(slot_of(slots, w))),

@@ -14,7 +14,7 @@ use Rattle.optics.specs.Properties.{last_rays, rays_between, properties_behind, 
 use Rattle.optics.specs.declared.types.ArrivingRay.{ArrivingRay}
 use Rattle.optics.specs.declared.types.LastRays.{LastRays}
 use Rattle.optics.specs.declared.types.OpticalSurface.{OpticalSurface}
-use Rattle.optics.specs.declared.types.Paraxial.TheVariants.{Traced}
+use Rattle.std.specs.Prelude.{Some}
 use Rattle.optics.specs.declared.types.ParaxialProperties.{ParaxialProperties}
 
 module _ (surface : ℕ → OpticalSurface) (index : ℕ → ℕ → Float) (pupil : Float) where
@@ -56,8 +56,8 @@ module _ (surface : ℕ → OpticalSurface) (index : ℕ → ℕ → Float) (pup
   -- the properties of a slot, out of those rays
   pub traced : (count : ℕ) (rays : List LastRays) → 2 ≤ count → rays ≡ tab (λ (w : ℕ). last_rays surface (index w) pupil count) 4 → (w : ℕ) → w < 4
       → (q : ParaxialProperties)
-      → q ≡ properties_behind (get_or rays w no_last) surface (index w) pupil count → Traced q ≡ paraxial_of surface (index w) pupil count
+      → q ≡ properties_behind (get_or rays w no_last) surface (index w) pupil count → Some q ≡ paraxial_of surface (index w) pupil count
   unfolding paraxial_of
   traced count rays two e w h q f =
       let last = ap (λ (l : List LastRays). get_or l w no_last) e ∙ get_or-tab _ 4 w no_last h in
-      ap Traced (f ∙ ap (λ (r : LastRays). properties_behind r surface (index w) pupil count) last) ∙ sym (simp (le-ltb count 2 two))
+      ap Some (f ∙ ap (λ (r : LastRays). properties_behind r surface (index w) pupil count) last) ∙ sym (simp (le-ltb count 2 two))

@@ -1,5 +1,5 @@
 -- Focal length, back focus and f-number of one wavelength slot: "as in `calculate_paraxial_properties`". Definitions only.
-use Rattle.std.specs.Prelude.{ℕ, ◌-◌, Bool, false, cond, ◌&&◌, ltb, Float}
+use Rattle.std.specs.Prelude.{ℕ, ◌-◌, Bool, false, cond, ◌&&◌, ltb, Float, Option, Some, None}
 use Rattle.std.specs.Float.{inf, binary64}
 use Rattle.std.specs.Float.Ieee.{neg, sub, div, lt, eq, of_bits}
 use Rattle.floats.specs.Basic.{magnitude}
@@ -9,8 +9,6 @@ use Rattle.optics.specs.Trace.{start, ray_of, ray_at}
 use Rattle.optics.specs.declared.types.ArrivingRay.{ArrivingRay}
 use Rattle.optics.specs.declared.types.LastRays.{LastRays}
 use Rattle.optics.specs.declared.types.OpticalSurface.{OpticalSurface}
-use Rattle.optics.specs.declared.types.Paraxial.{Paraxial}
-use Rattle.optics.specs.declared.types.Paraxial.TheVariants.{Failed, Traced}
 use Rattle.optics.specs.declared.types.ParaxialProperties.{ParaxialProperties}
 use Rattle.optics.specs.declared.types.ParaxialRay.{ParaxialRay}
 
@@ -57,5 +55,5 @@ abbrev pub properties_of : (surface : ℕ → OpticalSurface) (index : ℕ → F
 properties_of surface index pupil count = properties_behind (last_rays surface index pupil count) surface index pupil count
 
 -- "Fewer than two surfaces is a failed trace."
-unfoldable pub paraxial_of : (surface : ℕ → OpticalSurface) (index : ℕ → Float) (pupil : Float) → ℕ → Paraxial
-paraxial_of surface index pupil count = cond (ltb count 2) Failed (Traced (properties_of surface index pupil count))
+unfoldable pub paraxial_of : (surface : ℕ → OpticalSurface) (index : ℕ → Float) (pupil : Float) → ℕ → Option ParaxialProperties
+paraxial_of surface index pupil count = cond (ltb count 2) None (Some (properties_of surface index pupil count))

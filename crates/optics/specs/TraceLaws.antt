@@ -1,5 +1,5 @@
 -- What callers may use of the trace and of the properties: they look only at surfaces and indices below the count. Assumes nothing.
-use Rattle.std.specs.Prelude.{◌≡◌, List, ◌++◌, Bool, ◌&&◌, ltb, Float, get_or}
+use Rattle.std.specs.Prelude.{◌≡◌, List, ◌++◌, Bool, ◌&&◌, ltb, Float, get_or, Some, None}
 use Rattle.std.proofs.Math.Path.{refl, ap}
 use Rattle.std.proofs.Common.{◌∙◌, add-one, arith, ltb-false}
 use Prim.Native.Nat.{ℕ, zero, suc, ◌+◌, ◌-◌, ◌≤◌, ◌<◌}
@@ -14,7 +14,6 @@ use Rattle.optics.specs.Trace.{start, arriving, onward, slope_behind, ray_at, ra
 use Rattle.optics.specs.Properties.{negligible, ends_in_detector, properties_from, properties_of, paraxial_of}
 use Rattle.optics.specs.declared.types.ArrivingRay.{ArrivingRay}
 use Rattle.optics.specs.declared.types.OpticalSurface.{OpticalSurface}
-use Rattle.optics.specs.declared.types.Paraxial.TheVariants.{Failed, Traced}
 
 -- ---- a turn of a loop over the surfaces
 module _ (surface : ℕ → OpticalSurface) (index : ℕ → Float) (pupil : Float) where
@@ -68,6 +67,6 @@ module _ (surface surface' : ℕ → OpticalSurface) (index index' : ℕ → Flo
   paraxial-same = go (ltb count 2) (λ e. properties-same (ltb-false count 2 e))
     where
       go : (b : Bool) → (b ≡ false → properties_of surface index pupil count ≡ properties_of surface' index' pupil count)
-          → cond b Failed (Traced (properties_of surface index pupil count)) ≡ cond b Failed (Traced (properties_of surface' index' pupil count))
+          → cond b None (Some (properties_of surface index pupil count)) ≡ cond b None (Some (properties_of surface' index' pupil count))
       go true h = refl
-      go false h = ap Traced (h refl)
+      go false h = ap Some (h refl)

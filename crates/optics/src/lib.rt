@@ -19,4 +19,4 @@ pub use kept::{kept_prescription, lens_counts_taken, zero_surface};
 pub use properties::{paraxial, paraxial_slots};
 pub use rays::fill_rays;
 pub use trace::{curvature_of, trace_heights};
-pub use types::{OpticalPrescription, OpticalSurface, Paraxial, ParaxialProperties, ParaxialRay};
+pub use types::{OpticalPrescription, OpticalSurface, ParaxialProperties, ParaxialRay};

@@ -6,7 +6,7 @@ ghost use Rattle.optics.specs.Properties.{negligible, ends_in_detector, focus_of
 
 use crate::slots::last_rays;
 use crate::trace::curvature_of;
-use crate::types::{LastRays, Paraxial, ParaxialProperties, ParaxialRay};
+use crate::types::{LastRays, ParaxialProperties, ParaxialRay};
 
 fn is_negligible(x: f64) -> bool
     ensures { result ≡ negligible x }
@@ -85,12 +85,17 @@ fn slot_properties(
     properties_from(height, pupil, last, last)
 }
 
-// The properties of `count` surfaces laid flat, in every slot.
-pub fn paraxial_slots(flat: &[f64], indices: &[f64], count: usize, pupil: f64) -> [Paraxial; 4]
+// The properties of `count` surfaces laid flat, in every slot. Fewer than two surfaces are a failed trace, which has none.
+pub fn paraxial_slots(
+    flat: &[f64],
+    indices: &[f64],
+    count: usize,
+    pupil: f64,
+) -> [Option<ParaxialProperties>; 4]
     requires { (4 * count ≤ length flat.now) × (4 * count ≤ length indices.now) }
     ensures { result ≡ tab (λ (w : ℕ). paraxial_of (flat_surface flat.now) (slot_index indices.now w) pupil count) 4 }
 {
-    let mut slots = [Paraxial::Failed; 4];
+    let mut slots = [None; 4];
     if count < 2 {
         return slots;
     }
@@ -98,14 +103,20 @@ pub fn paraxial_slots(flat: &[f64], indices: &[f64], count: usize, pupil: f64) -
     let mut w: usize = 0;
     while w < 4 {
         let properties = slot_properties(last[w], flat, indices, w, count, pupil);
-        slots[w] = Paraxial::Traced(properties);
+        slots[w] = Some(properties);
         w += 1;
     }
     slots
 }
 
 // The same in one slot.
-pub fn paraxial(flat: &[f64], indices: &[f64], slot: usize, count: usize, pupil: f64) -> Paraxial
+pub fn paraxial(
+    flat: &[f64],
+    indices: &[f64],
+    slot: usize,
+    count: usize,
+    pupil: f64,
+) -> Option<ParaxialProperties>
     requires { (slot < 4) × (4 * count ≤ length flat.now) × (4 * count ≤ length indices.now) }
     ensures { result ≡ paraxial_of (flat_surface flat.now) (slot_index indices.now slot) pupil count }
 {

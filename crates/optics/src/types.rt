@@ -37,13 +37,6 @@ pub struct ParaxialProperties {
     pub f_number: f64,
 }
 
-// Fewer than two surfaces are a failed trace.
-#[derive(Clone, Copy)]
-pub enum Paraxial {
-    Failed,
-    Traced(ParaxialProperties),
-}
-
 // A paraxial ray as it arrives at a surface: its height there, and its slope and the index in front.
 #[derive(Clone, Copy)]
 pub struct ArrivingRay {

@@ -3,7 +3,7 @@ use crate::marks;
 use answers::put_unknown;
 use joblines::JobLine;
 use merit::Traced;
-use optics::{OpticalPrescription, Paraxial, ParaxialRay};
+use optics::{OpticalPrescription, ParaxialProperties, ParaxialRay};
 use streams::console::Console;
 use streams::output;
 use streams::output::Waiting;
@@ -71,7 +71,7 @@ fn put_done(
     }
     let waiting = lensanswers::put_traced(console, out, waiting, rays, count);
     let q = paraxial(prescription, slot);
-    let Paraxial::Traced(properties) = q else {
+    let Some(properties) = q else {
         return waiting;
     };
     lensanswers::put_paraxial(console, out, waiting, properties)
@@ -100,15 +100,15 @@ fn is_refused(prescription: OpticalPrescription, slot: usize, length: usize) -> 
 }
 
 // The lens in one slot, where both are within the limits.
-fn paraxial(prescription: OpticalPrescription, slot: usize) -> Paraxial {
+fn paraxial(prescription: OpticalPrescription, slot: usize) -> Option<ParaxialProperties> {
     let surfaces = prescription.surfaces;
     let indices = prescription.indices;
     let count = prescription.surface_count;
     if count > 16 {
-        return Paraxial::Failed;
+        return None;
     }
     if slot > 3 {
-        return Paraxial::Failed;
+        return None;
     }
     let mut flat = [0.0; 64];
     optics::lay_flat(surfaces, count, &mut flat);

@@ -3,9 +3,8 @@ use mathlib.Core.Path.{◌≡◌, subst}
 use Prim.Native.Nat.{ℕ, ◌+◌, ◌-◌, ◌*◌, ◌^◌, ◌≤◌, ◌<◌, suc}
 use native.Mathlib.Nat.{lt_of_not-le}
 use native.Mathlib.Omega.{arith}
-use mathlib.Core.Bool.{Bool, true, false, true≢false, false≢true}
 use Rattle.floats.specs.Sqrt.{nearest_root}
-use Rattle.floats.specs.Steps.{Whole, Nears, apart, Closer, Mended}
+use Rattle.floats.specs.Steps.{Whole, Nears, apart, Closer}
 use Rattle.floats.proofs.RootLaws.{step-le, nearest-law, too-low, too-high, nears-most, nears-least}
 
 module _ (w q : ℕ) (least : 2 ^ 104 ≤ w) (most : w < 2 ^ 106) where
@@ -45,12 +44,3 @@ rounds w q r least most some whole c =
         let a : q < suc Q = lt_of_not-le (λ (l : suc Q ≤ q). no_less Q n.under (step-le Q q l) whole.low) in
         let b : Q < suc (q + 1) = lt_of_not-le (λ (l : suc (q + 1) ≤ Q). no_more Q n.over (step-le (q + 1) Q l) whole.high) in
         (omega arith, omega arith)
-
--- ---- what `mend` says, by its flag
-pub reached : (w q r : ℕ) (b : Bool) → b ≡ true → Mended w q r b → Nears w q
-reached w q r true e a = a
-reached w q r false e a = absurd (false≢true e)
-
-pub nearer : (w q r : ℕ) (b : Bool) → b ≡ false → Mended w q r b → Closer w q r
-nearer w q r true e a = absurd (true≢false e)
-nearer w q r false e a = a

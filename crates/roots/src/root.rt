@@ -13,13 +13,6 @@ struct Wide {
     pub lo: u64,
 }
 
-// A number, and whether it is the one that was sought.
-#[derive(Clone, Copy)]
-struct Next {
-    pub q: u64,
-    pub done: bool,
-}
-
 // The number of a pattern that is below the infinity's.
 fn number(bits: u64) -> f64
     requires { bits < 0x7ff0_0000_0000_0000 }
@@ -75,44 +68,32 @@ fn square(q: u64) -> Wide
     }
 }
 
-// A guess mended by one: q, if it is the whole number nearest to the root of hi * 2^54 + lo, and
+// A guess mended by one: nothing, if q is the whole number nearest to the root of hi * 2^54 + lo, and
 // otherwise the next number from q toward that. `have` less `want` is the number less q * q.
-fn mend(hi: u64, lo: u64, q: u64) -> Next
+fn mend(hi: u64, lo: u64, q: u64) -> Option<u64>
     requires fact_1 { 2 ^ 50 ≤ hi }
     requires fact_2 { hi < 2 ^ 52 }
     requires fact_3 { lo < 2 ^ 54 }
     requires fact_4 { 1 ≤ q }
     requires fact_5 { q ≤ 2 ^ 53 }
-    ensures { Mended (hi * 2 ^ 54 + lo) q result.q result.done }
+    ensures { Mended (hi * 2 ^ 54 + lo) q result }
 {
     let s = square(q);
     if hi > s.hi + 4 {
-        return Next {
-            q: q + 1,
-            done: false,
-        };
+        return Some(q + 1);
     }
     if s.hi > hi + 4 {
-        return Next {
-            q: q - 1,
-            done: false,
-        };
+        return Some(q - 1);
     }
     let have = (hi + 8 - s.hi) * 0x40_0000_0000_0000 + lo;
     let want = s.lo + 0x200_0000_0000_0000;
     if have > want + q {
-        return Next {
-            q: q + 1,
-            done: false,
-        };
+        return Some(q + 1);
     }
     if have + q <= want {
-        return Next {
-            q: q - 1,
-            done: false,
-        };
+        return Some(q - 1);
     }
-    Next { q: q, done: true }
+    None
 }
 
 // Whether t * t is at most hi * 2^54 + lo.
@@ -142,9 +123,7 @@ fn whole_root(hi: u64, lo: u64) -> u64
     ensures fact_3 { result < 2 ^ 53 }
 {
     let mut q = 0x10_0000_0000_0000;
-    let mut k = 52u64;
-    while k > 0 {
-        k -= 1;
+    for k in (0..52u64).rev() {
         let t = q + (1u64 << k);
         if square_at_most(hi, lo, t) {
             q = t;
@@ -161,11 +140,7 @@ fn rounded_root(hi: u64, lo: u64) -> u64
     ensures { Nears (hi * 2 ^ 54 + lo) result }
 {
     let q = whole_root(hi, lo);
-    let n = mend(hi, lo, q);
-    if n.done {
-        return q;
-    }
-    n.q
+    mend(hi, lo, q).unwrap_or(q)
 }
 
 // The whole number nearest to the root of hi * 2^54 + lo. A guess is mended four times at the most;
@@ -179,14 +154,11 @@ fn nearest_root(hi: u64, lo: u64, first: u64) -> u64
     ensures { Nears (hi * 2 ^ 54 + lo) result }
 {
     let mut q = first;
-    let mut left = 4u32;
-    while left > 0 {
-        let n = mend(hi, lo, q);
-        if n.done {
+    for _ in 0..4 {
+        let Some(next) = mend(hi, lo, q) else {
             return q;
-        }
-        q = n.q;
-        left -= 1;
+        };
+        q = next;
     }
     rounded_root(hi, lo)
 }

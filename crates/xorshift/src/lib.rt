@@ -75,11 +75,11 @@ pub struct Draw {
 pub fn drawn(state: u64) -> Draw
     ensures { result ≡ draw_of state }
 {
-    let mut rng = Rng64 { state: state };
+    let mut rng = Rng64 { state };
     let unit = rng.next_f64();
     Draw {
         state: rng.state,
-        unit: unit,
+        unit,
     }
 }
 
@@ -88,10 +88,8 @@ pub fn state_after(seed: u64, draws: u64) -> u64
     ensures { result ≡ step_times draws (seeded seed) }
 {
     let mut x = Rng64::new(seed).state;
-    let mut i = 0u64;
-    while i < draws {
+    for _ in 0..draws {
         x = drawn(x).state;
-        i += 1;
     }
     x
 }

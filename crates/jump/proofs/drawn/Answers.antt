@@ -6,15 +6,15 @@ use Rattle.std.proofs.Common.{rules}
 use Rattle.jump.proofs.drawn.Goals as goal
 
 pub loop-at-init : goal.loop-at-init
-loop-at-init c = (omega arith, record { long = refl; before = λ j l. absurd (omega arith) })
+loop-at-init c = record { long = refl; before = λ j l. absurd (omega arith) }
 
-pub word_from-word-requires : goal.word_from-word-requires
-word_from-word-requires c = (search rules, c.loop-at.invariant.1.long)
+pub word_from-requires : goal.word_from-requires
+word_from-requires c = (search rules, c.loop-at.invariant.long)
 
 pub loop-at-preserved : goal.loop-at-preserved
 loop-at-preserved c =
     let l = c.loop-at in
-    (omega arith, grown l.tables l.at (omega arith) l.invariant.1 c.word_from-word.result c.word_from-word.ensures)
+    grown l.tables l.at (omega arith) l.invariant c.word_from.result c.word_from.ensures
 
 pub returns : goal.returns
-returns c = all_right _ _ (omega arith) c.loop-at.invariant.1
+returns c = all_right _ _ (omega arith) c.loop-at.invariant

@@ -13,7 +13,7 @@ use Rattle.jump.proofs.jump.Goals as goal
 use Rattle.jump.proofs.jump.Goals.{then-left-eq1, else-left-eq1}
 
 pub loop-k-init : goal.loop-k-init
-loop-k-init c = (omega arith, begun _ _ c.ranges.state.fits c.ranges.n.fits)
+loop-k-init c = begun _ _ c.ranges.state.fits c.ranges.n.fits
 
 pub applied-x-requires : goal.applied-x-requires
 applied-x-requires c = (search rules, ap length c.stored-tables.ensures ∙ table-length)
@@ -23,14 +23,12 @@ pub loop-k-preserved : goal.loop-k-preserved
 loop-k-preserved c =
     let a = c.args in
     let l = c.loop-k in
-    let tables = c.stored-tables.ensures in (
-      omega arith,
-      elim c.if-left-eq1.branch [
-        | then-left-eq1 w ↦ rw (w.x-is ∙ w.applied-x.ensures ∙ ap (λ (t : List ℕ). apply (row l.k t) l.x) tables)
-            (jumps a.state a.n l.x l.left l.k (search rules) w.if-left-eq1.true l.invariant.1)
-        | else-left-eq1 w ↦ rw w.x-is (stands a.state a.n l.x l.left l.k (search rules) (last-clear l.left w.if-left-eq1.false) l.invariant.1)
-      ],
-    )
+    let tables = c.stored-tables.ensures in
+    elim c.if-left-eq1.branch [
+      | then-left-eq1 w ↦ rw (w.x-is ∙ w.applied-x.ensures ∙ ap (λ (t : List ℕ). apply (row l.k t) l.x) tables)
+          (jumps a.state a.n l.x l.left l.k (search rules) w.if-left-eq1.true l.invariant)
+      | else-left-eq1 w ↦ rw w.x-is (stands a.state a.n l.x l.left l.k (search rules) (last-clear l.left w.if-left-eq1.false) l.invariant)
+    ]
 
 pub returns : goal.returns
-returns c = arrived _ _ _ _ _ (omega arith) c.loop-k.invariant.1
+returns c = arrived _ _ _ _ _ (omega arith) c.loop-k.invariant

@@ -1,17 +1,17 @@
--- `xorshift::state_after` meets its contract: after i turns x is the state after i draws. Assumes nothing.
+-- `xorshift::state_after` meets its contract: after so many turns x is the state after so many draws. Assumes nothing.
 use mathlib.Core.Path.{◌≡◌}
 use native.Mathlib.Omega.{arith}
 use native.Mathlib.Numerals.{add-one}
 use Rattle.xorshift.specs.Xorshift.{step_times}
 use Rattle.xorshift.proofs.state_after.Goals as goal
 
-pub loop-i-init : goal.loop-i-init
+pub loop-init : goal.loop-init
 unfolding step_times
-loop-i-init c = (c.new-x.ensures, omega arith)
+loop-init c = c.new-x.ensures
 
-pub loop-i-preserved : goal.loop-i-preserved
+pub loop-preserved : goal.loop-preserved
 unfolding step_times
-loop-i-preserved c = (rw add-one (cc), omega arith)
+loop-preserved c = rw add-one (cc)
 
 pub returns : goal.returns
-returns c = let e : c.loop-i.i ≡ c.args.draws = omega arith in rw (← e) (cc)
+returns c = let e : c.loop.counter ≡ c.args.draws = omega arith in rw (← e) (cc)

@@ -7,15 +7,15 @@ use borrow.Author.Tests.{lt-ltb, le-ltb}
 use Rattle.optics.specs.Types.{flat_surface}
 use Rattle.optics.specs.declared.types.OpticalSurface.{OpticalSurface}
 use Rattle.edges.specs.Edges.{edge_between, edge_of}
-use Rattle.edges.specs.declared.types.Sag.TheVariants.{Missing}
+use Rattle.std.specs.Prelude.{None}
 use Rattle.edges.proofs.edge.edge_of.Goals as goal
 
 module _ (surface : ℕ → OpticalSurface) (count i : ℕ) where
-  missing : count ≤ i + 1 → Missing ≡ edge_of surface count i
-  missing h = sym (ap (λ (b : Bool). cond b (edge_between (surface i) (surface (i + 1))) Missing) (le-ltb (i + 1) count h))
+  missing : count ≤ i + 1 → None ≡ edge_of surface count i
+  missing h = sym (ap (λ (b : Bool). cond b (edge_between (surface i) (surface (i + 1))) None) (le-ltb (i + 1) count h))
 
   there : i + 1 < count → edge_between (surface i) (surface (i + 1)) ≡ edge_of surface count i
-  there h = sym (ap (λ (b : Bool). cond b (edge_between (surface i) (surface (i + 1))) Missing) (lt-ltb (i + 1) count h))
+  there h = sym (ap (λ (b : Bool). cond b (edge_between (surface i) (surface (i + 1))) None) (lt-ltb (i + 1) count h))
 
 pub returns-then-i-count : goal.returns-then-i-count
 returns-then-i-count c =

@@ -6,13 +6,13 @@ use Rattle.floats.specs.BasicLaws.{differs}
 use Rattle.floats.specs.Constants.{zero64, one64}
 use Rattle.floats.specs.Sqrt.{sqrt_of}
 use Rattle.edges.specs.Edges.{sag_of}
-use Rattle.edges.specs.declared.types.Sag.TheVariants.{Is, Missing}
+use Rattle.std.specs.Prelude.{Some, None}
 use Rattle.edges.proofs.edge.sag_of.Goals as goal
 
 -- t as a parameter, so that it is not computed again and again
 
 found : (t n root : Float) → lt t zero64 ≡ false → ne t t ≡ false → root ≡ sqrt_of t
-    → Is (div binary64 n (add binary64 one64 root)) ≡ cond (lt t zero64 || is_nan t) Missing (Is (div binary64 n (add binary64 one64 (sqrt_of t))))
+    → Some (div binary64 n (add binary64 one64 root)) ≡ cond (lt t zero64 || is_nan t) None (Some (div binary64 n (add binary64 one64 (sqrt_of t))))
 found t n root a b e = simp (differs, a, b, e)
 
 pub returns-then-t : goal.returns-then-t

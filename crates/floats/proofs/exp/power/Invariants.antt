@@ -1,9 +1,8 @@
+-- `floats::exp::power` meets its contract: what is left to square comes to the whole. Assumes nothing.
 use mathlib.Core.Path.{◌≡◌}
+use Prim.Native.Nat.{◌-◌}
 use Rattle.floats.specs.Exp.{squares}
 use Rattle.floats.proofs.exp.power.Given as goal
 
-abbrev pub invariant-loop-k : goal.invariant-loop-k
-invariant-loop-k l = squares l.k l.s ≡ squares 10 l.x
-
-abbrev pub decreases-loop-k : goal.decreases-loop-k
-decreases-loop-k l = l.k
+abbrev pub invariant-loop : goal.invariant-loop
+invariant-loop l = squares (10 - l.counter) l.s ≡ squares 10 l.x

@@ -1,5 +1,5 @@
 use mathlib.Core.Path.{◌≡◌, refl, sym, ◌∙◌}
-use Prim.Native.Nat.{ℕ, zero, suc, ◌-◌, ◌≤◌, ◌<◌}
+use Prim.Native.Nat.{ℕ, zero, suc, ◌-◌, ◌<◌}
 use native.Mathlib.Omega.{arith}
 use lib.IntN.{pos}
 use lib.Ieee.{Float, binary64, add, mul, div, of_int}
@@ -18,23 +18,16 @@ step (suc k) y s h = λ i. series (less k i) y (add binary64 one64 (div binary64
     less : (k : ℕ) → suc k - 1 ≡ k
     less k = omega arith
 
-none : (k : ℕ) (y s : Float) → k ≤ 0 → series k y s ≡ s
+none : (k : ℕ) (y s : Float) → k < 1 → series k y s ≡ s
 unfolding series
 none zero y s h = refl
 none (suc k) y s h = absurd (no k h)
   where
-    no : (k : ℕ) → suc k ≤ 0 → ⊥
+    no : (k : ℕ) → suc k < 1 → ⊥
     no k h = omega arith
 
-pub loop-k-init : goal.loop-k-init
-loop-k-init c = (refl, omega arith)
-
 pub loop-k-preserved : goal.loop-k-preserved
-loop-k-preserved c = (
-  step c.loop-k.k c.args.y c.loop-k.s c.loop-k-test.true
-      ∙ c.loop-k.invariant.0,
-  omega arith,
-)
+loop-k-preserved c = rw c.from.ensures (step c.loop-k.k c.args.y c.loop-k.s (omega arith) ∙ c.loop-k.invariant)
 
 pub returns : goal.returns
-returns c = sym (none c.loop-k.k c.args.y c.loop-k.s c.loop-k-test.false) ∙ c.loop-k.invariant.0
+returns c = sym (none c.loop-k.k c.args.y c.loop-k.s (omega arith)) ∙ c.loop-k.invariant

@@ -12,8 +12,8 @@ use lib.ListN.{length}
 use Rattle.lists.specs.Tab.{tab, get_or-tab, tab-step}
 use Rattle.optics.specs.Properties.{paraxial_of}
 use Rattle.optics.specs.Types.{flat_surface}
-use Rattle.optics.specs.declared.types.Paraxial.{Paraxial}
-use Rattle.optics.specs.declared.types.Paraxial.TheVariants.{Failed}
+use Rattle.optics.specs.declared.types.ParaxialProperties.{ParaxialProperties}
+use Rattle.std.specs.Prelude.{Option, None}
 use Rattle.merit.specs.Evaluation.{value_at}
 use Rattle.merit.specs.Operands.{value_of}
 use Rattle.merit.specs.declared.types.MeritEvaluation.{MeritEvaluation}
@@ -34,7 +34,7 @@ pub loop-n-init : goal.loop-n-init
 unfolding tab
 loop-n-init c =
     let x = c.args in
-    let trace : ℕ → Paraxial =
+    let trace : ℕ → Option ParaxialProperties =
     λ w. paraxial_of (flat_surface x.flat.now) (slot_index (indices_from x.numbers.now) w) (pupil_from x.numbers.now)
     (surface_count_from x.counts.now) in
     let traced : c.paraxial_slots-slots.result ≡ tab trace 4 =
@@ -45,7 +45,7 @@ loop-n-init c =
       refl,
       c.operand_count-many.ensures,
       c.surface_count-count.ensures,
-      λ w h. ap (λ (l : List Paraxial). get_or l w Failed) traced ∙ get_or-tab trace 4 w Failed h,
+      λ w h. ap (λ (l : List (Option ParaxialProperties)). get_or l w None) traced ∙ get_or-tab trace 4 w None h,
     )
 
 pub operand_at-o-requires : goal.operand_at-o-requires
@@ -72,7 +72,7 @@ loop-n-preserved c =
     (surface_count_from x.counts.now) f c.paraxial_slots-slots.result l.values l.n o.result _
     c.requires.fact_5 more (omega arith) l.invariant.4 l.invariant.1
     o.ensures (c.value_of.ensures ∙ ap (λ (k : ℕ). value_of l.values (λ (w : ℕ). get_or c.paraxial_slots-slots.result
-    w Failed) (flat_surface x.flat.now) k o.result.operand_type) l.invariant.3) in (
+    w None) (flat_surface x.flat.now) k o.result.operand_type) l.invariant.3) in (
       omega arith,
       tab-step (value_at (flat_surface x.flat.now) (slot_index (indices_from x.numbers.now)) (pupil_from x.numbers.now)
           (surface_count_from x.counts.now) f) _ l.values l.n _ nan l.invariant.1 v (omega arith),

@@ -6,7 +6,7 @@ use Rattle.optics.specs.Types.{slot_index}
 use Rattle.held.specs.JobFrom.{surface_count_from, operand_count_from, pupil_from, indices_from, operands_from}
 use Rattle.optics.specs.Properties.{paraxial_of}
 use Rattle.optics.specs.Types.{flat_surface}
-use Rattle.optics.specs.declared.types.Paraxial.TheVariants.{Failed}
+use Rattle.std.specs.Prelude.{None}
 use Rattle.merit.specs.Evaluation.{value_at}
 use Rattle.heldmerit.proofs.Over.{Standing}
 use Rattle.heldmerit.proofs.evaluation.values_of.Given as goal
@@ -15,7 +15,7 @@ abbrev pub invariant-loop-n : goal.invariant-loop-n
 invariant-loop-n l = (l.n ≤ l.many)
     × Standing (value_at (flat_surface l.flat) (slot_index (indices_from l.numbers)) (pupil_from l.numbers) (surface_count_from l.counts)
     (operands_from l.counts l.numbers)) l.n l.values × (l.many ≡ operand_count_from l.counts) × (l.count ≡ surface_count_from l.counts)
-    × ((w : ℕ) → w < 4 → get_or l.slots w Failed
+    × ((w : ℕ) → w < 4 → get_or l.slots w None
     ≡ paraxial_of (flat_surface l.flat) (slot_index (indices_from l.numbers) w) (pupil_from l.numbers) (surface_count_from l.counts))
 
 abbrev pub decreases-loop-n : goal.decreases-loop-n

@@ -9,8 +9,8 @@ use Rattle.floatlaws.specs.CallerLaws.{root-one}
 use Rattle.lists.specs.Tab.{get_or-tab}
 use Rattle.optics.specs.Properties.{paraxial_of}
 use Rattle.optics.specs.Types.{flat_surface, slot_index}
-use Rattle.optics.specs.declared.types.Paraxial.{Paraxial}
-use Rattle.optics.specs.declared.types.Paraxial.TheVariants.{Failed}
+use Rattle.std.specs.Prelude.{Option, None}
+use Rattle.optics.specs.declared.types.ParaxialProperties.{ParaxialProperties}
 use Rattle.merit.specs.Evaluation.{values_after, value_at}
 use Rattle.merit.proofs.EvaluationLaws.{values-after}
 use Rattle.merit.specs.OperandTable.{operand_at}
@@ -31,9 +31,9 @@ loop-n-preserved c =
     let turn = c in
     let more : l.n < a.function.operand_count = omega arith in
     let room : l.n < 12 = omega arith in
-    let traced : (w : ℕ) → w < 4 → get_or slots.result w Failed
+    let traced : (w : ℕ) → w < 4 → get_or slots.result w None
     ≡ paraxial_of (flat_surface a.flat.now) (slot_index a.indices.now w) a.pupil a.count =
-    λ w h. ap (λ (s : List Paraxial). get_or s w Failed) slots.ensures ∙ get_or-tab _ 4 w Failed h in
+    λ w h. ap (λ (s : List (Option ParaxialProperties)). get_or s w None) slots.ensures ∙ get_or-tab _ 4 w None h in
     let surface = flat_surface a.flat.now in
     let index = slot_index a.indices.now in
     let earlier : l.values ≡ values_after surface index a.pupil a.count a.function l.n =
@@ -41,7 +41,7 @@ loop-n-preserved c =
     ∙ sym (values-after surface index a.pupil a.count a.function l.n (omega arith)) in
     let v : turn.value_of-value.result ≡ value_at surface index a.pupil a.count a.function l.n =
     turn.value_of-value.ensures
-    ∙ ap (λ (z : List Float). value_of z (λ (w : ℕ). get_or slots.result w Failed) surface a.count (operand_at a.function l.n).operand_type) earlier
+    ∙ ap (λ (z : List Float). value_of z (λ (w : ℕ). get_or slots.result w None) surface a.count (operand_at a.function l.n).operand_type) earlier
     ∙ value_same _ _ _ _ _ _ (start.requires.3 l.n more) (traced _) in
     let d = turn.difference_of-d.ensures in
     let root = turn.root_of-known.ensures in

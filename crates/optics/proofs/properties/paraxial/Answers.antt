@@ -3,12 +3,12 @@ use mathlib.Core.Path.{ap, ◌∙◌}
 use mathlib.Core.List.{List}
 use lib.ListN.{get_or}
 use Rattle.lists.specs.Tab.{get_or-tab}
-use Rattle.optics.specs.declared.types.Paraxial.{Paraxial}
-use Rattle.optics.specs.declared.types.Paraxial.TheVariants.{Failed}
+use Rattle.std.specs.Prelude.{Option, None}
+use Rattle.optics.specs.declared.types.ParaxialProperties.{ParaxialProperties}
 use Rattle.std.proofs.Common.{rules}
 use Rattle.optics.proofs.properties.paraxial.Goals as goal
 
 pub returns : goal.returns
 returns c =
     let slot = c.args.slot in
-    ap (λ (l : List Paraxial). get_or l slot Failed) c.paraxial_slots-slots.ensures ∙ get_or-tab _ 4 slot Failed (search rules)
+    ap (λ (l : List (Option ParaxialProperties)). get_or l slot None) c.paraxial_slots-slots.ensures ∙ get_or-tab _ 4 slot None (search rules)

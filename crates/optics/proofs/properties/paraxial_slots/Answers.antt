@@ -4,7 +4,7 @@ use borrow.Author.Tests.{lt-ltb}
 use Rattle.lists.specs.Tab.{tab, tab-step, tab-full}
 use Rattle.optics.specs.Types.{flat_surface, slot_index}
 use Rattle.optics.specs.Properties.{paraxial_of}
-use Rattle.optics.specs.declared.types.Paraxial.TheVariants.{Failed}
+use Rattle.std.specs.Prelude.{None}
 use Rattle.optics.proofs.AllSlots.{traced}
 use native.Mathlib.Omega.{arith}
 use Rattle.std.proofs.Common.{rules}
@@ -28,7 +28,7 @@ loop-w-preserved c =
     (omega arith) _ c.slot_properties-properties.ensures in (
       search rules,
       search rules,
-      tab-step (λ (w : ℕ). paraxial_of (flat_surface a.flat.now) (slot_index a.indices.now w) a.pupil a.count) _ l.slots l.w _ Failed
+      tab-step (λ (w : ℕ). paraxial_of (flat_surface a.flat.now) (slot_index a.indices.now w) a.pupil a.count) _ l.slots l.w _ None
           l.invariant.2 slot (omega arith),
     )
 

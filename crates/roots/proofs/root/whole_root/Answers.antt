@@ -40,18 +40,18 @@ module _ (w q k h : ℕ) (some : 0 < k) (is : h ≡ 2 ^ (k - 1)) (spans : Spans 
   fits = let e = shares in omega arith
 
   pub upper : leb ((q + h) * (q + h)) w ≡ true → Spans w (q + h) (k - 1)
-  upper t = let e = shares in (omega arith, omega arith, omega arith, leb-true ((q + h) * (q + h)) w t, subst (λ (x : ℕ). w < x * x) e spans.4)
+  upper t = let e = shares in (omega arith, omega arith, leb-true ((q + h) * (q + h)) w t, subst (λ (x : ℕ). w < x * x) e spans.3)
 
   pub lower : leb ((q + h) * (q + h)) w ≡ false → Spans w q (k - 1)
   lower t =
-      let e = shares in (omega arith, omega arith, omega arith, omega arith, subst (λ (x : ℕ). w < (q + x) * (q + x)) is (leb-false ((q + h) * (q + h)) w t))
+      let e = shares in (omega arith, omega arith, omega arith, subst (λ (x : ℕ). w < (q + x) * (q + x)) is (leb-false ((q + h) * (q + h)) w t))
 
 -- 2 ^ 0 is 1
 
 spanned : (w q k : ℕ) → k ≡ 0 → Spans w q k → Whole w q × (2 ^ 52 ≤ q) × (q < 2 ^ 53)
 spanned w q k e spans =
     let s : Spans w q 0 = subst (λ (j : ℕ). Spans w q j) e spans in
-    (record { low = s.3; high = s.4 }, omega arith, omega arith)
+    (record { low = s.2; high = s.3 }, omega arith, omega arith)
 
 pub overflow_add-t : goal.overflow_add-t
 overflow_add-t c = let f = fits _ c.loop-k.q c.loop-k.k _ (omega arith) (bit (c.loop-k.k - 1) (omega arith)) c.loop-k.invariant in

@@ -4,10 +4,7 @@ use Rattle.roots.proofs.root.whole_root.Given as goal
 
 -- the root of w is from q up to q + 2 ^ k
 abbrev pub Spans : ℕ → ℕ → ℕ → Type 0
-Spans w q k = (k ≤ 52) × (2 ^ 52 ≤ q) × (q + 2 ^ k ≤ 2 ^ 53) × (q * q ≤ w) × (w < (q + 2 ^ k) * (q + 2 ^ k))
+Spans w q k = (2 ^ 52 ≤ q) × (q + 2 ^ k ≤ 2 ^ 53) × (q * q ≤ w) × (w < (q + 2 ^ k) * (q + 2 ^ k))
 
 abbrev pub invariant-loop-k : goal.invariant-loop-k
 invariant-loop-k l = Spans (l.hi * 2 ^ 54 + l.lo) l.q l.k
-
-abbrev pub decreases-loop-k : goal.decreases-loop-k
-decreases-loop-k l = l.k
