@@ -3,7 +3,6 @@ ghost use Rattle.std.specs.Prelude.{◌≡◌, ◌*◌, ◌%◌, ◌^◌, min};
 ghost use Rattle.answers.specs.Digest.{prime, with_byte, with_bytes, with_float, with_surface, with_surfaces};
 
 use optics::OpticalSurface;
-use streams::output;
 use text::numbers;
 
 // The offset basis.
@@ -16,7 +15,7 @@ fn times_prime(x: u64) -> u64
     let high = (x / 0x1_0000_0000 * 435) % 0x1_0000_0000 * 0x1_0000_0000;
     let low = x % 0x1_0000_0000 * 435;
     let shifted = x % 0x100_0000 * 0x100_0000_0000;
-    std::num::wrapping_add_u64(std::num::wrapping_add_u64(high, low), shifted)
+    high.wrapping_add(low).wrapping_add(shifted)
 }
 
 // One byte more.
@@ -32,11 +31,9 @@ fn with_word(hash: u64, x: u64) -> u64
 {
     let mut h = hash;
     let mut rest = x;
-    let mut i: u64 = 0;
-    while i < 8 {
+    for _ in 0..8u64 {
         h = with_byte(h, rest % 256);
         rest = rest / 256;
-        i += 1;
     }
     h
 }
@@ -61,13 +58,9 @@ fn with_surface(hash: u64, s: OpticalSurface) -> u64
 pub fn with_surfaces(hash: u64, surfaces: [OpticalSurface; 16], count: usize) -> u64
     ensures { result ≡ with_surfaces hash surfaces (min count 16) }
 {
-    let n = output::least(count, 16);
     let mut h = hash;
-    let mut i = 0;
-    while i < n {
-        let s = surfaces[i];
-        h = with_surface(h, s);
-        i += 1;
+    for s in &surfaces[..count.min(16)] {
+        h = with_surface(h, *s);
     }
     h
 }

@@ -22,10 +22,8 @@ pub fn put_head(
 {
     let tag = words::next_word(line, 0);
     let id = words::next_word(line, tag.to);
-    let from = id.from;
-    let to = id.to;
     let waiting = output::put(console, out, waiting, b"R ");
-    put_number(console, out, waiting, &line[from..to], kind)
+    put_number(console, out, waiting, &line[id.from..id.to], kind)
 }
 
 // The line's end, after `changed` where what was lent is not as it was, which the oracle never says.

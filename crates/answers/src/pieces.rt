@@ -1,5 +1,5 @@
 // Pieces of answers.
-ghost use Rattle.std.specs.Prelude.{◌≤◌, [], ◌∷◌, length};
+ghost use Rattle.std.specs.Prelude.{◌≡◌, ◌≤◌, [], ◌∷◌, length};
 ghost use Rattle.streams.specs.Output.{Put, one_unknown};
 ghost use Rattle.answers.specs.Pieces.{wrong_text, fault_text, unknown_texts, cut_texts, number_texts, row_texts};
 
@@ -10,17 +10,17 @@ use text::cursor::{Cursor, Why};
 use text::words;
 
 // What is wrong with a word.
-fn put_wrong(console: Console, out: &mut [u8], waiting: Waiting, why: Why) -> Waiting
-    ensures bytes_in_bounds { result.bytes ≤ length out.new }
-    ensures put { Put waiting out.old (wrong_text why ∷ []) result out.new }
+#[tactic(auto, unfolding(crate::specs::Pieces::wrong_text))]
+fn wrong_text(why: Why) -> &'static [u8]
+    ensures { result.now ≡ wrong_text why }
 {
     match why {
-        Why::TooMany => output::put(console, out, waiting, b"too many\n"),
-        Why::NoNumber => output::put(console, out, waiting, b"no number\n"),
-        Why::NoHex => output::put(console, out, waiting, b"not 16 hex digits\n"),
-        Why::Another => output::put(console, out, waiting, b"another word\n"),
-        Why::Kind => output::put(console, out, waiting, b"kind unknown\n"),
-        Why::Range => output::put(console, out, waiting, b"out of range\n"),
+        Why::TooMany => b"too many\n",
+        Why::NoNumber => b"no number\n",
+        Why::NoHex => b"not 16 hex digits\n",
+        Why::Another => b"another word\n",
+        Why::Kind => b"kind unknown\n",
+        Why::Range => b"out of range\n",
     }
 }
 
@@ -32,8 +32,7 @@ fn put_fault(console: Console, out: &mut [u8], waiting: Waiting, line: &[u8], c:
     if words::is_end(line, c.at) {
         return output::put(console, out, waiting, b"missing\n");
     }
-    let why = c.why;
-    put_wrong(console, out, waiting, why)
+    output::put(console, out, waiting, wrong_text(c.why))
 }
 
 // The answer to a line that is out of form: its number, the field where the cursor was left, and what is wrong there.
@@ -48,7 +47,7 @@ pub fn put_unknown(
     ensures bytes_in_bounds { result.bytes ≤ length out.new }
     ensures put { Put (one_unknown waiting) out.old (unknown_texts line.now number c) result out.new }
 {
-    let field = std::num::wrapping_add_u64(words::words_before(line, c.at), 1);
+    let field = words::words_before(line, c.at).wrapping_add(1);
     let waiting = put_number(console, out, output::counted_unknown(waiting), b"?", number);
     let waiting = put_number(console, out, waiting, b" field", field);
     let waiting = output::put(console, out, waiting, b": ");
@@ -93,6 +92,5 @@ pub fn put_row(
     ensures put { Put waiting out.old (row_texts name.now row count) result out.new }
 {
     let waiting = put_number(console, out, waiting, name, count as u64);
-    let n = output::least(count, 12);
-    output::put_floats(console, out, waiting, &row[..n])
+    output::put_floats(console, out, waiting, &row[..count.min(12)])
 }

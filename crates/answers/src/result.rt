@@ -59,13 +59,9 @@ fn put_surfaces(
     ensures bytes_in_bounds { result.bytes ≤ length out.new }
     ensures put { Put waiting out.old (surfaces_texts surfaces (min count 16)) result out.new }
 {
-    let n = output::least(count, 16);
     let mut held = output::within(waiting, out.len());
-    let mut i = 0;
-    while i < n {
-        let s = surfaces[i];
-        held = put_surface(console, out, held, s);
-        i += 1;
+    for s in &surfaces[..count.min(16)] {
+        held = put_surface(console, out, held, *s);
     }
     held
 }

@@ -63,7 +63,7 @@ fn admit_job(
     place: usize,
     read: RequestRead,
 ) -> Answered {
-    let request = read.request;
+    let request = read.value;
     let bench = state.bench;
     let answer = benchcalls::admitted(bench, place, request);
     call::answered(console, out, state.waiting, b'A', answer)

@@ -55,7 +55,7 @@ fn examine_line(
             answers::put_unknown(console, out, waiting, line, number, read.next),
         );
     }
-    let request = read.request;
+    let request = read.value;
     examine_request(state, request)
 }
 

@@ -1,6 +1,7 @@
 -- Entries that a count stands before. They are read one after the other, and once the line is out of form no more of them are. Definitions only.
-use Rattle.std.specs.Prelude.{ℕ, zero, suc, cond, List, ltb, set}
+use Rattle.std.specs.Prelude.{ℕ, zero, suc, cond, List, length, ltb, set}
 use Rattle.text.specs.declared.cursor.Cursor.{Cursor}
+use Rattle.text.specs.declared.cursor.Read.{Read}
 
 -- past n entries, where `pass` is past one
 unfoldable pub past : (pass : Cursor → Cursor) → Cursor → ℕ → Cursor
@@ -18,3 +19,18 @@ filled pass put c l (suc n) =
 -- entry i at its place, where there is room for it
 abbrev pub stored_at : {A : Type 0} (room i : ℕ) → A → List A → List A
 stored_at room i x l = cond (ltb i room) (set l i x) l
+
+-- past the entry that `read` reads
+abbrev pub past_entry : {A : Type 0} (read : Cursor → Read A) → Cursor → Cursor
+past_entry read c = (read c).next
+
+-- entry i, which `read` reads, of which there is room for `room`
+abbrev pub put_entry : {A : Type 0} (room : ℕ) (read : Cursor → Read A) → ℕ → Cursor → List A → List A
+put_entry room read i c = stored_at room i (read c).value
+
+-- so many entries, of which those that there is room for take the places of what stood in the list
+abbrev pub entries_from : {A : Type 0} (read : Cursor → Read A) → Cursor → (count : ℕ) → List A → Read (List A)
+entries_from read c count unread = record {
+  value = filled (past_entry read) (put_entry (length unread) read) c unread count;
+  next = past (past_entry read) c count;
+}

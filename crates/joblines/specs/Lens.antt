@@ -4,39 +4,28 @@ use Rattle.std.specs.Float.{nan}
 use Rattle.optics.specs.declared.types.OpticalSurface.{OpticalSurface}
 use Rattle.text.specs.declared.cursor.Cursor.{Cursor}
 use Rattle.text.specs.Cursor.{float_from}
-use Rattle.joblines.specs.declared.lens.SurfaceRead.{SurfaceRead}
-use Rattle.joblines.specs.declared.lens.SurfacesRead.{SurfacesRead}
-use Rattle.joblines.specs.Entries.{past, filled, stored_at}
+use Rattle.text.specs.declared.cursor.Read.{Read}
+use Rattle.joblines.specs.Entries.{past, filled, entries_from}
 
 -- a surface: radius conic thickness semi
-unfoldable pub surface_from : List ℕ → Cursor → SurfaceRead
+unfoldable pub surface_from : List ℕ → Cursor → Read OpticalSurface
 surface_from line c =
     let radius = float_from line c in
     let conic = float_from line radius.next in
     let thickness = float_from line conic.next in
     let semi = float_from line thickness.next in
     record {
-      surface = record { radius_mm = radius.value; conic_constant = conic.value; thickness_mm = thickness.value; semi_diameter_mm = semi.value };
+      value = record { radius_mm = radius.value; conic_constant = conic.value; thickness_mm = thickness.value; semi_diameter_mm = semi.value };
       next = semi.next;
     }
-
-abbrev pub past_surface : List ℕ → Cursor → Cursor
-past_surface line c = (surface_from line c).next
-
--- surface i, of which there is room for 16
-abbrev pub put_surface : List ℕ → ℕ → Cursor → List OpticalSurface → List OpticalSurface
-put_surface line i c = stored_at 16 i (surface_from line c).surface
 
 -- where no surface was read: what no call takes
 abbrev pub unread_surface : OpticalSurface
 unread_surface = record { radius_mm = nan; conic_constant = nan; thickness_mm = nan; semi_diameter_mm = nan }
 
--- {radius conic thickness semi}, so many
-unfoldable pub surfaces_from : List ℕ → Cursor → (count : ℕ) → SurfacesRead
-surfaces_from line c count = record {
-  surfaces = filled (past_surface line) (put_surface line) c (replicate 16 unread_surface) count;
-  next = past (past_surface line) c count;
-}
+-- {radius conic thickness semi}, so many, of which there is room for 16
+unfoldable pub surfaces_from : List ℕ → Cursor → (count : ℕ) → Read (List OpticalSurface)
+surfaces_from line c count = entries_from (surface_from line) c count (replicate 16 unread_surface)
 
 abbrev pub past_index : List ℕ → Cursor → Cursor
 past_index line c = (float_from line c).next

@@ -3,9 +3,10 @@ use Rattle.std.specs.Prelude.{ℕ, List, [], ◌∷◌, replicate}
 use Rattle.std.specs.Float.{nan}
 use Rattle.text.specs.declared.cursor.Cursor.{Cursor}
 use Rattle.text.specs.Cursor.{decimal_from, float_from, past_tag}
-use Rattle.joblines.specs.declared.line.PrescriptionRead.{PrescriptionRead}
-use Rattle.joblines.specs.declared.line.VariableSetRead.{VariableSetRead}
-use Rattle.joblines.specs.declared.line.MeritFunctionRead.{MeritFunctionRead}
+use Rattle.optics.specs.declared.types.OpticalPrescription.{OpticalPrescription}
+use Rattle.variables.specs.declared.types.VariableSet.{VariableSet}
+use Rattle.merit.specs.declared.types.MeritFunction.{MeritFunction}
+use Rattle.text.specs.declared.cursor.Read.{Read}
 use Rattle.joblines.specs.declared.line.JobLine.{JobLine}
 use Rattle.joblines.specs.Followers.{followers_from}
 use Rattle.joblines.specs.Lens.{surfaces_from, past_indices, with_indices}
@@ -32,7 +33,7 @@ abbrev pub settings_mark : List ℕ
 settings_mark = 67 ∷ []
 
 -- S n {surface} I slots {index, surface-major} P pupil
-unfoldable pub prescription_from : List ℕ → Cursor → PrescriptionRead
+unfoldable pub prescription_from : List ℕ → Cursor → Read OpticalPrescription
 prescription_from line c =
     let count = decimal_from line (past_tag line c surfaces_mark) in
     let read = surfaces_from line count.next count.value in
@@ -40,8 +41,8 @@ prescription_from line c =
     let next = past_indices line slots.next count.value slots.value in
     let pupil = float_from line (past_tag line next pupil_mark) in
     record {
-      prescription = record {
-        surfaces = read.surfaces;
+      value = record {
+        surfaces = read.value;
         indices = with_indices line slots.next count.value slots.value (replicate 64 nan);
         surface_count = count.value;
         slot_count = slots.value;
@@ -51,19 +52,19 @@ prescription_from line c =
     }
 
 -- V n {variable} [F m {follower}]
-unfoldable pub variable_set_from : List ℕ → Cursor → VariableSetRead
+unfoldable pub variable_set_from : List ℕ → Cursor → Read VariableSet
 variable_set_from line c =
     let count = decimal_from line (past_tag line c variables_mark) in
     let read = variables_from line count.next count.value in
-    let followed = followers_from line count.value read.next read.variables in
-    record { variables = record { variables = followed.variables; variable_count = count.value }; next = followed.next }
+    let followed = followers_from line count.value read.next read.value in
+    record { value = record { variables = followed.value; variable_count = count.value }; next = followed.next }
 
 -- O n {operand}
-unfoldable pub merit_function_from : List ℕ → Cursor → MeritFunctionRead
+unfoldable pub merit_function_from : List ℕ → Cursor → Read MeritFunction
 merit_function_from line c =
     let count = decimal_from line (past_tag line c operands_mark) in
     let read = operands_from line count.next count.value in
-    record { function = record { operands = read.operands; operand_count = count.value }; next = read.next }
+    record { value = record { operands = read.value; operand_count = count.value }; next = read.next }
 
 -- S .. I .. P .. V .. [F ..] O .. C
 unfoldable pub job_line_from : List ℕ → Cursor → JobLine
@@ -71,4 +72,4 @@ job_line_from line c =
     let lens = prescription_from line c in
     let set = variable_set_from line lens.next in
     let merit = merit_function_from line set.next in
-    record { prescription = lens.prescription; variables = set.variables; merit_function = merit.function; next = past_tag line merit.next settings_mark }
+    record { prescription = lens.value; variables = set.value; merit_function = merit.value; next = past_tag line merit.next settings_mark }

@@ -7,12 +7,11 @@ use Rattle.jobs.specs.Entries.{operand_type}
 use Rattle.text.specs.declared.cursor.Cursor.{Cursor}
 use Rattle.text.specs.declared.cursor.Why.TheVariants.{Kind}
 use Rattle.text.specs.Cursor.{decimal_from, within_from, float_from}
-use Rattle.joblines.specs.declared.operands.OperandRead.{OperandRead}
-use Rattle.joblines.specs.declared.operands.OperandsRead.{OperandsRead}
-use Rattle.joblines.specs.Entries.{past, filled, stored_at}
+use Rattle.text.specs.declared.cursor.Read.{Read}
+use Rattle.joblines.specs.Entries.{entries_from}
 
 -- an operand: kind at limit target weight; there are kinds 0 to 7
-unfoldable pub operand_from : List ℕ → Cursor → OperandRead
+unfoldable pub operand_from : List ℕ → Cursor → Read MeritOperand
 operand_from line c =
     let kind = within_from 0 7 Kind line c in
     let at = decimal_from line kind.next in
@@ -20,24 +19,14 @@ operand_from line c =
     let target = float_from line limit.next in
     let weight = float_from line target.next in
     record {
-      operand = record { operand_type = operand_type kind.value at.value limit.value; target = target.value; weight = weight.value };
+      value = record { operand_type = operand_type kind.value at.value limit.value; target = target.value; weight = weight.value };
       next = weight.next;
     }
-
-abbrev pub past_operand : List ℕ → Cursor → Cursor
-past_operand line c = (operand_from line c).next
-
--- operand i, of which there is room for 12
-abbrev pub put_operand : List ℕ → ℕ → Cursor → List MeritOperand → List MeritOperand
-put_operand line i c = stored_at 12 i (operand_from line c).operand
 
 -- where no operand was read: what no call takes
 abbrev pub unread_operand : MeritOperand
 unread_operand = record { operand_type = EffectiveFocalLength 0xffff_ffff_ffff_ffff; target = nan; weight = nan }
 
--- {kind at limit target weight}, so many
-unfoldable pub operands_from : List ℕ → Cursor → (count : ℕ) → OperandsRead
-operands_from line c count = record {
-  operands = filled (past_operand line) (put_operand line) c (replicate 12 unread_operand) count;
-  next = past (past_operand line) c count;
-}
+-- {kind at limit target weight}, so many, of which there is room for 12
+unfoldable pub operands_from : List ℕ → Cursor → (count : ℕ) → Read (List MeritOperand)
+operands_from line c count = entries_from (operand_from line) c count (replicate 12 unread_operand)

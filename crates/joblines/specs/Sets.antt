@@ -8,12 +8,11 @@ use Rattle.jobs.specs.Entries.{variable_type}
 use Rattle.text.specs.declared.cursor.Cursor.{Cursor}
 use Rattle.text.specs.declared.cursor.Why.TheVariants.{Kind, Range}
 use Rattle.text.specs.Cursor.{decimal_from, within_from, float_from}
-use Rattle.joblines.specs.declared.sets.VariableRead.{VariableRead}
-use Rattle.joblines.specs.declared.sets.VariablesRead.{VariablesRead}
-use Rattle.joblines.specs.Entries.{past, filled, stored_at}
+use Rattle.text.specs.declared.cursor.Read.{Read}
+use Rattle.joblines.specs.Entries.{entries_from}
 
 -- a variable: type surface enabled lo hi step; there are types 0 to 3, and the mark of an enabled variable is 1, that of another 0
-unfoldable pub variable_from : List ℕ → Cursor → VariableRead
+unfoldable pub variable_from : List ℕ → Cursor → Read VariableDef
 variable_from line c =
     let kind = within_from 0 3 Kind line c in
     let surface = decimal_from line kind.next in
@@ -22,7 +21,7 @@ variable_from line c =
     let hi = float_from line lo.next in
     let step = float_from line hi.next in
     record {
-      variable =
+      value =
           record {
             var_type = variable_type kind.value surface.value;
             min_value = lo.value;
@@ -33,13 +32,6 @@ variable_from line c =
           };
       next = step.next;
     }
-
-abbrev pub past_variable : List ℕ → Cursor → Cursor
-past_variable line c = (variable_from line c).next
-
--- variable i, of which there is room for 8
-abbrev pub put_variable : List ℕ → ℕ → Cursor → List VariableDef → List VariableDef
-put_variable line i c = stored_at 8 i (variable_from line c).variable
 
 -- where no variable was read: what no call takes
 abbrev pub unread_variable : VariableDef
@@ -52,9 +44,6 @@ unread_variable = record {
   follower = Plus 0xffff_ffff_ffff_ffff;
 }
 
--- {type surface enabled lo hi step}, so many
-unfoldable pub variables_from : List ℕ → Cursor → (count : ℕ) → VariablesRead
-variables_from line c count = record {
-  variables = filled (past_variable line) (put_variable line) c (replicate 8 unread_variable) count;
-  next = past (past_variable line) c count;
-}
+-- {type surface enabled lo hi step}, so many, of which there is room for 8
+unfoldable pub variables_from : List ℕ → Cursor → (count : ℕ) → Read (List VariableDef)
+variables_from line c count = entries_from (variable_from line) c count (replicate 8 unread_variable)

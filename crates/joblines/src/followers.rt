@@ -2,13 +2,12 @@
 ghost use Rattle.std.specs.Prelude.{◌≡◌};
 ghost use Rattle.joblines.specs.Followers.{place_from, follower_from, following_by, followers_listed, followers_from};
 
-use crate::sets::VariablesRead;
 use text::cursor;
-use text::cursor::{Cursor, NumberRead, Why};
+use text::cursor::{Cursor, Read, Why};
 use variables::{Follower, VariableDef};
 
 // The number of a variable, of which the line has so many. No number is from 1 to 0.
-fn read_place(line: &[u8], c: Cursor, count: usize) -> NumberRead
+fn read_place(line: &[u8], c: Cursor, count: usize) -> Read<u64>
     ensures { result ≡ place_from line.now count c }
 {
     if count == 0 {
@@ -17,26 +16,26 @@ fn read_place(line: &[u8], c: Cursor, count: usize) -> NumberRead
     cursor::within(line, c, 0, count as u64 - 1, Why::Range)
 }
 
+// A follower, and the number of the variable that it follows.
 #[derive(Clone, Copy)]
-struct FollowerRead {
+struct Placed {
     pub place: usize,
     pub follower: Follower,
-    pub next: Cursor,
 }
 
 // variable sign surface
-fn read_follower(line: &[u8], c: Cursor, count: usize) -> FollowerRead
+fn read_follower(line: &[u8], c: Cursor, count: usize) -> Read<Placed>
     ensures { result ≡ follower_from line.now count c }
 {
     let place = read_place(line, c, count);
     let sign = cursor::within(line, place.next, 1, 2, Why::Range);
     let surface = cursor::decimal(line, sign.next);
-    let follower = jobs::follower_of(sign.value, surface.value as usize);
-    let next = surface.next;
-    FollowerRead {
-        place: place.value as usize,
-        follower: follower,
-        next: next,
+    Read {
+        value: Placed {
+            place: place.value as usize,
+            follower: jobs::follower_of(sign.value, surface.value as usize),
+        },
+        next: surface.next,
     }
 }
 
@@ -44,15 +43,7 @@ fn read_follower(line: &[u8], c: Cursor, count: usize) -> FollowerRead
 fn following(d: VariableDef, follower: Follower) -> VariableDef
     ensures { result ≡ following_by follower d }
 {
-    let kind = d.var_type;
-    VariableDef {
-        var_type: kind,
-        min_value: d.min_value,
-        max_value: d.max_value,
-        step_size: d.step_size,
-        enabled: d.enabled,
-        follower: follower,
-    }
+    VariableDef { follower, ..d }
 }
 
 // So many followers, of the eight variables that are kept.
@@ -62,26 +53,25 @@ fn read_listed(
     many: usize,
     read: [VariableDef; 8],
     count: usize,
-) -> VariablesRead
+) -> Read<[VariableDef; 8]>
     ensures { result ≡ followers_listed line.now count c many read }
 {
     let mut variables = read;
     let mut next = c;
-    let mut i = 0;
-    while i < many && next.is_good {
+    for _ in 0..many {
+        if !next.is_good {
+            break;
+        }
         let r = read_follower(line, next, count);
-        let place = r.place;
+        let place = r.value.place;
         if place < 8 {
-            let follower = r.follower;
-            let v = following(variables[place], follower);
-            variables[place] = v;
+            variables[place] = following(variables[place], r.value.follower);
         }
         next = r.next;
-        i += 1;
     }
-    VariablesRead {
-        variables: variables,
-        next: next,
+    Read {
+        value: variables,
+        next,
     }
 }
 
@@ -91,7 +81,7 @@ pub(crate) fn read_followers(
     c: Cursor,
     read: [VariableDef; 8],
     count: usize,
-) -> VariablesRead
+) -> Read<[VariableDef; 8]>
     ensures { result ≡ followers_from line.now count c read }
 {
     let marked = cursor::tag(line, c, b"F");
@@ -99,8 +89,8 @@ pub(crate) fn read_followers(
         let many = cursor::decimal(line, marked);
         return read_listed(line, many.next, many.value as usize, read, count);
     }
-    VariablesRead {
-        variables: read,
+    Read {
+        value: read,
         next: c,
     }
 }

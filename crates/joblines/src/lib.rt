@@ -4,6 +4,7 @@
 // Stands on `jobs`, `intervals` and `text`; called by `replay`, `callplay` and `damage`.
 #![tactic(auto)]
 
+mod entries;
 mod followers;
 mod lens;
 mod limits;

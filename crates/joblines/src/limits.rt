@@ -2,63 +2,40 @@
 ghost use Rattle.std.specs.Prelude.{◌≡◌};
 ghost use Rattle.joblines.specs.Limits.{pair_from, pairs_from, limits_from};
 
+use crate::entries;
+use crate::entries::Entry;
 use intervals::{Interval, ThicknessLimits};
 use text::cursor;
-use text::cursor::Cursor;
-
-#[derive(Clone, Copy)]
-struct PairRead {
-    pub pair: Interval,
-    pub next: Cursor,
-}
+use text::cursor::{Cursor, Read};
 
 // least greatest
-fn read_pair(line: &[u8], c: Cursor) -> PairRead
-    ensures { result ≡ pair_from line.now c }
-{
-    let least = cursor::float(line, c);
-    let greatest = cursor::float(line, least.next);
-    let pair = Interval {
-        low: least.value,
-        high: greatest.value,
-    };
-    let next = greatest.next;
-    PairRead {
-        pair: pair,
-        next: next,
-    }
-}
+impl Entry for Interval {
+    ghost from = { pair_from };
 
-#[derive(Clone, Copy)]
-struct PairsRead {
-    pub pairs: [Interval; 16],
-    pub next: Cursor,
+    fn read(line: &[u8], c: Cursor) -> Read<Interval> {
+        let least = cursor::float(line, c);
+        let greatest = cursor::float(line, least.next);
+        Read {
+            value: Interval {
+                low: least.value,
+                high: greatest.value,
+            },
+            next: greatest.next,
+        }
+    }
 }
 
 // So many pairs, of which the first 16 are kept.
-fn read_pairs(line: &[u8], c: Cursor, count: usize) -> PairsRead
+fn read_pairs(line: &[u8], c: Cursor, count: usize) -> Read<[Interval; 16]>
     ensures { result ≡ pairs_from line.now c count }
 {
-    let none = Interval {
+    let unread = Interval {
         low: 0.0 / 0.0,
         high: 0.0 / 0.0,
     };
-    let mut pairs = [none; 16];
-    let mut next = c;
-    let mut i = 0;
-    while i < count && next.is_good {
-        let r = read_pair(line, next);
-        if i < 16 {
-            let p = r.pair;
-            pairs[i] = p;
-        }
-        next = r.next;
-        i += 1;
-    }
-    PairsRead {
-        pairs: pairs,
-        next: next,
-    }
+    let mut pairs = [unread; 16];
+    let next = entries::read_entries(line, c, count, &mut pairs);
+    Read { value: pairs, next }
 }
 
 #[derive(Clone, Copy)]
@@ -74,12 +51,10 @@ pub fn read_limits(line: &[u8], c: Cursor, count: usize) -> LimitsRead
 {
     let slot = cursor::decimal(line, c);
     let read = read_pairs(line, slot.next, count);
-    let pairs = read.pairs;
-    let limits = ThicknessLimits { thicknesses: pairs };
-    let next = read.next;
+    let thicknesses = read.value;
     LimitsRead {
         slot: slot.value as usize,
-        limits: limits,
-        next: next,
+        limits: ThicknessLimits { thicknesses },
+        next: read.next,
     }
 }

@@ -6,17 +6,11 @@ use crate::{followers, lens, operands, sets};
 use merit::MeritFunction;
 use optics::OpticalPrescription;
 use text::cursor;
-use text::cursor::Cursor;
+use text::cursor::{Cursor, Read};
 use variables::VariableSet;
 
-#[derive(Clone, Copy)]
-struct PrescriptionRead {
-    pub prescription: OpticalPrescription,
-    pub next: Cursor,
-}
-
 // S n {surface} I slots {index, surface-major} P pupil
-fn read_prescription(line: &[u8], c: Cursor) -> PrescriptionRead
+fn read_prescription(line: &[u8], c: Cursor) -> Read<OpticalPrescription>
     ensures { result ≡ prescription_from line.now c }
 {
     let count = cursor::decimal(line, cursor::tag(line, c, b"S"));
@@ -31,68 +25,50 @@ fn read_prescription(line: &[u8], c: Cursor) -> PrescriptionRead
         slots.value as usize,
     );
     let pupil = cursor::float(line, cursor::tag(line, next, b"P"));
-    let surfaces = read.surfaces;
-    let prescription = OpticalPrescription {
-        surfaces: surfaces,
-        indices: indices,
-        surface_count: count.value as usize,
-        slot_count: slots.value as usize,
-        entrance_pupil_diameter_mm: pupil.value,
-    };
-    let next = pupil.next;
-    PrescriptionRead {
-        prescription: prescription,
-        next: next,
+    let surfaces = read.value;
+    Read {
+        value: OpticalPrescription {
+            surfaces,
+            indices,
+            surface_count: count.value as usize,
+            slot_count: slots.value as usize,
+            entrance_pupil_diameter_mm: pupil.value,
+        },
+        next: pupil.next,
     }
 }
 
-#[derive(Clone, Copy)]
-struct VariableSetRead {
-    pub variables: VariableSet,
-    pub next: Cursor,
-}
-
 // V n {variable} [F m {follower}]
-fn read_variable_set(line: &[u8], c: Cursor) -> VariableSetRead
+fn read_variable_set(line: &[u8], c: Cursor) -> Read<VariableSet>
     ensures { result ≡ variable_set_from line.now c }
 {
     let count = cursor::decimal(line, cursor::tag(line, c, b"V"));
     let read = sets::read_variables(line, count.next, count.value as usize);
-    let plain = read.variables;
+    let plain = read.value;
     let followed = followers::read_followers(line, read.next, plain, count.value as usize);
-    let entries = followed.variables;
-    let variables = VariableSet {
-        variables: entries,
-        variable_count: count.value as usize,
-    };
-    let next = followed.next;
-    VariableSetRead {
-        variables: variables,
-        next: next,
+    let variables = followed.value;
+    Read {
+        value: VariableSet {
+            variables,
+            variable_count: count.value as usize,
+        },
+        next: followed.next,
     }
 }
 
-#[derive(Clone, Copy)]
-struct MeritFunctionRead {
-    pub function: MeritFunction,
-    pub next: Cursor,
-}
-
 // O n {operand}
-fn read_merit_function(line: &[u8], c: Cursor) -> MeritFunctionRead
+fn read_merit_function(line: &[u8], c: Cursor) -> Read<MeritFunction>
     ensures { result ≡ merit_function_from line.now c }
 {
     let count = cursor::decimal(line, cursor::tag(line, c, b"O"));
     let read = operands::read_operands(line, count.next, count.value as usize);
-    let entries = read.operands;
-    let function = MeritFunction {
-        operands: entries,
-        operand_count: count.value as usize,
-    };
-    let next = read.next;
-    MeritFunctionRead {
-        function: function,
-        next: next,
+    let operands = read.value;
+    Read {
+        value: MeritFunction {
+            operands,
+            operand_count: count.value as usize,
+        },
+        next: read.next,
     }
 }
 
@@ -113,13 +89,10 @@ pub fn read_job(line: &[u8], c: Cursor) -> JobLine
     let set = read_variable_set(line, lens.next);
     let merit = read_merit_function(line, set.next);
     let next = cursor::tag(line, merit.next, b"C");
-    let prescription = lens.prescription;
-    let variables = set.variables;
-    let function = merit.function;
     JobLine {
-        prescription: prescription,
-        variables: variables,
-        merit_function: function,
-        next: next,
+        prescription: lens.value,
+        variables: set.value,
+        merit_function: merit.value,
+        next,
     }
 }

@@ -2,53 +2,42 @@
 ghost use Rattle.std.specs.Prelude.{◌≡◌};
 ghost use Rattle.joblines.specs.Sets.{variable_from, variables_from};
 
+use crate::entries;
+use crate::entries::Entry;
 use text::cursor;
-use text::cursor::{Cursor, Why};
+use text::cursor::{Cursor, Read, Why};
 use variables::{Follower, VariableDef, VariableType};
 
-#[derive(Clone, Copy)]
-struct VariableRead {
-    pub variable: VariableDef,
-    pub next: Cursor,
-}
-
 // type surface enabled lo hi step
-fn read_variable(line: &[u8], c: Cursor) -> VariableRead
-    ensures { result ≡ variable_from line.now c }
-{
-    let number = cursor::within(line, c, 0, 3, Why::Kind);
-    let surface = cursor::decimal(line, number.next);
-    let enabled = cursor::within(line, surface.next, 0, 1, Why::Range);
-    let lo = cursor::float(line, enabled.next);
-    let hi = cursor::float(line, lo.next);
-    let step = cursor::float(line, hi.next);
-    let kind = jobs::variable_type(number.value, surface.value as usize);
-    let variable = VariableDef {
-        var_type: kind,
-        min_value: lo.value,
-        max_value: hi.value,
-        step_size: step.value,
-        enabled: enabled.value == 1,
-        follower: Follower::None,
-    };
-    let next = step.next;
-    VariableRead {
-        variable: variable,
-        next: next,
+impl Entry for VariableDef {
+    ghost from = { variable_from };
+
+    fn read(line: &[u8], c: Cursor) -> Read<VariableDef> {
+        let number = cursor::within(line, c, 0, 3, Why::Kind);
+        let surface = cursor::decimal(line, number.next);
+        let enabled = cursor::within(line, surface.next, 0, 1, Why::Range);
+        let lo = cursor::float(line, enabled.next);
+        let hi = cursor::float(line, lo.next);
+        let step = cursor::float(line, hi.next);
+        Read {
+            value: VariableDef {
+                var_type: jobs::variable_type(number.value, surface.value as usize),
+                min_value: lo.value,
+                max_value: hi.value,
+                step_size: step.value,
+                enabled: enabled.value == 1,
+                follower: Follower::None,
+            },
+            next: step.next,
+        }
     }
 }
 
-#[derive(Clone, Copy)]
-pub(crate) struct VariablesRead {
-    pub variables: [VariableDef; 8],
-    pub next: Cursor,
-}
-
 // So many variables, of which the first eight are kept.
-pub(crate) fn read_variables(line: &[u8], c: Cursor, count: usize) -> VariablesRead
+pub(crate) fn read_variables(line: &[u8], c: Cursor, count: usize) -> Read<[VariableDef; 8]>
     ensures { result ≡ variables_from line.now c count }
 {
-    let none = VariableDef {
+    let unread = VariableDef {
         var_type: VariableType::Curvature(usize::MAX),
         min_value: 0.0 / 0.0,
         max_value: 0.0 / 0.0,
@@ -56,20 +45,10 @@ pub(crate) fn read_variables(line: &[u8], c: Cursor, count: usize) -> VariablesR
         enabled: true,
         follower: Follower::Plus(usize::MAX),
     };
-    let mut variables = [none; 8];
-    let mut next = c;
-    let mut i = 0;
-    while i < count && next.is_good {
-        let r = read_variable(line, next);
-        if i < 8 {
-            let v = r.variable;
-            variables[i] = v;
-        }
-        next = r.next;
-        i += 1;
-    }
-    VariablesRead {
-        variables: variables,
-        next: next,
+    let mut variables = [unread; 8];
+    let next = entries::read_entries(line, c, count, &mut variables);
+    Read {
+        value: variables,
+        next,
     }
 }

@@ -64,14 +64,9 @@ fn put_surfaces(
 {
     let heights = traced.heights;
     let slopes = traced.slopes;
-    let n = output::least(count, 16);
     let mut held = output::within(waiting, out.len());
-    let mut i = 0;
-    while i < n {
-        let height = heights[i];
-        let slope = slopes[i];
-        held = put_surface(console, out, held, height, slope);
-        i += 1;
+    for i in 0..count.min(16) {
+        held = put_surface(console, out, held, heights[i], slopes[i]);
     }
     held
 }

@@ -44,13 +44,9 @@ fn put_rays(
     ensures bytes_in_bounds { result.bytes ≤ length out.new }
     ensures put { Put waiting out.old (rays_texts rays (min count 16)) result out.new }
 {
-    let n = output::least(count, 16);
     let mut held = output::within(waiting, out.len());
-    let mut i = 0;
-    while i < n {
-        let ray = rays[i];
-        held = put_ray(console, out, held, ray);
-        i += 1;
+    for ray in &rays[..count.min(16)] {
+        held = put_ray(console, out, held, *ray);
     }
     held
 }

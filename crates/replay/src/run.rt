@@ -28,7 +28,7 @@ pub(crate) fn run(
         return unknown(console, out, state, line, number, read.next);
     }
     let waiting = answers::put_head(console, out, state.waiting, line, kind.value);
-    admit(console, out, waiting, state.bench, number, read.request)
+    admit(console, out, waiting, state.bench, number, read.value)
 }
 
 fn read_run(line: &[u8], kind: NumberRead) -> RequestRead {

@@ -1,7 +1,7 @@
 -- Texts put one after the other: what waits at the end. Assumes nothing.
-use Rattle.std.specs.Prelude.{◌≡◌, ℕ, zero, suc, ◌+◌, ◌<◌, ◌≤◌, min, List, [], ◌∷◌, ◌++◌, length, take, slice_index_or, refl, Float}
+use Rattle.std.specs.Prelude.{◌≡◌, ℕ, suc, ◌+◌, ◌<◌, ◌≤◌, List, [], ◌∷◌, ◌++◌, length, take, slice_index_or, refl, Float}
 use Rattle.std.proofs.Common.{arith, sym, ap, subst, ◌∙◌, length-append, take-suc, le-leb}
-use Rattle.std.proofs.Math.Nat.{zero-min, min-zero, suc-min-suc}
+use Rattle.std.proofs.lemmas.List.{take_min}
 use Rattle.streams.specs.declared.output.Waiting.{Waiting}
 use Rattle.streams.specs.Output.{with_bytes, clipped, added, added_all, total, Onward, Put, blank, float_text, float_texts}
 
@@ -45,12 +45,6 @@ then {w} {m} {r} {out} {part} {left} {ts} {us} a b n = record {
       b.fits (omega (arith, both, long, n)) ∙ a.fits first;
   onward = onward_then a.onward b.onward;
 }
-
--- no more waits than the buffer holds
-pub take_min : (w : ℕ) (out : List ℕ) → take (min w (length out)) out ≡ take w out
-take_min zero out = ap (λ (n : ℕ). take n out) (zero-min (length out))
-take_min (suc w) [] = ap (λ (n : ℕ). take n []) (min-zero (suc w))
-take_min (suc w) (x ∷ out) = ap (λ (n : ℕ). take n (x ∷ out)) (suc-min-suc w (length out)) ∙ ap (λ (rest : List ℕ). x ∷ rest) (take_min w out)
 
 -- another number of bytes alone
 pub same_lines : {w r : Waiting} (n : ℕ) → r ≡ with_bytes n w → Onward w r

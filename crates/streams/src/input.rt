@@ -5,7 +5,6 @@ ghost use Rattle.streams.specs.Input.{ReadOn, WentOn};
 
 use crate::console::Console;
 use crate::{moves, parts};
-use text::numbers;
 
 // How far the input is read.
 #[derive(Clone, Copy)]
@@ -45,7 +44,7 @@ impl Input {
 pub(crate) fn lines_of(input: Input) -> u64
     ensures { result ≡ lines_of input }
 {
-    std::num::wrapping_add_u64(input.number, u64::MAX)
+    input.number.wrapping_add(u64::MAX)
 }
 
 // A line: the bytes of the buffer from `from` up to `to`. None is there while its end has yet to be read.
@@ -82,19 +81,16 @@ fn held_line(buf: &[u8], input: Input, end: usize) -> Line
     ensures value { result ≡ held_line buf.now input end }
     ensures from_le_to { (result.from ≤ result.to) × (result.to ≤ end) }
 {
-    let from = input.from;
     let rest = Input {
         from: end + 1,
-        to: input.to,
-        number: std::num::wrapping_add_u64(input.number, 1),
+        number: input.number.wrapping_add(1),
         is_cut: false,
-        has_more: input.has_more,
         is_open: true,
-        is_good: input.is_good,
+        ..input
     };
     Line {
-        from: from,
-        to: line_end(buf, from, end),
+        from: input.from,
+        to: line_end(buf, input.from, end),
         number: input.number,
         is_cut: input.is_cut,
         is_there: true,
@@ -116,19 +112,18 @@ fn last_line(input: Input) -> Line
     let is_there = is_left(input);
     let rest = Input {
         from: input.to,
-        to: input.to,
-        number: std::num::wrapping_add_u64(input.number, numbers::one_if(is_there)),
+        number: input.number.wrapping_add(u64::from(is_there)),
         is_cut: false,
         has_more: false,
         is_open: false,
-        is_good: input.is_good,
+        ..input
     };
     Line {
         from: input.from,
         to: input.to,
         number: input.number,
         is_cut: input.is_cut,
-        is_there: is_there,
+        is_there,
         input: rest,
     }
 }
@@ -142,7 +137,7 @@ fn not_yet(input: Input) -> Line
         number: input.number,
         is_cut: input.is_cut,
         is_there: false,
-        input: input,
+        input,
     }
 }
 
@@ -154,10 +149,8 @@ pub fn next_line(buf: &[u8], input: Input) -> Line
     ensures from_le_to_2 { (result.from ≤ result.to) × (result.to ≤ length buf.now) }
     ensures from_le_to_3 { (result.input.from ≤ result.input.to) × (result.input.to ≤ length buf.now) }
 {
-    let from = input.from;
-    let to = input.to;
-    let end = parts::find(buf, from, to, b'\n');
-    if end < to {
+    let end = parts::find(buf, input.from, input.to, b'\n');
+    if end < input.to {
         return held_line(buf, input, end);
     }
     if input.has_more {
@@ -189,11 +182,7 @@ fn move_front(buf: &mut [u8], from: usize, to: usize)
     requires to_in_bounds { to ≤ length buf.old }
     ensures { take (to - from) buf.new ≡ take (to - from) (drop from buf.old) }
 {
-    let mut i = 0;
-    while i < to - from {
-        buf[i] = buf[from + i];
-        i += 1;
-    }
+    buf.copy_within(from..to, 0);
 }
 
 // The input with room for more in the buffer: what is not taken is moved to the front, and where that fills the buffer it is
@@ -219,12 +208,9 @@ fn placed(input: Input, to: usize, is_cut: bool) -> Input
 {
     Input {
         from: 0,
-        to: to,
-        number: input.number,
-        is_cut: is_cut,
-        has_more: input.has_more,
-        is_open: input.is_open,
-        is_good: input.is_good,
+        to,
+        is_cut,
+        ..input
     }
 }
 
@@ -236,15 +222,15 @@ fn read_on(console: Console, buf: &mut [u8], input: Input) -> Input
     ensures read_on { ReadOn buf.old input buf.new result }
 {
     let kept = with_room(buf, input);
-    let to = kept.to;
-    let moved = moves::read_some(console, &mut buf[to..]);
+    let came = moves::read_some(console, &mut buf[kept.to..]);
+    let is_good = came.is_ok();
+    let bytes = came.unwrap_or(0);
     Input {
         from: 0,
-        to: to + moved.bytes,
-        number: kept.number,
-        is_cut: kept.is_cut,
-        has_more: moved.bytes > 0,
-        is_open: moved.is_good,
-        is_good: moved.is_good,
+        to: kept.to + bytes,
+        has_more: bytes > 0,
+        is_open: is_good,
+        is_good,
+        ..kept
     }
 }

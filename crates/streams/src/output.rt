@@ -5,7 +5,6 @@ ghost use Rattle.streams.specs.Output.{float_texts};
 
 use crate::console::Console;
 use crate::{moves, parts};
-use text::numbers;
 
 // What waits to be written, and how the lines so far were answered.
 #[derive(Clone, Copy)]
@@ -38,10 +37,8 @@ pub fn counted(waiting: Waiting, is_refused: bool) -> Waiting
     ensures { result ≡ one_refused is_refused waiting }
 {
     Waiting {
-        bytes: waiting.bytes,
-        is_good: waiting.is_good,
-        refused: std::num::wrapping_add_u64(waiting.refused, numbers::one_if(is_refused)),
-        unknown: waiting.unknown,
+        refused: waiting.refused.wrapping_add(u64::from(is_refused)),
+        ..waiting
     }
 }
 
@@ -50,10 +47,8 @@ pub fn counted_unknown(waiting: Waiting) -> Waiting
     ensures { result ≡ one_unknown waiting }
 {
     Waiting {
-        bytes: waiting.bytes,
-        is_good: waiting.is_good,
-        refused: waiting.refused,
-        unknown: std::num::wrapping_add_u64(waiting.unknown, 1),
+        unknown: waiting.unknown.wrapping_add(1),
+        ..waiting
     }
 }
 
@@ -61,25 +56,20 @@ pub fn counted_unknown(waiting: Waiting) -> Waiting
 pub fn least(a: usize, b: usize) -> usize
     ensures { result ≡ min a b }
 {
-    if a < b { a } else { b }
+    a.min(b)
 }
 
 fn with_bytes(waiting: Waiting, bytes: usize) -> Waiting
     ensures { result ≡ with_bytes bytes waiting }
 {
-    Waiting {
-        bytes: bytes,
-        is_good: waiting.is_good,
-        refused: waiting.refused,
-        unknown: waiting.unknown,
-    }
+    Waiting { bytes, ..waiting }
 }
 
 // No more waits than a buffer of so many bytes holds.
 pub fn within(waiting: Waiting, length: usize) -> Waiting
     ensures { result ≡ clipped length waiting }
 {
-    with_bytes(waiting, least(waiting.bytes, length))
+    with_bytes(waiting, waiting.bytes.min(length))
 }
 
 // Writes text, where nothing failed before it. Nothing waits then.
@@ -91,9 +81,8 @@ fn written(console: Console, waiting: Waiting, text: &[u8]) -> Waiting
     }
     Waiting {
         bytes: 0,
-        is_good: moves::write_all(console, text),
-        refused: waiting.refused,
-        unknown: waiting.unknown,
+        is_good: moves::write_all(console, text).is_ok(),
+        ..waiting
     }
 }
 
@@ -101,7 +90,7 @@ fn written(console: Console, waiting: Waiting, text: &[u8]) -> Waiting
 pub fn flush(console: Console, out: &[u8], waiting: Waiting) -> Waiting
     ensures { Written (min waiting.bytes (length out.now)) waiting result }
 {
-    let n = least(waiting.bytes, out.len());
+    let n = waiting.bytes.min(out.len());
     written(console, waiting, &out[..n])
 }
 
@@ -113,7 +102,7 @@ pub fn put(console: Console, out: &mut [u8], waiting: Waiting, text: &[u8]) -> W
     if text.len() > out.len() {
         return written(console, flush(console, out, waiting), text);
     }
-    let held = least(waiting.bytes, out.len());
+    let held = waiting.bytes.min(out.len());
     if held > out.len() - text.len() {
         let flushed = flush(console, out, waiting);
         return with_bytes(flushed, parts::copy(text, out));
@@ -159,11 +148,9 @@ pub fn put_floats(console: Console, out: &mut [u8], waiting: Waiting, row: &[f64
     ensures put { Put waiting out.old (float_texts row.now) result out.new }
 {
     let mut held = within(waiting, out.len());
-    let mut i = 0;
-    while i < row.len() {
+    for x in row {
         held = put(console, out, held, b" ");
-        held = put_float(console, out, held, row[i]);
-        i += 1;
+        held = put_float(console, out, held, *x);
     }
     held
 }

@@ -1,18 +1,21 @@
 // Parts of a buffer: where a byte stands in one, and a text at its start.
-ghost use Rattle.std.specs.Prelude.{◌≡◌, ◌+◌, ◌≤◌, ◌++◌, length, drop};
+ghost use Rattle.std.specs.Prelude.{◌≡◌, ◌+◌, ◌≤◌, ◌++◌, ◌==◌, length, drop};
+ghost use Rattle.std.specs.List.{position};
 ghost use Rattle.streams.specs.Parts.{index_of, slice};
 
-// Where the first such byte stands in a part, or how long that is.
+// Where the first such byte stands in a part.
+fn place_in(part: &[u8], byte: u8) -> Option<usize>
+    ensures { result ≡ position (λ x. x == byte) part.now }
+{
+    part.iter().position(|b| *b == byte)
+}
+
+// The same, or how long the part is.
 fn index_in(part: &[u8], byte: u8) -> usize
     ensures value { result ≡ index_of byte part.now }
     ensures within { result ≤ length part.now }
 {
-    for (i, b) in part.iter().enumerate() {
-        if *b == byte {
-            return i;
-        }
-    }
-    part.len()
+    place_in(part, byte).unwrap_or(part.len())
 }
 
 // The same from `from` up to `to`: `to` where there is none.

@@ -1,14 +1,12 @@
 -- A line read field by field. Definitions only.
-use Rattle.std.specs.Prelude.{Bool, true, false, cond, List, ℕ, zero, suc, eqb, Float}
+use Rattle.std.specs.Prelude.{Bool, true, false, cond, List, ℕ, zero, suc, eqb, Float, Option, Some, None, option_map}
 use Rattle.std.specs.Float.Ieee.{of_bits}
 use Rattle.std.specs.Float.{binary64}
 use Rattle.text.specs.declared.cursor.Cursor.{Cursor}
 use Rattle.text.specs.declared.cursor.Why.{Why}
 use Rattle.text.specs.declared.cursor.Why.TheVariants.{TooMany, NoNumber, NoHex, Another}
-use Rattle.text.specs.declared.cursor.NumberRead.{NumberRead}
-use Rattle.text.specs.declared.cursor.FloatRead.{FloatRead}
-use Rattle.text.specs.declared.fields.NumberField as number-field
-use Rattle.text.specs.declared.fields.FloatField as float_field
+use Rattle.text.specs.declared.cursor.Read.{Read}
+use Rattle.text.specs.declared.fields.Field.{Field}
 use Rattle.text.specs.Fields.{text_of, number_field, float_of}
 use Rattle.text.specs.Words.{between, word_from, none_left, same_text}
 
@@ -24,31 +22,27 @@ moved_to to c = cond c.is_good (record { at = to; is_good = true; why = c.why })
 abbrev pub out_of_form : Why → Cursor → Cursor
 out_of_form why c = cond c.is_good (record { at = c.at; is_good = false; why = why }) c
 
--- what a field gives to a cursor that stands before it
-abbrev pub number_read : Why → Cursor → number-field.NumberField → NumberRead
-number_read why c (number-field.TheVariants.Is x to) = record { value = x; next = moved_to to c }
-number_read why c number-field.TheVariants.Bad = record { value = 0; next = out_of_form why c }
-
-abbrev pub float_read : Cursor → float_field.FloatField → FloatRead
-float_read c (float_field.TheVariants.Is x to) = record { value = x; next = moved_to to c }
-float_read c float_field.TheVariants.Bad = record { value = of_bits binary64 0; next = out_of_form NoHex c }
+-- what a field gives to a cursor that stands before it: `none` where it is out of form
+abbrev pub field_read : {A : Type 0} (none : A) → Why → Cursor → Option (Field A) → Read A
+field_read none why c (Some f) = record { value = f.value; next = moved_to f.to c }
+field_read none why c None = record { value = none; next = out_of_form why c }
 
 -- a number in a base from where a cursor stands, and one in decimal
-abbrev pub number_from : (base : ℕ) → List ℕ → Cursor → NumberRead
-number_from base line c = number_read (cond (eqb base 16) NoHex NoNumber) c (number_field base line c.at)
+abbrev pub number_from : (base : ℕ) → List ℕ → Cursor → Read ℕ
+number_from base line c = field_read 0 (cond (eqb base 16) NoHex NoNumber) c (number_field base line c.at)
 
-abbrev pub decimal_from : List ℕ → Cursor → NumberRead
+abbrev pub decimal_from : List ℕ → Cursor → Read ℕ
 decimal_from line c = number_from 10 line c
 
 -- one from `low` to `high`: any other leaves the cursor before it
-abbrev pub within_from : (low high : ℕ) → Why → List ℕ → Cursor → NumberRead
+abbrev pub within_from : (low high : ℕ) → Why → List ℕ → Cursor → Read ℕ
 within_from low high why line c =
     let r = decimal_from line c in
     cond r.next.is_good (cond (between low high r.value) r (record { value = r.value; next = out_of_form why c })) r
 
 -- a float, by its bits in hexadecimal, from where a cursor stands
-abbrev pub float_from : List ℕ → Cursor → FloatRead
-float_from line c = float_read c (float_of (number_field 16 line c.at))
+abbrev pub float_from : List ℕ → Cursor → Read Float
+float_from line c = field_read (of_bits binary64 0) NoHex c (option_map float_of (number_field 16 line c.at))
 
 -- n floats further on
 unfoldable pub past_floats : List ℕ → Cursor → ℕ → Cursor

@@ -3,11 +3,11 @@
 ghost use Rattle.std.specs.Prelude.{◌≡◌, ◌≤◌, ◌++◌, length, drop};
 ghost use Rattle.lists.specs.Tab.{tab};
 ghost use Rattle.text.specs.Words.{between};
-ghost use Rattle.text.specs.Cursor.{new_cursor, moved_to, out_of_form, number_read, number_from, decimal_from, within_from, float_read, float_from};
+ghost use Rattle.text.specs.Cursor.{new_cursor, moved_to, out_of_form, field_read, number_from, decimal_from, within_from, float_from};
 ghost use Rattle.text.specs.Cursor.{past_floats};
 ghost use Rattle.text.specs.Cursor.{float_at, past_tag, past_word, done_with};
 
-use crate::fields::{FloatField, NumberField};
+use crate::fields::Field;
 use crate::{fields, words};
 
 // What is wrong with a word that is there.
@@ -42,26 +42,21 @@ impl Cursor {
         ensures { result ≡ new_cursor at }
     {
         Cursor {
-            at: at,
+            at,
             is_good: true,
             why: Why::TooMany,
         }
     }
 }
 
-// A number and where the line goes on; 0 where it is out of form.
+// A value, and where the line goes on.
 #[derive(Clone, Copy)]
-pub struct NumberRead {
-    pub value: u64,
+pub struct Read<T> {
+    pub value: T,
     pub next: Cursor,
 }
 
-// The same for a float.
-#[derive(Clone, Copy)]
-pub struct FloatRead {
-    pub value: f64,
-    pub next: Cursor,
-}
+pub type NumberRead = Read<u64>;
 
 // A cursor that stays before the field that is out of form.
 pub fn out_of_form(c: Cursor, why: Why) -> Cursor
@@ -69,9 +64,9 @@ pub fn out_of_form(c: Cursor, why: Why) -> Cursor
 {
     if c.is_good {
         return Cursor {
-            at: c.at,
             is_good: false,
-            why: why,
+            why,
+            ..c
         };
     }
     c
@@ -81,51 +76,32 @@ fn moved(c: Cursor, to: usize) -> Cursor
     ensures { result ≡ moved_to to c }
 {
     if c.is_good {
-        let why = c.why;
-        return Cursor {
-            at: to,
-            is_good: true,
-            why: why,
-        };
+        return Cursor { at: to, ..c };
     }
     c
 }
 
-fn number_read(f: NumberField, c: Cursor, why: Why) -> NumberRead
-    ensures { result ≡ number_read why c f }
+// What a field gives to a cursor that stands before it: `none` where it is out of form.
+fn field_read<T: Copy>(field: Option<Field<T>>, none: T, c: Cursor, why: Why) -> Read<T>
+    ensures { result ≡ field_read none why c field }
 {
-    match f {
-        NumberField::Is(x, to) => NumberRead {
-            value: x,
-            next: moved(c, to),
+    match field {
+        Some(f) => Read {
+            value: f.value,
+            next: moved(c, f.to),
         },
-        NumberField::Bad => NumberRead {
-            value: 0,
+        None => Read {
+            value: none,
             next: out_of_form(c, why),
         },
     }
 }
 
-fn float_read(f: FloatField, c: Cursor) -> FloatRead
-    ensures { result ≡ float_read c f }
-{
-    match f {
-        FloatField::Is(x, to) => FloatRead {
-            value: x,
-            next: moved(c, to),
-        },
-        FloatField::Bad => FloatRead {
-            value: 0.0,
-            next: out_of_form(c, Why::NoHex),
-        },
-    }
-}
-
-pub fn decimal(line: &[u8], c: Cursor) -> NumberRead
+pub fn decimal(line: &[u8], c: Cursor) -> Read<u64>
     ensures { result ≡ decimal_from line.now c }
 {
     let f = fields::number_field(line, c.at, 10);
-    number_read(f, c, Why::NoNumber)
+    field_read(f, 0, c, Why::NoNumber)
 }
 
 fn is_between(x: u64, low: u64, high: u64) -> bool
@@ -135,7 +111,7 @@ fn is_between(x: u64, low: u64, high: u64) -> bool
 }
 
 // A number from `low` to `high`; any other is out of form for the reason given.
-pub fn within(line: &[u8], c: Cursor, low: u64, high: u64, why: Why) -> NumberRead
+pub fn within(line: &[u8], c: Cursor, low: u64, high: u64, why: Why) -> Read<u64>
     ensures { result ≡ within_from low high why line.now c }
 {
     let r = decimal(line, c);
@@ -145,24 +121,24 @@ pub fn within(line: &[u8], c: Cursor, low: u64, high: u64, why: Why) -> NumberRe
     if is_between(r.value, low, high) {
         return r;
     }
-    NumberRead {
+    Read {
         value: r.value,
         next: out_of_form(c, why),
     }
 }
 
-pub fn hex(line: &[u8], c: Cursor) -> NumberRead
+pub fn hex(line: &[u8], c: Cursor) -> Read<u64>
     ensures { result ≡ number_from 16 line.now c }
 {
     let f = fields::number_field(line, c.at, 16);
-    number_read(f, c, Why::NoHex)
+    field_read(f, 0, c, Why::NoHex)
 }
 
-pub fn float(line: &[u8], c: Cursor) -> FloatRead
+pub fn float(line: &[u8], c: Cursor) -> Read<f64>
     ensures { result ≡ float_from line.now c }
 {
     let f = fields::float_field(line, c.at);
-    float_read(f, c)
+    field_read(f, 0.0, c, Why::NoHex)
 }
 
 // The next n floats, to the front of `row`.
@@ -172,12 +148,10 @@ pub fn floats(line: &[u8], c: Cursor, row: &mut [f64], n: usize) -> Cursor
     ensures row_after { row.new ≡ tab (float_at line.now c) n ++ drop n row.old }
 {
     let mut next = c;
-    let mut i = 0;
-    while i < n {
+    for x in &mut row[..n] {
         let r = float(line, next);
-        row[i] = r.value;
+        *x = r.value;
         next = r.next;
-        i += 1;
     }
     next
 }
@@ -187,10 +161,8 @@ pub fn tag(line: &[u8], c: Cursor, name: &[u8]) -> Cursor
     ensures { result ≡ past_tag line.now c name.now }
 {
     let w = words::next_word(line, c.at);
-    let from = w.from;
-    let to = w.to;
-    if check::same(&line[from..to], name) {
-        return moved(c, to);
+    if check::same(&line[w.from..w.to], name) {
+        return moved(c, w.to);
     }
     out_of_form(c, Why::Another)
 }

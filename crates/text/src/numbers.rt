@@ -1,55 +1,32 @@
 // Numbers as text.
-ghost use Rattle.std.specs.Prelude.{◌≡◌, cond, ◌≤◌, ◌<◌};
+ghost use Rattle.std.specs.Prelude.{◌≡◌, ◌≤◌, ◌<◌, SomeIff};
 ghost use Rattle.std.specs.Float.Ieee.{of_bits};
 ghost use Rattle.std.specs.Float.{binary64};
 ghost use Rattle.text.specs.Numbers.{digit_of, digits_from, is_long, number_of, bits_of};
 
-#[derive(Clone, Copy)]
-pub(crate) enum Number {
-    Is(u64),
-    Bad,
-}
-
-// 1 where it is so, and else 0.
-pub fn one_if(so: bool) -> u64
-    ensures value { result ≡ cond so 1 0 }
-    ensures upper_bound { result ≤ 1 }
+// What a digit counts, in either case.
+fn digit(b: u8) -> Option<u64>
+    ensures { SomeIff result (digit_of b < 16) (digit_of b) }
 {
-    if so { 1 } else { 0 }
-}
-
-// What a digit counts, in either case, or 16 where b is none.
-fn digit(b: u8) -> u64
-    ensures { result ≡ digit_of b }
-{
-    match b {
-        b'0'..=b'9' => (b - b'0') as u64,
-        b'a'..=b'f' => (b - b'a') as u64 + 10,
-        b'A'..=b'F' => (b - b'A') as u64 + 10,
-        _ => 16,
-    }
+    let d = char::from(b).to_digit(16)?;
+    Some(u64::from(d))
 }
 
 // The number of these digits, where each is one of the base and the number fits.
-fn digits_value(text: &[u8], base: u64) -> Number
+fn digits_value(text: &[u8], base: u64) -> Option<u64>
     requires base_nonzero { 0 < base }
     requires base_bound { base ≤ 16 }
     ensures { result ≡ digits_from base 0 text.now }
 {
-    let mut total = 0;
-    let mut i = 0;
-    while i < text.len() {
-        let d = digit(text[i]);
+    let mut total = 0u64;
+    for b in text {
+        let d = digit(*b)?;
         if d >= base {
-            return Number::Bad;
+            return None;
         }
-        if total > (u64::MAX - d) / base {
-            return Number::Bad;
-        }
-        total = total * base + d;
-        i += 1;
+        total = total.checked_mul(base)?.checked_add(d)?;
     }
-    Number::Is(total)
+    Some(total)
 }
 
 // How many digits a number has: sixteen in hexadecimal, and else one at least.
@@ -60,7 +37,7 @@ fn is_long(length: usize, base: u64) -> bool
 }
 
 // The number that a text is in a base.
-pub(crate) fn number_in(text: &[u8], base: u64) -> Number
+pub(crate) fn number_in(text: &[u8], base: u64) -> Option<u64>
     requires base_nonzero { 0 < base }
     requires base_bound { base ≤ 16 }
     ensures { result ≡ number_of base text.now }
@@ -68,7 +45,7 @@ pub(crate) fn number_in(text: &[u8], base: u64) -> Number
     if is_long(text.len(), base) {
         return digits_value(text, base);
     }
-    Number::Bad
+    None
 }
 
 // The float of a bit pattern.

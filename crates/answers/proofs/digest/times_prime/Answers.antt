@@ -25,22 +25,6 @@ product x =
     mod-add-mod (high x + low x) (2 ^ 64) (shifted x)
     ∙ sym (ap (λ (n : ℕ). n % 2 ^ 64) (split x) ∙ add-mul-mod_self_right (high x + low x + shifted x) (dropped x) (2 ^ 64))
 
--- src/lib.rt:8:17
-
--- src/lib.rt:8:16
-
--- src/lib.rt:9:15
-
--- src/lib.rt:10:19
-
--- src/lib.rt:11:32
-
--- src/lib.rt:11:5
-
--- src/lib.rt:5:1
-
 pub returns : goal.returns
 unfolding high low shifted
-returns c =
-    let x = c.args.x in
-    c.wrapping_add_u64-2.ensures.value ∙ ap (λ (n : ℕ). (n + shifted x) % 2 ^ 64) c.wrapping_add_u64.ensures.value ∙ product x
+returns c = product c.args.x

@@ -1,5 +1,5 @@
 -- `answers::pieces::put_fault` meets its contract. Assumes nothing.
-use Rattle.std.proofs.Common.{Bool, cond, [], ◌∷◌, sym, ap, ◌∙◌, rules}
+use Rattle.std.proofs.Common.{ℕ, List, Bool, cond, [], ◌∷◌, sym, ap, ◌∙◌, rules}
 use Rattle.streams.specs.OutputLaws.{put_as}
 use Rattle.answers.specs.Pieces.{wrong_text, missing_text}
 use Rattle.std.proofs.Common.{rules}
@@ -19,5 +19,5 @@ returns c = record {
   bytes_in_bounds = search rules;
   put = put_as (ap (λ (t : Bool). cond t missing_text (wrong_text c.args.c.why)
       ∷ []) (sym c.if-is_end.false ∙ c.is_end.ensures))
-      c.put_wrong.ensures.put;
+      (put_as (ap (λ (text : List ℕ). text ∷ []) c.wrong_text.ensures) c.put-2.ensures.put);
 }

@@ -1,5 +1,5 @@
 -- `answers::pieces::put_unknown` meets its contract. Assumes nothing.
-use Rattle.std.proofs.Common.{ℕ, ◌+◌, ◌%◌, ◌^◌, [], ◌∷◌, ap, ◌∙◌, rules}
+use Rattle.std.proofs.Common.{ℕ, ◌+◌, ◌%◌, ◌^◌, [], ◌∷◌, ap, rules}
 use Rattle.streams.specs.OutputLaws.{then, put_as, put-from}
 use Rattle.answers.specs.Pieces.{number_texts}
 use Rattle.std.proofs.Common.{rules}
@@ -8,8 +8,8 @@ use Rattle.answers.proofs.pieces.put_unknown.Goals as goal
 pub returns : goal.returns
 returns c =
     let field =
-    c.wrapping_add_u64-field.ensures.value ∙ ap (λ (n : ℕ). (n + 1) % 2 ^ 64)
-    c.words_before.ensures in
+    ap (λ (n : ℕ). (n + 1) % 2 ^ 64)
+    c.words_before-field.ensures in
     let number =
     put-from c.counted_unknown.ensures
     c.put_number-waiting.ensures.put in

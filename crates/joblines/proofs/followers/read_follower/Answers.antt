@@ -1,7 +1,8 @@
 -- `joblines::followers::read_follower` meets its contract. Assumes nothing.
 use mathlib.Core.Path.{ap, ◌∙◌}
 use Rattle.jobs.specs.Entries.{follower_of}
-use Rattle.text.specs.declared.cursor.NumberRead.{NumberRead}
+use Rattle.std.specs.Prelude.{ℕ}
+use Rattle.text.specs.declared.cursor.Read.{Read}
 use Rattle.text.specs.declared.cursor.Why.TheVariants.{Range}
 use Rattle.text.specs.Cursor.{decimal_from, within_from}
 use Rattle.joblines.specs.Followers.{follower_from}
@@ -16,7 +17,7 @@ returns c =
     let first = second in
     let a = first.args in
     let place = first.read_place-place.ensures in
-    let sign = second.within-sign.ensures ∙ ap (λ (r : NumberRead). within_from 1 2 Range a.line.now r.next) place in
-    let surface = third.decimal-surface.ensures ∙ ap (λ (r : NumberRead). decimal_from a.line.now r.next) sign in
-    let follower = named.follower_of-follower.ensures ∙ (λ i. follower_of (sign i).value (surface i).value) in
-    λ i. record { place = (place i).value; follower = follower i; next = (surface i).next }
+    let sign = second.within-sign.ensures ∙ ap (λ (r : Read ℕ). within_from 1 2 Range a.line.now r.next) place in
+    let surface = third.decimal-surface.ensures ∙ ap (λ (r : Read ℕ). decimal_from a.line.now r.next) sign in
+    let follower = named.follower_of.ensures ∙ (λ i. follower_of (sign i).value (surface i).value) in
+    λ i. record { value = record { place = (place i).value; follower = follower i }; next = (surface i).next }

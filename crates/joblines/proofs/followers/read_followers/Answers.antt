@@ -4,16 +4,15 @@ use mathlib.Core.List.{List}
 use Prim.Native.Nat.{ℕ}
 use Rattle.variables.specs.declared.types.VariableDef.{VariableDef}
 use Rattle.text.specs.declared.cursor.Cursor.{Cursor}
-use Rattle.text.specs.declared.cursor.NumberRead.{NumberRead}
+use Rattle.text.specs.declared.cursor.Read.{Read}
 use Rattle.text.specs.Cursor.{decimal_from}
-use Rattle.joblines.specs.declared.sets.VariablesRead.{VariablesRead}
 use Rattle.joblines.specs.Followers.{followers_listed, followers_from}
 use Rattle.joblines.proofs.LeftOut.{left_out, given}
 use Rattle.joblines.proofs.followers.read_followers.Goals as goal
 
 -- what stands behind the letter
 
-abbrev listed : List ℕ → (count : ℕ) → List VariableDef → Cursor → VariablesRead
+abbrev listed : List ℕ → (count : ℕ) → List VariableDef → Cursor → Read (List VariableDef)
 listed line count l marked = followers_listed line count (decimal_from line marked).next (decimal_from line marked).value l
 
 pub returns-then-marked : goal.returns-then-marked
@@ -22,7 +21,7 @@ returns-then-marked c =
     let many = c in
     let a = many.args in
     c.read_listed.ensures
-    ∙ ap (λ (r : NumberRead). followers_listed a.line.now a.count r.next r.value a.read) many.decimal-many.ensures
+    ∙ ap (λ (r : Read ℕ). followers_listed a.line.now a.count r.next r.value a.read) many.decimal-many.ensures
     ∙ left_out (listed a.line.now a.count a.read) many.tag-marked.ensures _ many.if-marked.true
 
 pub returns : goal.returns

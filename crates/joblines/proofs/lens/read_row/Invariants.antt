@@ -1,5 +1,4 @@
 -- `joblines::lens::read_row` meets its contract. Assumes nothing.
-use Prim.Native.Nat.{◌-◌}
 use Rattle.joblines.specs.Lens.{past_index, put_index}
 use Rattle.joblines.proofs.Reading.{Reading}
 use Rattle.joblines.specs.Lens.{past_index, put_index}
@@ -8,6 +7,3 @@ use Rattle.joblines.proofs.lens.read_row.Given as goal
 
 abbrev pub invariant-loop-w : goal.invariant-loop-w
 invariant-loop-w l = Reading (past_index l.line) (put_index l.line l.i) l.initial.next l.initial.indices l.slots l.indices l.next l.w
-
-abbrev pub decreases-loop-w : goal.decreases-loop-w
-decreases-loop-w l = l.slots - l.w

@@ -9,4 +9,4 @@ returns c =
     let a = c.args in
     let slot = c.decimal-slot.ensures in
     let read = c.read_pairs-read.ensures ∙ (λ i. pairs_from a.line.now (slot i).next a.count) in
-    λ i. record { slot = (slot i).value; limits = record { thicknesses = (read i).pairs }; next = (read i).next }
+    λ i. record { slot = (slot i).value; limits = record { thicknesses = (read i).value }; next = (read i).next }

@@ -12,4 +12,4 @@ returns c =
     let set = c.read_variable_set-set.ensures ∙ (λ i. variable_set_from line (lens i).next) in
     let merit = c.read_merit_function-merit.ensures ∙ (λ i. merit_function_from line (set i).next) in
     let next = c.tag-next.ensures ∙ (λ i. past_tag line (merit i).next settings_mark) in
-    λ i. record { prescription = (lens i).prescription; variables = (set i).variables; merit_function = (merit i).function; next = next i }
+    λ i. record { prescription = (lens i).value; variables = (set i).value; merit_function = (merit i).value; next = next i }

@@ -11,4 +11,4 @@ returns c =
     let line = c.args.line.now in
     let count = c.decimal-count.ensures ∙ ap (decimal_from line) c.tag.ensures in
     let read = c.read_operands-read.ensures ∙ (λ i. operands_from line (count i).next (count i).value) in
-    λ i. record { function = record { operands = (read i).operands; operand_count = (count i).value }; next = (read i).next }
+    λ i. record { value = record { operands = (read i).value; operand_count = (count i).value }; next = (read i).next }

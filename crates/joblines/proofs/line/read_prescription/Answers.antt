@@ -28,8 +28,8 @@ returns c =
     ∙ (λ i. with_indices line (slots i).next (count i).value (slots i).value (replicate 64 (no_number i))) in
     let pupil = c.float-pupil.ensures ∙ ap (float_from line) (c.tag-3.ensures ∙ (λ i. past_tag line (next i) pupil_mark)) in
     λ i. record {
-      prescription = record {
-        surfaces = (read i).surfaces;
+      value = record {
+        surfaces = (read i).value;
         indices = indices i;
         surface_count = (count i).value;
         slot_count = (slots i).value;

@@ -15,5 +15,5 @@ returns c =
     let line = count.args.line.now in
     let n = count.decimal-count.ensures ∙ ap (decimal_from line) count.tag.ensures in
     let v = read.read_variables-read.ensures ∙ (λ i. variables_from line (n i).next (n i).value) in
-    let f = followed.read_followers-followed.ensures ∙ (λ i. followers_from line (n i).value (v i).next (v i).variables) in
-    λ i. record { variables = record { variables = (f i).variables; variable_count = (n i).value }; next = (f i).next }
+    let f = followed.read_followers-followed.ensures ∙ (λ i. followers_from line (n i).value (v i).next (v i).value) in
+    λ i. record { value = record { variables = (f i).value; variable_count = (n i).value }; next = (f i).next }

@@ -20,11 +20,11 @@ pub loop-i-init : goal.loop-i-init
 unfolding all_ends_texts
 loop-i-init c =
     let a = c.args in
-    (search rules, search rules, rw c.within-held.ensures (search rules), nothing_put c.within-held.result a.out.now)
+    (search rules, rw c.within-held.ensures (search rules), nothing_put c.within-held.result a.out.now)
 
 pub loop-i-preserved : goal.loop-i-preserved
 loop-i-preserved c =
     let t = c.args.traced in
     let l = c.loop-i in
-    let more = then l.invariant.3 c.put_surface-held.ensures.put l.invariant.1 in
-    (search rules, search rules, search rules, put_as (one_more t.heights t.slopes l.i) more)
+    let more = then l.invariant.2 c.put_surface-held.ensures.put l.invariant.0 in
+    (search rules, search rules, put_as (one_more t.heights t.slopes l.i) more)

@@ -30,14 +30,14 @@ module _ (buf : List ℕ) (input : Input) {end : ℕ} (is : end ≡ feed_at buf 
 abbrev Within : ℕ → Line → Type 0
 Within n l = ((l.from ≤ l.to) × (l.to ≤ n)) × ((l.input.from ≤ l.input.to) × (l.input.to ≤ n))
 
-pub returns-then-end-to : goal.returns-then-end-to
-returns-then-end-to c =
+pub returns-then-end-input : goal.returns-then-end-input
+returns-then-end-input c =
     let a = c.args in
     let f = c.find-end in
     let e = c.held_line.ensures.value in
     let b = c.held_line.ensures.from_le_to in
     record {
-      value = from-held a.buf.now a.input f.ensures.value c.if-end-to.true e;
+      value = from-held a.buf.now a.input f.ensures.value c.if-end-input.true e;
       from_le_to_2 = (b.0, search rules);
       from_le_to_3 = subst (λ (l : Line). (l.input.from ≤ l.input.to) × (l.input.to ≤ length a.buf.now)) (sym e) (search rules, search rules);
     }
@@ -48,7 +48,7 @@ returns-then-input c =
     let f = c.find-end in
     let e = c.not_yet.ensures in
     let w = subst (Within (length a.buf.now)) (sym e) ((omega arith, search rules), (search rules, search rules)) in
-    record { value = from_more a.buf.now a.input f.ensures.value c.if-end-to.false c.if-input.true e; from_le_to_2 = w.0; from_le_to_3 = w.1 }
+    record { value = from_more a.buf.now a.input f.ensures.value c.if-end-input.false c.if-input.true e; from_le_to_2 = w.0; from_le_to_3 = w.1 }
 
 pub returns : goal.returns
 returns c =
@@ -56,4 +56,4 @@ returns c =
     let f = c.find-end in
     let e = c.last_line.ensures in
     let w = subst (Within (length a.buf.now)) (sym e) ((search rules, search rules), (search rules, search rules)) in
-    record { value = from_last a.buf.now a.input f.ensures.value c.if-end-to.false c.if-input.false e; from_le_to_2 = w.0; from_le_to_3 = w.1 }
+    record { value = from_last a.buf.now a.input f.ensures.value c.if-end-input.false c.if-input.false e; from_le_to_2 = w.0; from_le_to_3 = w.1 }

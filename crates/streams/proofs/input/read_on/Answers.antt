@@ -1,10 +1,18 @@
 -- `streams::input::read_on` meets its contract: what was kept stands before what came. Assumes nothing.
 use Rattle.std.proofs.Common.{◌≡◌, ℕ, zero, suc, ◌+◌, ◌≤◌, Bool, ltb, List, length, take, sym, ap, ◌∙◌, subst, arith, length-take-le, take_at, rules, le-ltb}
 use Rattle.std.proofs.Common.{lt-ltb}
+use Rattle.std.specs.Prelude.{Result, Ok, Err, IfOk}
+use Rattle.std.specs.Result.{result_unwrap_or}
 use Rattle.streams.specs.declared.input.Input.{Input}
 use Rattle.streams.specs.Input.{roomed, held_bytes, read_to, ReadOn}
 use Rattle.std.proofs.Common.{rules}
 use Rattle.streams.proofs.input.read_on.Goals as goal
+
+-- a read that fails brings nothing
+
+none_more : {E : Type 0} (r : Result ℕ E) (n : ℕ) → IfOk r (λ b. b ≤ n) → result_unwrap_or r 0 ≤ n
+none_more (Ok b) n h = h
+none_more (Err e) n h = omega arith
 
 -- something came exactly where the end is further on
 
@@ -42,8 +50,9 @@ pub returns : goal.returns
 returns c =
     let a = c.args in
     let w = c.with_room-kept in
-    let m = c.read_some-moved in record {
+    let came : c.unwrap_or-bytes.result ≤ length c.read_some-came.new.room =
+    rw c.unwrap_or-bytes.ensures (none_more c.read_some-came.result _ c.read_some-came.ensures) in record {
       from_le_to_2 = (search rules, search rules);
-      read_on = is_read a.buf.now a.input _ w.ensures.value.0 m.result.bytes m.result.is_good
+      read_on = is_read a.buf.now a.input _ w.ensures.value.0 c.unwrap_or-bytes.result c.is_ok-is_good.result
           (take_at (take w.result.to _) _ w.result.to (length-take-le w.result.to _ w.ensures.value.1) ∙ w.ensures.buf_after);
     }

@@ -1,9 +1,6 @@
--- `streams::moves::write_all`: no more is written than there is, and the tries are counted down.
-use Rattle.std.proofs.Common.{◌≤◌, length}
+-- `streams::moves::write_all`: where there is nothing to write, the first turn ends it.
+use Rattle.std.proofs.Common.{◌≡◌, length}
 use Rattle.streams.proofs.moves.write_all.Given as goal
 
-abbrev pub invariant-loop-done : goal.invariant-loop-done
-invariant-loop-done l = l.done ≤ length l.text
-
-abbrev pub decreases-loop-done : goal.decreases-loop-done
-decreases-loop-done l = l.tries
+abbrev pub invariant-loop : goal.invariant-loop
+invariant-loop l = length l.text ≡ 0 → (l.counter ≡ 0) × (length l.rest ≡ 0)

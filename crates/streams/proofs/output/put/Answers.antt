@@ -1,9 +1,10 @@
 -- `streams::output::put` meets its contract: the text is too long for the buffer, or for what is left of it, or fits. Assumes nothing.
 use Rattle.std.proofs.Common.{◌≡◌, ℕ, ◌+◌, ◌<◌, ◌≤◌, List, [], ◌∷◌, ◌++◌, length, take, sym, ap, ◌∙◌, append_assoc, arith, length-append, length-take}
 use Rattle.std.proofs.Common.{length-take-le, take_at, rules, le-leb}
+use Rattle.std.proofs.lemmas.List.{take_min}
 use borrow.Author.Tests.{lt-leb}
 use Rattle.streams.specs.declared.output.Waiting.{Waiting}
-use Rattle.streams.specs.OutputLaws.{take_min, onward_then, same_lines}
+use Rattle.streams.specs.OutputLaws.{onward_then, same_lines}
 use Rattle.streams.specs.Output.{added, added_all, after, total, with_bytes, Onward, Put}
 use Rattle.std.proofs.Common.{rules}
 use Rattle.streams.proofs.output.put.Goals as goal
@@ -68,7 +69,7 @@ returns-then-text-out c =
 pub returns-then-held-out : goal.returns-then-held-out
 returns-then-held-out c =
     let a = c.args in
-    let held = length-take a.waiting.bytes a.out.now ∙ sym c.least-held.ensures in
+    let held = length-take a.waiting.bytes a.out.now ∙ sym c.min-held.ensures in
     let f = c.flush-flushed.ensures in
     let k = c.copy in
     let is = c.with_bytes.ensures in
@@ -83,7 +84,7 @@ returns-then-held-out c =
 pub returns : goal.returns
 returns c =
     let a = c.args in
-    let l = c.least-held in
+    let l = c.min-held in
     let k = c.copy-2 in
     let w = a.waiting.bytes in
     let held = length-take w a.out.now ∙ sym l.ensures in

@@ -15,6 +15,6 @@ returns c =
     let good = not-false _ c.if-not-waiting.false in
     record {
       bytes = refl;
-      none = λ h. c.write_all.ensures h ∙ sym good;
+      none = λ h. c.is_ok.ensures.value ∙ c.write_all.ensures h ∙ sym good;
       onward = record { refused = refl; unknown = refl; lost = λ h. absurd (true≢false (sym good ∙ h)) };
     }

@@ -1,29 +1,35 @@
 -- `text::cursor::floats` meets its contract. Assumes nothing.
-use mathlib.Core.Path.{◌≡◌, refl, ap, ◌∙◌}
-use native.Mathlib.Numerals.{add-one}
-use native.Mathlib.Omega.{arith}
-use lib.Ieee.{nan}
-use Rattle.lists.specs.Tab.{tab, tab-step}
-use Rattle.text.specs.declared.cursor.FloatRead.{FloatRead}
+use Rattle.std.proofs.Common.{◌≡◌, List, ◌++◌, take, drop, refl, ap, ◌∙◌, add-one, arith, length-take-le, Float}
+use Rattle.std.specs.Float.{nan}
+use Rattle.lists.specs.Tab.{tab, tab-step, tab-full}
 use Rattle.text.specs.Cursor.{float_from, past_floats, float_at}
-use Rattle.std.proofs.Common.{rules}
 use Rattle.text.proofs.cursor.floats.Goals as goal
 
-pub loop-i-init : goal.loop-i-init
+pub loop-x-init : goal.loop-x-init
 unfolding past_floats tab
-loop-i-init c = (search rules, refl, refl, refl)
+loop-x-init c = (refl, refl)
 
-pub loop-i-preserved : goal.loop-i-preserved
+pub loop-x-preserved : goal.loop-x-preserved
 unfolding past_floats
-loop-i-preserved c =
+loop-x-preserved c =
     let line = c.args.line.now in
     let from = c.args.c in
-    let inv = c.loop-i.invariant in
-    let i = c.loop-i.i in
-    let read : c.float-r.result ≡ float_from line (past_floats line from i) = c.float-r.ensures ∙ ap (float_from line) inv.2 in (
-      search rules,
-      search rules,
-      ap (λ (r : FloatRead). r.next) read ∙ rw add-one,
-      tab-step (float_at line from) c.args.row.now c.loop-i.row i
-          c.float-r.result.value nan inv.3 (ap (λ (r : FloatRead). r.value) read) (omega arith),
+    let l = c.loop-x in
+    let read : c.float-r.result ≡ float_from line (past_floats line from l.x-index) = c.float-r.ensures ∙ ap (float_from line) l.invariant.0 in (
+      (λ i. (read i).next) ∙ rw add-one,
+      tab-step (float_at line from) (take c.args.n c.args.row.now) l.x-items l.x-index c.float-r.result.value nan l.invariant.1
+          (λ i. (read i).value) c.loop-x-test.true,
     )
+
+pub returns : goal.returns
+returns c =
+    let line = c.args.line.now in
+    let from = c.args.c in
+    let row = c.args.row.now in
+    let l = c.loop-x in
+    let n = length-take-le c.args.n row c.requires in
+    let all : l.x-index ≡ c.args.n = omega (arith, n, l.auto.x-index-end, c.loop-x-test.false) in record {
+      value = l.invariant.0 ∙ ap (past_floats line from) all;
+      row_after = ap (λ (xs : List Float). xs ++ drop c.args.n row)
+          (tab-full (float_at line from) (take c.args.n row) l.x-items l.x-index c.args.n l.invariant.1 n (omega (arith, all)) (omega (arith, all)));
+    }

@@ -1,63 +1,31 @@
--- `text::numbers::digit` meets its contract, by the ranges that led to each answer. Assumes nothing.
-use Prim.Native.Nat.{ℕ, ◌≤◌, ◌<◌}
-use mathlib.Core.Path.{◌≡◌}
-use mathlib.Core.Bool.{true, false}
-use native.Mathlib.Omega.{arith}
-use borrow.Author.Tests.{le-leb, lt-leb}
-use Rattle.text.specs.Words.{between}
+-- `text::numbers::digit` meets its contract: std's digits below 16 are these. Assumes nothing.
+use Rattle.std.proofs.Common.{◌≡◌, ℕ, ◌<◌, ◌≤◌, ap, sym, ◌∙◌, arith}
+use Rattle.std.proofs.lemmas.Bool.Decides.{nat_tests}
+use Rattle.std.specs.Char.{digit_value}
 use Rattle.text.specs.Numbers.{digit_of}
 use Rattle.text.proofs.numbers.digit.Goals as goal
 
-module _ (low high b : ℕ) where
-  inside : low ≤ b → b ≤ high → between low high b ≡ true
-  inside h k = simp (le-leb low b h, le-leb b high k)
-
-  below : b < low → between low high b ≡ false
-  below h = simp (lt-leb low b h)
-
-  above : low ≤ high → high < b → between low high b ≡ false
-  above o h = simp (le-leb low b (omega arith), lt-leb b high h)
-
--- `0` to `9`
-pub returns-in-48-to-57 : goal.returns-in-48-to-57
+same : (b : ℕ) → digit_value b < 16 → digit_of b ≡ digit_value b
 unfolding digit_of
-returns-in-48-to-57 c = let b = c.args.b in simp (inside 48 57 b (omega arith) (omega arith))
+same b h = grind (arith, nat_tests)
 
--- `A` to `F`
-pub returns-in-65-to-70 : goal.returns-in-65-to-70
+none : (b : ℕ) → 16 ≤ digit_value b → digit_of b ≡ 16
 unfolding digit_of
-returns-in-65-to-70 c =
+none b h = grind (arith, nat_tests)
+
+pub returns-in_err-d : goal.returns-in_err-d
+returns-in_err-d c =
     let b = c.args.b in
-    simp (above 48 57 b (omega arith) (omega arith), below 97 102 b (omega arith), inside 65 70 b (omega arith) (omega arith))
+    let is = c.from.ensures in
+    let over : 16 ≤ digit_value b = omega (arith, rw is at c.in_err-d.ensures.value) in
+    let e = none b over in
+    rw c.from_residual.ensures (λ h. omega (arith, h, e))
 
--- `a` to `f`
-pub returns-in-97-to-102 : goal.returns-in-97-to-102
-unfolding digit_of
-returns-in-97-to-102 c =
+pub returns : goal.returns
+returns c =
     let b = c.args.b in
-    simp (above 48 57 b (omega arith) (omega arith), inside 97 102 b (omega arith) (omega arith))
-
--- the gaps, and what lies outside
-pub returns-in_default : goal.returns-in_default
-unfolding digit_of
-returns-in_default c =
-    let b = c.args.b in
-    simp (below 48 57 b (omega arith), below 97 102 b (omega arith), below 65 70 b (omega arith))
-
-pub returns-in_default-2 : goal.returns-in_default-2
-unfolding digit_of
-returns-in_default-2 c =
-    let b = c.args.b in
-    simp (above 48 57 b (omega arith) (omega arith), below 97 102 b (omega arith), below 65 70 b (omega arith))
-
-pub returns-in_default-3 : goal.returns-in_default-3
-unfolding digit_of
-returns-in_default-3 c =
-    let b = c.args.b in
-    simp (above 48 57 b (omega arith) (omega arith), below 97 102 b (omega arith), above 65 70 b (omega arith) (omega arith))
-
-pub returns-in_default-4 : goal.returns-in_default-4
-unfolding digit_of
-returns-in_default-4 c =
-    let b = c.args.b in
-    simp (above 48 57 b (omega arith) (omega arith), above 97 102 b (omega arith) (omega arith), above 65 70 b (omega arith) (omega arith))
+    let is = c.from.ensures in
+    let d = c.in_ok-d.ensures.value in
+    let small = rw is at d.0 in
+    let e = same b small in
+    (omega (arith, e, small), c.from-2.ensures ∙ d.1 ∙ ap digit_value is ∙ sym e)
