@@ -1,5 +1,5 @@
 -- A request with every count, number and setting at its limit, and the same with one count further. Definitions only.
-use Rattle.std.specs.Prelude.{ℕ, true, List, [], ◌∷◌, ◌++◌, replicate, Float}
+use Rattle.std.specs.Prelude.{ℕ, true, List, [], ◌∷◌, ◌++◌, replicate, Float, Some}
 use Rattle.std.specs.Float.{inf, binary64}
 use Rattle.std.specs.Float.Ieee.{neg, of_bits}
 use Rattle.floats.specs.Constants.{zero64, one64}
@@ -12,8 +12,6 @@ use Rattle.merit.specs.declared.types.MeritOperand.{MeritOperand}
 use Rattle.merit.specs.declared.types.OperandType.TheVariants.{EffectiveFocalLength, WorkingFNumber, TotalTrack, BackFocalLength, ParaxialMagnification}
 use Rattle.merit.specs.declared.types.OperandType.TheVariants.{MinCenterThickness, MaxCenterThickness, MinEdgeThickness}
 use Rattle.jobs.specs.Sample.{operand}
-use Rattle.jobs.specs.declared.types.CountSetting.TheVariants.{Is as Count}
-use Rattle.jobs.specs.declared.types.NumberSetting.TheVariants.{Is as Number}
 use Rattle.jobs.specs.declared.types.DlsRequest.{DlsRequest}
 use Rattle.jobs.specs.declared.types.JobRequest.{JobRequest}
 use Rattle.jobs.specs.declared.types.MethodRequest.{MethodRequest}
@@ -60,26 +58,26 @@ operands =
 
 abbrev iterated : DlsRequest
 iterated = record {
-  max_iterations = Count 1000;
-  initial_damping = Number hundred_million;
-  relative_merit_tolerance = Number greatest;
-  gradient_tolerance = Number (neg greatest);
-  finite_difference_relative_step = Number one64;
+  max_iterations = Some 1000;
+  initial_damping = Some hundred_million;
+  relative_merit_tolerance = Some greatest;
+  gradient_tolerance = Some (neg greatest);
+  finite_difference_relative_step = Some one64;
 }
 
 abbrev pub damped : MethodRequest
 damped = Damped iterated
 
 abbrev pub multi_start : MethodRequest
-multi_start = MultiStart (record { local_dls_config = iterated; num_trials = Count 1000; seed = Count 0 })
+multi_start = MultiStart (record { local_dls_config = iterated; num_trials = Some 1000; seed = Some 0 })
 
 abbrev pub annealing : MethodRequest
 annealing = Annealing (record {
-  initial_temperature = Number greatest;
-  cooling_rate = Number one64;
-  steps_per_temperature = Count 1000;
-  max_cooling_cycles = Count 1000;
-  seed = Count 0;
+  initial_temperature = Some greatest;
+  cooling_rate = Some one64;
+  steps_per_temperature = Some 1000;
+  max_cooling_cycles = Some 1000;
+  seed = Some 0;
 })
 
 abbrev pub at_limits : (surface_count slots variable_count operand_count : ℕ) → MethodRequest → JobRequest

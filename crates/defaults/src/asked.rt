@@ -1,15 +1,17 @@
 // What a request comes to.
 ghost use Rattle.std.specs.Prelude.{◌≡◌};
 ghost use Rattle.lists.specs.Refusals.{first_refusal};
+ghost use Rattle.refusals.specs.Numbers.{answered};
 ghost use Rattle.jobs.specs.Checks.{admission_refusals};
 ghost use Rattle.jobs.specs.Kept.{job_from};
 
 use crate::filled;
 use jobs::{Job, JobRequest};
+use refusals::Refusal;
 
-// The number by which a request is refused on admission to an empty place.
-pub fn refusal_of(request: JobRequest) -> u32
-    ensures { result ≡ first_refusal (admission_refusals request) }
+// Why a request is refused on admission to an empty place.
+pub fn refusal_of(request: JobRequest) -> Result<(), Refusal>
+    ensures { answered result ≡ first_refusal (admission_refusals request) }
 {
     jobs::job_refusal(filled::filled_job(request))
 }

@@ -1,11 +1,11 @@
 // Settings that a request leaves out are filled in with the defaults of dls.rs and global.rs, but for a damped job's damping.
 ghost use Rattle.std.specs.Prelude.{◌≡◌};
 ghost use Rattle.jobs.specs.Defaults.{damped_defaults, local_defaults, polish_settings, multi_start_defaults, annealing_defaults};
-ghost use Rattle.jobs.specs.Filled.{count_or, number_or, dls_of, multi_start_of, annealing_of, method_of, filled};
+ghost use Rattle.jobs.specs.Filled.{dls_of, multi_start_of, annealing_of, method_of, filled};
 
 use jobs::{
-    CountSetting, DlsConfig, DlsRequest, Job, JobRequest, Method, MethodRequest, MultiStartConfig,
-    MultiStartRequest, NumberSetting, SimulatedAnnealingConfig, SimulatedAnnealingRequest,
+    DlsConfig, DlsRequest, Job, JobRequest, Method, MethodRequest, MultiStartConfig,
+    MultiStartRequest, SimulatedAnnealingConfig, SimulatedAnnealingRequest,
 };
 
 // Of a damped job.
@@ -50,9 +50,8 @@ pub fn polish_settings() -> DlsConfig
 fn multi_start_defaults() -> MultiStartConfig
     ensures { result ≡ multi_start_defaults }
 {
-    let runs = local_defaults();
     MultiStartConfig {
-        local_dls_config: runs,
+        local_dls_config: local_defaults(),
         num_trials: 10,
         seed: 42,
     }
@@ -70,56 +69,29 @@ fn annealing_defaults() -> SimulatedAnnealingConfig
     }
 }
 
-fn count_or(default: u64, setting: CountSetting) -> u64
-    ensures { result ≡ count_or default setting }
-{
-    match setting {
-        CountSetting::Default => default,
-        CountSetting::Is(n) => n,
-    }
-}
-
-fn number_or(default: f64, setting: NumberSetting) -> f64
-    ensures { result ≡ number_or default setting }
-{
-    match setting {
-        NumberSetting::Default => default,
-        NumberSetting::Is(x) => x,
-    }
-}
-
 fn dls_of(d: DlsConfig, request: DlsRequest) -> DlsConfig
     ensures { result ≡ dls_of d request }
 {
-    let iterations = request.max_iterations;
-    let damping = request.initial_damping;
-    let merit_tolerance = request.relative_merit_tolerance;
-    let gradient_tolerance = request.gradient_tolerance;
-    let relative_step = request.finite_difference_relative_step;
     DlsConfig {
-        max_iterations: count_or(d.max_iterations, iterations),
-        initial_damping: number_or(d.initial_damping, damping),
-        relative_merit_tolerance: number_or(d.relative_merit_tolerance, merit_tolerance),
-        gradient_tolerance: number_or(d.gradient_tolerance, gradient_tolerance),
-        finite_difference_relative_step: number_or(
-            d.finite_difference_relative_step,
-            relative_step,
-        ),
+        max_iterations: request.max_iterations.unwrap_or(d.max_iterations),
+        initial_damping: request.initial_damping.unwrap_or(d.initial_damping),
+        relative_merit_tolerance: request
+            .relative_merit_tolerance
+            .unwrap_or(d.relative_merit_tolerance),
+        gradient_tolerance: request.gradient_tolerance.unwrap_or(d.gradient_tolerance),
+        finite_difference_relative_step: request
+            .finite_difference_relative_step
+            .unwrap_or(d.finite_difference_relative_step),
     }
 }
 
 fn multi_start_of(d: MultiStartConfig, request: MultiStartRequest) -> MultiStartConfig
     ensures { result ≡ multi_start_of d request }
 {
-    let local = d.local_dls_config;
-    let asked = request.local_dls_config;
-    let trials = request.num_trials;
-    let seed = request.seed;
-    let runs = dls_of(local, asked);
     MultiStartConfig {
-        local_dls_config: runs,
-        num_trials: count_or(d.num_trials, trials),
-        seed: count_or(d.seed, seed),
+        local_dls_config: dls_of(d.local_dls_config, request.local_dls_config),
+        num_trials: request.num_trials.unwrap_or(d.num_trials),
+        seed: request.seed.unwrap_or(d.seed),
     }
 }
 
@@ -129,17 +101,14 @@ fn annealing_of(
 ) -> SimulatedAnnealingConfig
     ensures { result ≡ annealing_of d request }
 {
-    let temperature = request.initial_temperature;
-    let cooling = request.cooling_rate;
-    let steps = request.steps_per_temperature;
-    let cycles = request.max_cooling_cycles;
-    let seed = request.seed;
     SimulatedAnnealingConfig {
-        initial_temperature: number_or(d.initial_temperature, temperature),
-        cooling_rate: number_or(d.cooling_rate, cooling),
-        steps_per_temperature: count_or(d.steps_per_temperature, steps),
-        max_cooling_cycles: count_or(d.max_cooling_cycles, cycles),
-        seed: count_or(d.seed, seed),
+        initial_temperature: request.initial_temperature.unwrap_or(d.initial_temperature),
+        cooling_rate: request.cooling_rate.unwrap_or(d.cooling_rate),
+        steps_per_temperature: request
+            .steps_per_temperature
+            .unwrap_or(d.steps_per_temperature),
+        max_cooling_cycles: request.max_cooling_cycles.unwrap_or(d.max_cooling_cycles),
+        seed: request.seed.unwrap_or(d.seed),
     }
 }
 
@@ -163,15 +132,10 @@ fn method_of(request: MethodRequest) -> Method
 pub(crate) fn filled_job(request: JobRequest) -> Job
     ensures { result ≡ filled request }
 {
-    let prescription = request.prescription;
-    let variables = request.variables;
-    let merit_function = request.merit_function;
-    let asked = request.method;
-    let method = method_of(asked);
     Job {
-        prescription,
-        variables,
-        merit_function,
-        method,
+        prescription: request.prescription,
+        variables: request.variables,
+        merit_function: request.merit_function,
+        method: method_of(request.method),
     }
 }

@@ -1,4 +1,4 @@
-// Requests: what they leave out is filled in; the job that they make, and the number that they are refused with.
+// Requests: what they leave out is filled in; the job that they make, and why they are refused.
 // Stands on `jobs`, which has the definitions; called by admission (`rows`) and, for the polish's settings, by `turns`.
 #![tactic(auto)]
 

@@ -1,7 +1,5 @@
 -- The settings of the three kinds of run. Definitions only.
-use Rattle.std.specs.Prelude.{ℕ, cond, List, [], ◌∷◌, eqb}
-use Rattle.jobs.specs.declared.types.CountSetting as count-setting
-use Rattle.jobs.specs.declared.types.NumberSetting as number-setting
+use Rattle.std.specs.Prelude.{ℕ, cond, List, [], ◌∷◌, eqb, None, Some}
 use Rattle.jobs.specs.declared.types.MethodRequest.TheVariants.{Damped, MultiStart, Annealing}
 use Rattle.text.specs.declared.cursor.Cursor.{Cursor}
 use Rattle.text.specs.declared.cursor.Why.TheVariants.{Kind}
@@ -20,15 +18,15 @@ unfoldable pub count_from : (base : ℕ) → List ℕ → Cursor → CountRead
 count_from base line c =
     let d = left_out line c in
     let x = number_from base line c in
-    cond d.is_good (record { setting = count-setting.TheVariants.Default; next = d })
-    (record { setting = count-setting.TheVariants.Is x.value; next = x.next })
+    cond d.is_good (record { setting = None; next = d })
+    (record { setting = Some x.value; next = x.next })
 
 unfoldable pub float_setting_from : List ℕ → Cursor → NumberSettingRead
 float_setting_from line c =
     let d = left_out line c in
     let x = float_from line c in
-    cond d.is_good (record { setting = number-setting.TheVariants.Default; next = d })
-    (record { setting = number-setting.TheVariants.Is x.value; next = x.next })
+    cond d.is_good (record { setting = None; next = d })
+    (record { setting = Some x.value; next = x.next })
 
 -- limit damping merit_tolerance gradient_tolerance relative_step
 unfoldable pub damped_from : List ℕ → Cursor → DlsRead

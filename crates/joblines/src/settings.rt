@@ -2,22 +2,19 @@
 ghost use Rattle.std.specs.Prelude.{◌≡◌};
 ghost use Rattle.joblines.specs.Settings.{count_from, float_setting_from, damped_from, damped_method_from, multi_start_from, annealing_from, method_from};
 
-use jobs::{
-    CountSetting, DlsRequest, MethodRequest, MultiStartRequest, NumberSetting,
-    SimulatedAnnealingRequest,
-};
+use jobs::{DlsRequest, MethodRequest, MultiStartRequest, SimulatedAnnealingRequest};
 use text::cursor;
 use text::cursor::{Cursor, Why};
 
 #[derive(Clone, Copy)]
 struct CountRead {
-    pub setting: CountSetting,
+    pub setting: Option<u64>,
     pub next: Cursor,
 }
 
 #[derive(Clone, Copy)]
 struct NumberSettingRead {
-    pub setting: NumberSetting,
+    pub setting: Option<f64>,
     pub next: Cursor,
 }
 
@@ -28,14 +25,14 @@ fn read_count(line: &[u8], c: Cursor) -> CountRead
     let left_out = cursor::tag(line, c, b"d");
     if left_out.is_good {
         return CountRead {
-            setting: CountSetting::Default,
+            setting: None,
             next: left_out,
         };
     }
     let r = cursor::decimal(line, c);
     let next = r.next;
     CountRead {
-        setting: CountSetting::Is(r.value),
+        setting: Some(r.value),
         next: next,
     }
 }
@@ -46,14 +43,14 @@ fn read_seed(line: &[u8], c: Cursor) -> CountRead
     let left_out = cursor::tag(line, c, b"d");
     if left_out.is_good {
         return CountRead {
-            setting: CountSetting::Default,
+            setting: None,
             next: left_out,
         };
     }
     let r = cursor::hex(line, c);
     let next = r.next;
     CountRead {
-        setting: CountSetting::Is(r.value),
+        setting: Some(r.value),
         next: next,
     }
 }
@@ -64,14 +61,14 @@ fn read_number(line: &[u8], c: Cursor) -> NumberSettingRead
     let left_out = cursor::tag(line, c, b"d");
     if left_out.is_good {
         return NumberSettingRead {
-            setting: NumberSetting::Default,
+            setting: None,
             next: left_out,
         };
     }
     let r = cursor::float(line, c);
     let next = r.next;
     NumberSettingRead {
-        setting: NumberSetting::Is(r.value),
+        setting: Some(r.value),
         next: next,
     }
 }

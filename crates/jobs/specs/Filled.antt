@@ -1,9 +1,5 @@
 -- A job as it is asked for, with the settings that it leaves out filled in. Definitions only.
-use Rattle.std.specs.Prelude.{ℕ, Float}
-use Rattle.jobs.specs.declared.types.CountSetting.{CountSetting}
-use Rattle.jobs.specs.declared.types.CountSetting.TheVariants.{Default as NoCount, Is as Count}
-use Rattle.jobs.specs.declared.types.NumberSetting.{NumberSetting}
-use Rattle.jobs.specs.declared.types.NumberSetting.TheVariants.{Default as NoNumber, Is as Number}
+use Rattle.std.specs.Prelude.{unwrap_or}
 use Rattle.jobs.specs.declared.types.DlsConfig.{DlsConfig}
 use Rattle.jobs.specs.declared.types.DlsRequest.{DlsRequest}
 use Rattle.jobs.specs.declared.types.Job.{Job}
@@ -18,38 +14,30 @@ use Rattle.jobs.specs.declared.types.SimulatedAnnealingConfig.{SimulatedAnnealin
 use Rattle.jobs.specs.declared.types.SimulatedAnnealingRequest.{SimulatedAnnealingRequest}
 use Rattle.jobs.specs.Defaults.{damped_defaults, multi_start_defaults, annealing_defaults}
 
--- a setting, or the default where it is left out
-abbrev pub count_or : ℕ → CountSetting → ℕ
-count_or default NoCount = default
-count_or default (Count n) = n
-
-abbrev pub number_or : Float → NumberSetting → Float
-number_or default NoNumber = default
-number_or default (Number x) = x
-
+-- each setting, or the default where it is left out
 abbrev pub dls_of : (defaults : DlsConfig) → DlsRequest → DlsConfig
 dls_of d r = record {
-  max_iterations = count_or d.max_iterations r.max_iterations;
-  initial_damping = number_or d.initial_damping r.initial_damping;
-  relative_merit_tolerance = number_or d.relative_merit_tolerance r.relative_merit_tolerance;
-  gradient_tolerance = number_or d.gradient_tolerance r.gradient_tolerance;
-  finite_difference_relative_step = number_or d.finite_difference_relative_step r.finite_difference_relative_step;
+  max_iterations = unwrap_or r.max_iterations d.max_iterations;
+  initial_damping = unwrap_or r.initial_damping d.initial_damping;
+  relative_merit_tolerance = unwrap_or r.relative_merit_tolerance d.relative_merit_tolerance;
+  gradient_tolerance = unwrap_or r.gradient_tolerance d.gradient_tolerance;
+  finite_difference_relative_step = unwrap_or r.finite_difference_relative_step d.finite_difference_relative_step;
 }
 
 abbrev pub multi_start_of : (defaults : MultiStartConfig) → MultiStartRequest → MultiStartConfig
 multi_start_of d r = record {
   local_dls_config = dls_of d.local_dls_config r.local_dls_config;
-  num_trials = count_or d.num_trials r.num_trials;
-  seed = count_or d.seed r.seed;
+  num_trials = unwrap_or r.num_trials d.num_trials;
+  seed = unwrap_or r.seed d.seed;
 }
 
 abbrev pub annealing_of : (defaults : SimulatedAnnealingConfig) → SimulatedAnnealingRequest → SimulatedAnnealingConfig
 annealing_of d r = record {
-  initial_temperature = number_or d.initial_temperature r.initial_temperature;
-  cooling_rate = number_or d.cooling_rate r.cooling_rate;
-  steps_per_temperature = count_or d.steps_per_temperature r.steps_per_temperature;
-  max_cooling_cycles = count_or d.max_cooling_cycles r.max_cooling_cycles;
-  seed = count_or d.seed r.seed;
+  initial_temperature = unwrap_or r.initial_temperature d.initial_temperature;
+  cooling_rate = unwrap_or r.cooling_rate d.cooling_rate;
+  steps_per_temperature = unwrap_or r.steps_per_temperature d.steps_per_temperature;
+  max_cooling_cycles = unwrap_or r.max_cooling_cycles d.max_cooling_cycles;
+  seed = unwrap_or r.seed d.seed;
 }
 
 -- "A job is of one kind and gives that kind's settings alone"

@@ -1,6 +1,6 @@
 -- When two requests ask for the same job: "Jobs are the same when all their used entries are equal bit for bit", settings after defaults. The law that they
 -- then, and only then, make one job. Assumes nothing.
-use Rattle.std.specs.Prelude.{◌≡◌, ℕ, ◌<◌}
+use Rattle.std.specs.Prelude.{◌≡◌, ℕ, ◌<◌, unwrap_or}
 use Rattle.optics.specs.Types.{surface_at, slot_index}
 use Rattle.optics.specs.declared.types.OpticalPrescription.{OpticalPrescription}
 use Rattle.variables.specs.Active.{variable_at}
@@ -17,7 +17,6 @@ use Rattle.jobs.specs.declared.types.MultiStartRequest.{MultiStartRequest}
 use Rattle.jobs.specs.declared.types.SimulatedAnnealingConfig.{SimulatedAnnealingConfig}
 use Rattle.jobs.specs.declared.types.SimulatedAnnealingRequest.{SimulatedAnnealingRequest}
 use Rattle.jobs.specs.Defaults.{damped_defaults, multi_start_defaults, annealing_defaults}
-use Rattle.jobs.specs.Filled.{count_or, number_or}
 
 pub record SamePrescription (a b : OpticalPrescription) : Type 0 where
   pub surface_count : a.surface_count ≡ b.surface_count
@@ -36,26 +35,26 @@ pub record SameOperands (a b : MeritFunction) : Type 0 where
 
 -- each setting after its default d
 pub record SameDls (d : DlsConfig) (a b : DlsRequest) : Type 0 where
-  pub iterations : count_or d.max_iterations a.max_iterations ≡ count_or d.max_iterations b.max_iterations
-  pub damping : number_or d.initial_damping a.initial_damping ≡ number_or d.initial_damping b.initial_damping
-  pub merit_tolerance : number_or d.relative_merit_tolerance a.relative_merit_tolerance
-      ≡ number_or d.relative_merit_tolerance b.relative_merit_tolerance
-  pub gradient_tolerance : number_or d.gradient_tolerance a.gradient_tolerance ≡ number_or d.gradient_tolerance b.gradient_tolerance
+  pub iterations : unwrap_or a.max_iterations d.max_iterations ≡ unwrap_or b.max_iterations d.max_iterations
+  pub damping : unwrap_or a.initial_damping d.initial_damping ≡ unwrap_or b.initial_damping d.initial_damping
+  pub merit_tolerance : unwrap_or a.relative_merit_tolerance d.relative_merit_tolerance
+      ≡ unwrap_or b.relative_merit_tolerance d.relative_merit_tolerance
+  pub gradient_tolerance : unwrap_or a.gradient_tolerance d.gradient_tolerance ≡ unwrap_or b.gradient_tolerance d.gradient_tolerance
   pub relative_step :
-      number_or d.finite_difference_relative_step a.finite_difference_relative_step
-      ≡ number_or d.finite_difference_relative_step b.finite_difference_relative_step
+      unwrap_or a.finite_difference_relative_step d.finite_difference_relative_step
+      ≡ unwrap_or b.finite_difference_relative_step d.finite_difference_relative_step
 
 pub record SameMultiStart (d : MultiStartConfig) (a b : MultiStartRequest) : Type 0 where
   pub runs : SameDls d.local_dls_config a.local_dls_config b.local_dls_config
-  pub trials : count_or d.num_trials a.num_trials ≡ count_or d.num_trials b.num_trials
-  pub seed : count_or d.seed a.seed ≡ count_or d.seed b.seed
+  pub trials : unwrap_or a.num_trials d.num_trials ≡ unwrap_or b.num_trials d.num_trials
+  pub seed : unwrap_or a.seed d.seed ≡ unwrap_or b.seed d.seed
 
 pub record SameAnnealing (d : SimulatedAnnealingConfig) (a b : SimulatedAnnealingRequest) : Type 0 where
-  pub temperature : number_or d.initial_temperature a.initial_temperature ≡ number_or d.initial_temperature b.initial_temperature
-  pub cooling : number_or d.cooling_rate a.cooling_rate ≡ number_or d.cooling_rate b.cooling_rate
-  pub steps : count_or d.steps_per_temperature a.steps_per_temperature ≡ count_or d.steps_per_temperature b.steps_per_temperature
-  pub cycles : count_or d.max_cooling_cycles a.max_cooling_cycles ≡ count_or d.max_cooling_cycles b.max_cooling_cycles
-  pub seed : count_or d.seed a.seed ≡ count_or d.seed b.seed
+  pub temperature : unwrap_or a.initial_temperature d.initial_temperature ≡ unwrap_or b.initial_temperature d.initial_temperature
+  pub cooling : unwrap_or a.cooling_rate d.cooling_rate ≡ unwrap_or b.cooling_rate d.cooling_rate
+  pub steps : unwrap_or a.steps_per_temperature d.steps_per_temperature ≡ unwrap_or b.steps_per_temperature d.steps_per_temperature
+  pub cycles : unwrap_or a.max_cooling_cycles d.max_cooling_cycles ≡ unwrap_or b.max_cooling_cycles d.max_cooling_cycles
+  pub seed : unwrap_or a.seed d.seed ≡ unwrap_or b.seed d.seed
 
 -- of one kind, with that kind's settings
 abbrev pub SameMethod : MethodRequest → MethodRequest → Type 0

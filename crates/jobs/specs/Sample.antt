@@ -1,5 +1,6 @@
 -- The lens of 01's known values, and a request over it for each kind of run. Definitions only.
 use Rattle.std.specs.Prelude.{true, false, List, ◌∷◌, Float}
+use Rattle.std.specs.declared.option.Option.TheVariants as Option
 use Rattle.std.specs.Float.{inf, binary64}
 use Rattle.std.specs.Float.Ieee.{of_bits}
 use Rattle.floats.specs.Constants.{zero64}
@@ -13,8 +14,6 @@ use Rattle.merit.specs.declared.types.MeritFunction.{MeritFunction}
 use Rattle.merit.specs.declared.types.MeritOperand.{MeritOperand}
 use Rattle.merit.specs.declared.types.OperandType.{OperandType}
 use Rattle.merit.specs.declared.types.OperandType.TheVariants.{EffectiveFocalLength}
-use Rattle.jobs.specs.declared.types.CountSetting.TheVariants.{Default as NoCount}
-use Rattle.jobs.specs.declared.types.NumberSetting.TheVariants.{Default as NoNumber}
 use Rattle.jobs.specs.declared.types.DlsRequest.{DlsRequest}
 use Rattle.jobs.specs.declared.types.JobRequest.{JobRequest}
 use Rattle.jobs.specs.declared.types.MethodRequest.{MethodRequest}
@@ -86,24 +85,24 @@ module _ (u : Unused) where
 -- each kind, its settings left out
 abbrev pub no_settings : DlsRequest
 no_settings = record {
-  max_iterations = NoCount;
-  initial_damping = NoNumber;
-  relative_merit_tolerance = NoNumber;
-  gradient_tolerance = NoNumber;
-  finite_difference_relative_step = NoNumber;
+  max_iterations = Option.None;
+  initial_damping = Option.None;
+  relative_merit_tolerance = Option.None;
+  gradient_tolerance = Option.None;
+  finite_difference_relative_step = Option.None;
 }
 
 abbrev pub damped : MethodRequest
 damped = Damped no_settings
 
 abbrev pub multi_start : MethodRequest
-multi_start = MultiStart (record { local_dls_config = no_settings; num_trials = NoCount; seed = NoCount })
+multi_start = MultiStart (record { local_dls_config = no_settings; num_trials = Option.None; seed = Option.None })
 
 abbrev pub annealing : MethodRequest
 annealing = Annealing (record {
-  initial_temperature = NoNumber;
-  cooling_rate = NoNumber;
-  steps_per_temperature = NoCount;
-  max_cooling_cycles = NoCount;
-  seed = NoCount;
+  initial_temperature = Option.None;
+  cooling_rate = Option.None;
+  steps_per_temperature = Option.None;
+  max_cooling_cycles = Option.None;
+  seed = Option.None;
 })

@@ -16,7 +16,7 @@ pub use entries::{
 pub use jobrecords::{job_of, known_kinds, record_of};
 pub use kept::kept_job;
 pub use types::{
-    CountSetting, DlsConfig, DlsRequest, Job, JobRecord, JobRequest, Method, MethodRequest,
-    MultiStartConfig, MultiStartRequest, NumberSetting, OperandRecord, SettingsRecord,
-    SimulatedAnnealingConfig, SimulatedAnnealingRequest, VariableRecord,
+    DlsConfig, DlsRequest, Job, JobRecord, JobRequest, Method, MethodRequest, MultiStartConfig,
+    MultiStartRequest, OperandRecord, SettingsRecord, SimulatedAnnealingConfig,
+    SimulatedAnnealingRequest, VariableRecord,
 };

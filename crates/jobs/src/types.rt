@@ -3,42 +3,30 @@ use merit::MeritFunction;
 use optics::{OpticalPrescription, OpticalSurface};
 use variables::VariableSet;
 
-// A setting that may be left out: then the default of the Rust's config is kept in its place.
-#[derive(Clone, Copy)]
-pub enum CountSetting {
-    Default,
-    Is(u64),
-}
-
-#[derive(Clone, Copy)]
-pub enum NumberSetting {
-    Default,
-    Is(f64),
-}
-
+// Of a setting that is left out the default of the Rust's config is kept in its place.
 #[derive(Clone, Copy)]
 pub struct DlsRequest {
-    pub max_iterations: CountSetting,
-    pub initial_damping: NumberSetting,
-    pub relative_merit_tolerance: NumberSetting,
-    pub gradient_tolerance: NumberSetting,
-    pub finite_difference_relative_step: NumberSetting,
+    pub max_iterations: Option<u64>,
+    pub initial_damping: Option<f64>,
+    pub relative_merit_tolerance: Option<f64>,
+    pub gradient_tolerance: Option<f64>,
+    pub finite_difference_relative_step: Option<f64>,
 }
 
 #[derive(Clone, Copy)]
 pub struct MultiStartRequest {
     pub local_dls_config: DlsRequest,
-    pub num_trials: CountSetting,
-    pub seed: CountSetting,
+    pub num_trials: Option<u64>,
+    pub seed: Option<u64>,
 }
 
 #[derive(Clone, Copy)]
 pub struct SimulatedAnnealingRequest {
-    pub initial_temperature: NumberSetting,
-    pub cooling_rate: NumberSetting,
-    pub steps_per_temperature: CountSetting,
-    pub max_cooling_cycles: CountSetting,
-    pub seed: CountSetting,
+    pub initial_temperature: Option<f64>,
+    pub cooling_rate: Option<f64>,
+    pub steps_per_temperature: Option<u64>,
+    pub max_cooling_cycles: Option<u64>,
+    pub seed: Option<u64>,
 }
 
 // "A job is of one kind and gives that kind's settings alone."

@@ -4,7 +4,7 @@ ghost use Rattle.normal.specs.Layout.{scratch_length, most_operands, most_variab
 
 use crate::pieces;
 use answers::put_unknown;
-use normal::{GRADIENT, PRODUCT, STEP, Solved, place, system_place};
+use normal::{GRADIENT, PRODUCT, STEP, place, system_place};
 use streams::console::Console;
 use streams::output;
 use streams::output::Waiting;
@@ -72,10 +72,9 @@ fn put_solved(
     requires { p ≤ most_variables }
 {
     let mut scratch = system;
-    let solved = normal::solve(&mut scratch, p);
-    let Solved::Yes = solved else {
+    if !normal::solve(&mut scratch, p) {
         return output::put(console, out, waiting, b" none\n");
-    };
+    }
     let waiting = put_part(console, out, waiting, &scratch, STEP, p);
     pieces::end_line(console, out, waiting)
 }

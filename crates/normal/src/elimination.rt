@@ -10,13 +10,6 @@ ghost use Rattle.normal.specs.Loops.{parts_exchanged, pivot_brought, part_subtra
 use crate::layout::{STEP, system_place};
 use floats::abs;
 
-// Whether there is a solution, which stands beside it.
-#[derive(Clone, Copy)]
-pub enum Solved {
-    Yes,
-    No,
-}
-
 // The row with the largest magnitude in column c, on or below the diagonal; the upper one on ties.
 fn pivot_row(scratch: &[f64], p: usize, c: usize) -> usize
     requires fact_1 { scratch_length ≤ length scratch.now }
@@ -26,14 +19,12 @@ fn pivot_row(scratch: &[f64], p: usize, c: usize) -> usize
 {
     let mut best = c;
     let mut most = abs(scratch[system_place(c, c)]);
-    let mut r = c + 1;
-    while r < p {
+    for r in c + 1..p {
         let size = abs(scratch[system_place(r, c)]);
         if size > most {
             best = r;
             most = size;
         }
-        r += 1;
     }
     best
 }
@@ -44,12 +35,10 @@ fn exchange(scratch: &mut [f64], a: usize, b: usize, n: usize)
     requires fact_2 { b + n ≤ length scratch.old }
     ensures { scratch.new ≡ parts_exchanged a b n scratch.old }
 {
-    let mut k: usize = 0;
-    while k < n {
+    for k in 0..n {
         let x = scratch[a + k];
         scratch[a + k] = scratch[b + k];
         scratch[b + k] = x;
-        k += 1;
     }
 }
 
@@ -76,10 +65,8 @@ fn subtract(scratch: &mut [f64], a: usize, b: usize, n: usize, factor: f64)
     requires fact_2 { b + n ≤ length scratch.old }
     ensures { scratch.new ≡ part_subtracted a b n factor scratch.old }
 {
-    let mut k: usize = 0;
-    while k < n {
+    for k in 0..n {
         scratch[b + k] = scratch[b + k] - factor * scratch[a + k];
-        k += 1;
     }
 }
 
@@ -108,29 +95,25 @@ fn reduce_below(scratch: &mut [f64], p: usize, c: usize, pivot: f64)
     requires fact_3 { p ≤ most_variables }
     ensures { scratch.new ≡ rows_reduced p c pivot (p - suc c) scratch.old }
 {
-    let mut r = c + 1;
-    while r < p {
+    for r in c + 1..p {
         reduce_row(scratch, p, c, r, pivot);
-        r += 1;
     }
 }
 
 // Column by column; a zero pivot means no solution.
-fn eliminate(scratch: &mut [f64], p: usize) -> Solved
+fn eliminate(scratch: &mut [f64], p: usize) -> bool
     requires fact_1 { scratch_length ≤ length scratch.old }
     requires fact_2 { p ≤ most_variables }
     ensures { Eliminated p scratch.old scratch.new result }
 {
-    let mut c: usize = 0;
-    while c < p {
+    for c in 0..p {
         let pivot = bring_pivot(scratch, p, c);
         if pivot == 0.0 {
-            return Solved::No;
+            return false;
         }
         reduce_below(scratch, p, c, pivot);
-        c += 1;
     }
-    Solved::Yes
+    true
 }
 
 // Unknown i, where those behind it are known.
@@ -141,10 +124,8 @@ fn unknown(scratch: &[f64], p: usize, i: usize) -> f64
     ensures { result ≡ unknown_in p scratch.now i }
 {
     let mut rest = scratch[system_place(i, p)];
-    let mut k = i + 1;
-    while k < p {
+    for k in i + 1..p {
         rest = rest - scratch[system_place(i, k)] * scratch[STEP + k];
-        k += 1;
     }
     rest / scratch[system_place(i, i)]
 }
@@ -155,24 +136,21 @@ fn solve_upward(scratch: &mut [f64], p: usize)
     requires fact_2 { p ≤ most_variables }
     ensures { scratch.new ≡ solved_upward p scratch.old }
 {
-    let mut i = p;
-    while i > 0 {
-        i -= 1;
+    for i in (0..p).rev() {
         scratch[STEP + i] = unknown(scratch, p, i);
     }
 }
 
-// Solves the system that stands in scratch. The solution stands there too, as the step.
+// Solves the system that stands in scratch, and answers whether it has a solution, which then stands there too, as the step.
 // dls.rs: `a_mat.lu()` and `lu.solve`
-pub fn solve(scratch: &mut [f64], p: usize) -> Solved
+pub fn solve(scratch: &mut [f64], p: usize) -> bool
     requires fact_1 { scratch_length ≤ length scratch.old }
     requires fact_2 { p ≤ most_variables }
     ensures { Solving p scratch.old scratch.new result }
 {
-    let eliminated = eliminate(scratch, p);
-    let Solved::Yes = eliminated else {
-        return Solved::No;
-    };
+    if !eliminate(scratch, p) {
+        return false;
+    }
     solve_upward(scratch, p);
-    Solved::Yes
+    true
 }

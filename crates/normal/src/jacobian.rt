@@ -66,9 +66,7 @@ pub fn jacobian_column<'a>(
     ensures { jacobian.new ≡ with_column jacobian.old q (column_of plus.now minus.now m between) }
 {
     let first = jacobian_place(0, q);
-    let mut i: usize = 0;
-    while i < m {
+    for i in 0..m {
         jacobian[first + i] = jacobian_entry(plus[i], minus[i], between);
-        i += 1;
     }
 }

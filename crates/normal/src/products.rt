@@ -19,10 +19,8 @@ fn column_product(jacobian: &[f64; 96], m: usize, i: usize, j: usize) -> f64
     let a = jacobian_place(0, i);
     let b = jacobian_place(0, j);
     let mut dot = 0.0;
-    let mut k: usize = 0;
-    while k < m {
+    for k in 0..m {
         dot = dot + jacobian[a + k] * jacobian[b + k];
-        k += 1;
     }
     dot
 }
@@ -35,10 +33,8 @@ fn column_gradient<'a>(jacobian: &'a [f64; 96], residuals: &'a [f64; 12], m: usi
 {
     let a = jacobian_place(0, i);
     let mut sum = 0.0;
-    let mut k: usize = 0;
-    while k < m {
+    for k in 0..m {
         sum = sum + jacobian[a + k] * residuals[k];
-        k += 1;
     }
     sum
 }
@@ -63,10 +59,8 @@ fn product_row(scratch: &mut [f64], jacobian: &[f64; 96], m: usize, i: usize)
     requires fact_3 { i < most_variables }
     ensures { scratch.new ≡ with_product_row m (jacobian_at jacobian.now) i (suc i) scratch.old }
 {
-    let mut j: usize = 0;
-    while j <= i {
+    for j in 0..i + 1 {
         write_product(scratch, jacobian, m, i, j);
-        j += 1;
     }
 }
 
@@ -76,10 +70,8 @@ fn product(scratch: &mut [f64], jacobian: &[f64; 96], m: usize, p: usize)
     requires fact_3 { p ≤ most_variables }
     ensures { scratch.new ≡ with_products m (jacobian_at jacobian.now) p scratch.old }
 {
-    let mut i: usize = 0;
-    while i < p {
+    for i in 0..p {
         product_row(scratch, jacobian, m, i);
-        i += 1;
     }
 }
 
@@ -96,10 +88,8 @@ fn gradient<'a>(
     ensures { scratch.new
         ≡ with_gradient m (jacobian_at jacobian.now) (residual_at residuals.now) p scratch.old }
 {
-    let mut i: usize = 0;
-    while i < p {
+    for i in 0..p {
         scratch[GRADIENT + i] = column_gradient(jacobian, residuals, m, i);
-        i += 1;
     }
 }
 
@@ -110,11 +100,9 @@ fn gradient_norm(scratch: &[f64], p: usize) -> f64
     ensures { result ≡ norm_of p (gradient_in scratch.now) }
 {
     let mut sum = 0.0;
-    let mut k: usize = 0;
-    while k < p {
+    for k in 0..p {
         let g = scratch[GRADIENT + k];
         sum = sum + g * g;
-        k += 1;
     }
     sqrt(sum)
 }

@@ -1,10 +1,7 @@
 -- A job as it is asked for, in numbers alone. "A job is of one kind and gives that kind's settings alone; a setting left out is kept as the default of the
 -- Rust's config". Definitions only.
-use Rattle.std.specs.Prelude.{ℕ, ◌%◌, ◌/◌, Bool, not, cond, ◌&&◌, eqb, ltb, Float}
-use Rattle.jobs.specs.declared.types.CountSetting.{CountSetting}
-use Rattle.jobs.specs.declared.types.CountSetting.TheVariants as Count
-use Rattle.jobs.specs.declared.types.NumberSetting.{NumberSetting}
-use Rattle.jobs.specs.declared.types.NumberSetting.TheVariants as Number
+use Rattle.std.specs.Prelude.{ℕ, ◌%◌, ◌/◌, Bool, not, cond, ◌&&◌, eqb, ltb}
+use Rattle.std.specs.Bool.{then_some}
 use Rattle.jobs.specs.declared.types.DlsRequest.{DlsRequest}
 use Rattle.jobs.specs.declared.types.JobRequest.{JobRequest}
 use Rattle.jobs.specs.declared.types.MethodRequest.{MethodRequest}
@@ -20,35 +17,29 @@ use Rattle.records.specs.declared.types.RequestRecord.{RequestRecord}
 abbrev pub is_given : (given weight : ℕ) → Bool
 is_given given weight = eqb (given / weight % 2) 1
 
-abbrev pub count_setting : (given : Bool) → ℕ → CountSetting
-count_setting given n = cond given (Count.Is n) Count.Default
-
-abbrev pub number_setting : (given : Bool) → Float → NumberSetting
-number_setting given x = cond given (Number.Is x) Number.Default
-
 abbrev pub dls_request : SettingsRecord → (given : ℕ) → DlsRequest
 dls_request s given = record {
-  max_iterations = count_setting (is_given given 1) s.max_iterations;
-  initial_damping = number_setting (is_given given 2) s.initial_damping;
-  relative_merit_tolerance = number_setting (is_given given 4) s.relative_merit_tolerance;
-  gradient_tolerance = number_setting (is_given given 8) s.gradient_tolerance;
-  finite_difference_relative_step = number_setting (is_given given 16) s.finite_difference_relative_step;
+  max_iterations = then_some (is_given given 1) s.max_iterations;
+  initial_damping = then_some (is_given given 2) s.initial_damping;
+  relative_merit_tolerance = then_some (is_given given 4) s.relative_merit_tolerance;
+  gradient_tolerance = then_some (is_given given 8) s.gradient_tolerance;
+  finite_difference_relative_step = then_some (is_given given 16) s.finite_difference_relative_step;
 }
 
 abbrev pub multi_start_request : SettingsRecord → (given : ℕ) → MultiStartRequest
 multi_start_request s given = record {
   local_dls_config = dls_request s given;
-  num_trials = count_setting (is_given given 32) s.num_trials;
-  seed = count_setting (is_given given 1024) s.seed;
+  num_trials = then_some (is_given given 32) s.num_trials;
+  seed = then_some (is_given given 1024) s.seed;
 }
 
 abbrev pub annealing_request : SettingsRecord → (given : ℕ) → SimulatedAnnealingRequest
 annealing_request s given = record {
-  initial_temperature = number_setting (is_given given 64) s.initial_temperature;
-  cooling_rate = number_setting (is_given given 128) s.cooling_rate;
-  steps_per_temperature = count_setting (is_given given 256) s.steps_per_temperature;
-  max_cooling_cycles = count_setting (is_given given 512) s.max_cooling_cycles;
-  seed = count_setting (is_given given 1024) s.seed;
+  initial_temperature = then_some (is_given given 64) s.initial_temperature;
+  cooling_rate = then_some (is_given given 128) s.cooling_rate;
+  steps_per_temperature = then_some (is_given given 256) s.steps_per_temperature;
+  max_cooling_cycles = then_some (is_given given 512) s.max_cooling_cycles;
+  seed = then_some (is_given given 1024) s.seed;
 }
 
 unfoldable pub method_request : (kind : ℕ) → SettingsRecord → (given : ℕ) → MethodRequest

@@ -1,12 +1,12 @@
 // A job as it is asked for, in numbers alone: what a caller in C has, who knows no enum.
 ghost use Rattle.std.specs.Prelude.{◌≡◌, ◌<◌};
-ghost use Rattle.records.specs.Requests.{is_given, count_setting, number_setting, dls_request, multi_start_request, annealing_request};
+ghost use Rattle.records.specs.Requests.{is_given, dls_request, multi_start_request, annealing_request};
 ghost use Rattle.records.specs.Requests.{method_request, request_of, is_request};
 
 use crate::types::RequestRecord;
 use jobs::{
-    CountSetting, DlsRequest, JobRequest, MethodRequest, MultiStartRequest, NumberSetting,
-    SettingsRecord, SimulatedAnnealingRequest,
+    DlsRequest, JobRequest, MethodRequest, MultiStartRequest, SettingsRecord,
+    SimulatedAnnealingRequest,
 };
 
 // Whether the bit of this weight is set.
@@ -17,32 +17,14 @@ fn is_given(given: u64, weight: u64) -> bool
     given / weight % 2 == 1
 }
 
-fn count_setting(given: bool, n: u64) -> CountSetting
-    ensures { result ≡ count_setting given n }
-{
-    if given {
-        return CountSetting::Is(n);
-    }
-    CountSetting::Default
-}
-
-fn number_setting(given: bool, x: f64) -> NumberSetting
-    ensures { result ≡ number_setting given x }
-{
-    if given {
-        return NumberSetting::Is(x);
-    }
-    NumberSetting::Default
-}
-
 fn dls_request(s: SettingsRecord, given: u64) -> DlsRequest
     ensures { result ≡ dls_request s given }
 {
-    let iterations = count_setting(is_given(given, 1), s.max_iterations);
-    let damping = number_setting(is_given(given, 2), s.initial_damping);
-    let merit_tolerance = number_setting(is_given(given, 4), s.relative_merit_tolerance);
-    let gradient_tolerance = number_setting(is_given(given, 8), s.gradient_tolerance);
-    let relative_step = number_setting(is_given(given, 16), s.finite_difference_relative_step);
+    let iterations = is_given(given, 1).then_some(s.max_iterations);
+    let damping = is_given(given, 2).then_some(s.initial_damping);
+    let merit_tolerance = is_given(given, 4).then_some(s.relative_merit_tolerance);
+    let gradient_tolerance = is_given(given, 8).then_some(s.gradient_tolerance);
+    let relative_step = is_given(given, 16).then_some(s.finite_difference_relative_step);
     DlsRequest {
         max_iterations: iterations,
         initial_damping: damping,
@@ -56,8 +38,8 @@ fn multi_start_request(s: SettingsRecord, given: u64) -> MultiStartRequest
     ensures { result ≡ multi_start_request s given }
 {
     let local = dls_request(s, given);
-    let trials = count_setting(is_given(given, 32), s.num_trials);
-    let seed = count_setting(is_given(given, 1024), s.seed);
+    let trials = is_given(given, 32).then_some(s.num_trials);
+    let seed = is_given(given, 1024).then_some(s.seed);
     MultiStartRequest {
         local_dls_config: local,
         num_trials: trials,
@@ -68,11 +50,11 @@ fn multi_start_request(s: SettingsRecord, given: u64) -> MultiStartRequest
 fn annealing_request(s: SettingsRecord, given: u64) -> SimulatedAnnealingRequest
     ensures { result ≡ annealing_request s given }
 {
-    let temperature = number_setting(is_given(given, 64), s.initial_temperature);
-    let cooling = number_setting(is_given(given, 128), s.cooling_rate);
-    let steps = count_setting(is_given(given, 256), s.steps_per_temperature);
-    let cycles = count_setting(is_given(given, 512), s.max_cooling_cycles);
-    let seed = count_setting(is_given(given, 1024), s.seed);
+    let temperature = is_given(given, 64).then_some(s.initial_temperature);
+    let cooling = is_given(given, 128).then_some(s.cooling_rate);
+    let steps = is_given(given, 256).then_some(s.steps_per_temperature);
+    let cycles = is_given(given, 512).then_some(s.max_cooling_cycles);
+    let seed = is_given(given, 1024).then_some(s.seed);
     SimulatedAnnealingRequest {
         initial_temperature: temperature,
         cooling_rate: cooling,

@@ -14,7 +14,7 @@ use jobs::JobRequest;
 pub fn admit_number(place: usize, occupied: bool, request: JobRequest) -> u32
     ensures { result ≡ first_refusal (admit_refusals place request occupied) }
 {
-    let number = defaults::refusal_of(request);
+    let number = refusals::answered(defaults::refusal_of(request));
     if number == 1 {
         return 1;
     }

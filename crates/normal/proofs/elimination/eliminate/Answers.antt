@@ -6,29 +6,27 @@ use Rattle.std.proofs.Common.{rules}
 use Rattle.normal.proofs.elimination.eliminate.Goals as goal
 
 pub loop-c-init : goal.loop-c-init
-loop-c-init c = (omega arith, stage-none _ _)
+loop-c-init c = stage-none _ _
 
 pub returns-then-pivot : goal.returns-then-pivot
 returns-then-pivot c =
     let b = c.bring_pivot-pivot in
     let l = c in
     let x = l.args in
-    stage-stop x.p l.loop-c.c x.scratch.now l.loop-c.scratch b.new.scratch b.result l.loop-c.invariant.1 (omega arith) (search rules) (search rules)
+    stage-stop x.p l.loop-c.c x.scratch.now l.loop-c.scratch b.new.scratch b.result l.loop-c.invariant (omega arith) (search rules) (search rules)
     b.ensures.fact_2 b.ensures.fact_1 c.if-pivot.true
 
 pub loop-c-preserved : goal.loop-c-preserved
 loop-c-preserved c =
     let b = c.bring_pivot-pivot in
     let l = c in
-    let x = l.args in (
-      omega arith,
-      stage-more x.p l.loop-c.c x.scratch.now l.loop-c.scratch b.new.scratch b.result l.loop-c.invariant.1 (omega arith) (search rules)
-          (search rules) b.ensures.fact_2 b.ensures.fact_1 _ c.if-pivot.false c.reduce_below.ensures,
-    )
+    let x = l.args in
+    stage-more x.p l.loop-c.c x.scratch.now l.loop-c.scratch b.new.scratch b.result l.loop-c.invariant (omega arith) (search rules)
+    (search rules) b.ensures.fact_2 b.ensures.fact_1 _ c.if-pivot.false c.reduce_below.ensures
 
 pub returns : goal.returns
 returns c =
     let l = c in
     let x = l.args in
     let e : l.loop-c.c ≡ x.p = omega arith in
-    stage-all x.p x.scratch.now l.loop-c.scratch (rw e at l.loop-c.invariant.1)
+    stage-all x.p x.scratch.now l.loop-c.scratch (rw e at l.loop-c.invariant)

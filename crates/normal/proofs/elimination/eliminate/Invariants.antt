@@ -1,10 +1,6 @@
 -- `normal::elimination::eliminate` meets its contract: a turn does one column (`Stage`). Assumes nothing.
-use Prim.Native.Nat.{◌-◌, ◌≤◌}
 use Rattle.normal.proofs.Stages.{Stage}
 use Rattle.normal.proofs.elimination.eliminate.Given as goal
 
 abbrev pub invariant-loop-c : goal.invariant-loop-c
-invariant-loop-c l = (l.c ≤ l.p) × Stage l.p l.c l.initial.scratch l.scratch
-
-abbrev pub decreases-loop-c : goal.decreases-loop-c
-decreases-loop-c l = l.p - l.c
+invariant-loop-c l = Stage l.p l.c l.initial.scratch l.scratch

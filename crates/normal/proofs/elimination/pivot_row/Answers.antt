@@ -15,8 +15,6 @@ loop-r-init c =
     let x = c.args in (
       omega arith,
       omega arith,
-      omega arith,
-      omega arith,
       pivot-first (system_in x.scratch.now) x.c,
       c.abs-most.ensures
           ∙ ap (λ (n : ℕ). magnitude (get_or x.scratch.now n nan)) c.system_place.ensures,
@@ -33,26 +31,22 @@ loop-r-preserved c =
       | then-size-most w ↦ (
         omega arith,
         omega arith,
-        omega arith,
-        omega arith,
         w.best-is
-            ∙ pivot-lower m x.c l.loop-r.r l.loop-r.best l.loop-r.most _ (omega arith) l.loop-r.invariant.4 l.loop-r.invariant.5 size w.if-size-most.true,
+            ∙ pivot-lower m x.c l.loop-r.r l.loop-r.best l.loop-r.most _ (omega arith) l.loop-r.invariant.2 l.loop-r.invariant.3 size w.if-size-most.true,
         w.most-is ∙ size
             ∙ ap (λ (n : ℕ). magnitude (m n x.c)) (sym w.best-is),
       )
       | else-size-most w ↦ (
         omega arith,
         omega arith,
-        omega arith,
-        omega arith,
         w.best-is
-            ∙ pivot-upper m x.c l.loop-r.r l.loop-r.best l.loop-r.most _ (omega arith) l.loop-r.invariant.4 l.loop-r.invariant.5 size w.if-size-most.false,
+            ∙ pivot-upper m x.c l.loop-r.r l.loop-r.best l.loop-r.most _ (omega arith) l.loop-r.invariant.2 l.loop-r.invariant.3 size w.if-size-most.false,
         w.most-is
-            ∙ l.loop-r.invariant.5 ∙ ap (λ (n : ℕ). magnitude (m n x.c)) (sym w.best-is),
+            ∙ l.loop-r.invariant.3 ∙ ap (λ (n : ℕ). magnitude (m n x.c)) (sym w.best-is),
       )
     ]
 
 pub returns : goal.returns
 returns c =
     let e : c.loop-r.r ≡ c.args.p = omega arith in
-    rw e at c.loop-r.invariant.4
+    rw e at c.loop-r.invariant.2

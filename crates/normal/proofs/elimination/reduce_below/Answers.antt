@@ -6,7 +6,6 @@ use mathlib.Core.List.{List}
 use lib.Ieee.{Float}
 use Rattle.normal.specs.Loops.{rows_reduced, row_reduced}
 use Rattle.normal.proofs.Turns.{none_passed, one_more, passed}
-use Rattle.std.proofs.Common.{rules}
 use Rattle.normal.proofs.elimination.reduce_below.Goals as goal
 
 none : (p c : ℕ) (pivot : Float) (l : List Float) → l ≡ rows_reduced p c pivot (c + 1 - suc c) l
@@ -23,21 +22,19 @@ more p c r pivot l h =
 pub loop-r-init : goal.loop-r-init
 loop-r-init c =
     let x = c.args in
-    (omega arith, omega arith, refl, none x.p x.c x.pivot x.scratch.now)
+    (refl, none x.p x.c x.pivot x.scratch.now)
 
 pub loop-r-preserved : goal.loop-r-preserved
 loop-r-preserved c =
     let l = c in
     let x = l.args in (
-      omega arith,
-      search rules,
-      c.reduce_row.auto.scratch ∙ l.loop-r.invariant.2,
+      c.reduce_row.auto.scratch ∙ l.loop-r.invariant.0,
       c.reduce_row.ensures
-          ∙ ap (row_reduced x.p x.c x.pivot l.loop-r.r) l.loop-r.invariant.3
+          ∙ ap (row_reduced x.p x.c x.pivot l.loop-r.r) l.loop-r.invariant.1
           ∙ more x.p x.c l.loop-r.r x.pivot x.scratch.now (omega arith),
     )
 
 pub returns : goal.returns
 returns c =
     let e : c.loop-r.r ≡ c.args.p = omega arith in
-    rw e at c.loop-r.invariant.3
+    rw e at c.loop-r.invariant.1

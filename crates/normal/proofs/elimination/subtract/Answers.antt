@@ -14,13 +14,12 @@ loop-k-init c = search rules
 pub loop-k-preserved : goal.loop-k-preserved
 loop-k-preserved c =
     let l = c in (
-      search rules,
       simp length-set (omega arith),
       subtract-turn l.args.scratch.now l.args.a l.args.b l.args.n
-          l.loop-k.k (search rules) (omega arith) _ _ l.loop-k.invariant.2,
+          l.loop-k.k (search rules) (omega arith) _ _ l.loop-k.invariant.1,
     )
 
 pub returns : goal.returns
 returns c =
     let e : c.loop-k.k ≡ c.args.n = omega arith in
-    rw e at c.loop-k.invariant.2
+    rw e at c.loop-k.invariant.1

@@ -1,6 +1,6 @@
 -- `normal::elimination::unknown` meets its contract: the right side less the columns passed. Assumes nothing.
 use mathlib.Core.Path.{◌≡◌}
-use Prim.Native.Nat.{suc, ◌+◌, ◌-◌, ◌≤◌, ◌<◌}
+use Prim.Native.Nat.{suc, ◌+◌, ◌-◌}
 use Rattle.normal.specs.Layout.{step_at}
 use Rattle.normal.specs.Elimination.{right_side}
 use Rattle.normal.specs.Scratch.{system_in}
@@ -8,8 +8,4 @@ use Rattle.normal.specs.Loops.{part_of}
 use Rattle.normal.proofs.elimination.unknown.Given as goal
 
 abbrev pub invariant-loop-k : goal.invariant-loop-k
-invariant-loop-k l = (l.i < l.k) × (l.k ≤ l.p)
-    × (l.rest ≡ right_side l.p (system_in l.scratch) l.i (part_of l.scratch (step_at + suc l.i) (l.p - suc l.i)) (l.k - suc l.i))
-
-abbrev pub decreases-loop-k : goal.decreases-loop-k
-decreases-loop-k l = l.p - l.k
+invariant-loop-k l = l.rest ≡ right_side l.p (system_in l.scratch) l.i (part_of l.scratch (step_at + suc l.i) (l.p - suc l.i)) (l.k - suc l.i)

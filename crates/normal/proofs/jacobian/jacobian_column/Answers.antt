@@ -12,12 +12,8 @@ unfolding tab
 loop-i-init c = search rules
 
 pub loop-i-preserved : goal.loop-i-preserved
-loop-i-preserved c = (
-  search rules,
-  part_step _ _ _ _ _ _ _ c.loop-i.invariant.1
-      (ap (λ (x : ℕ). x + c.loop-i.i) c.jacobian_place-first.ensures)
-      c.jacobian_entry.ensures,
-)
+loop-i-preserved c =
+    part_step _ _ _ _ _ _ _ c.loop-i.invariant (ap (λ (x : ℕ). x + c.loop-i.i) c.jacobian_place-first.ensures) c.jacobian_entry.ensures
 
 pub returns : goal.returns
-returns c = let e : c.loop-i.i ≡ c.args.m = omega arith in rw e at c.loop-i.invariant.1
+returns c = let e : c.loop-i.i ≡ c.args.m = omega arith in rw e at c.loop-i.invariant

@@ -14,13 +14,10 @@ loop-k-init c = search rules
 
 pub loop-k-preserved : goal.loop-k-preserved
 loop-k-preserved c =
-    let l = c in
-    let s = l in (
-      search rules,
-      sum_step _ _ _ _ l.loop-k.invariant.1 (λ n. mul binary64 (column-entry s.args.jacobian.now _ l.loop-k.k s.args.i
-          l.jacobian_place-a.ensures n) (residual_at s.args.residuals.now l.loop-k.k)),
-    )
+    let x = c.args in
+    sum_step _ _ _ _ c.loop-k.invariant
+    (λ n. mul binary64 (column-entry x.jacobian.now _ c.loop-k.k x.i c.jacobian_place-a.ensures n) (residual_at x.residuals.now c.loop-k.k))
 
 pub returns : goal.returns
 unfolding gradient_of
-returns c = let e : c.loop-k.k ≡ c.args.m = omega arith in rw e at c.loop-k.invariant.1
+returns c = let e : c.loop-k.k ≡ c.args.m = omega arith in rw e at c.loop-k.invariant

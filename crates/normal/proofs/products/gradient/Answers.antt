@@ -12,9 +12,9 @@ unfolding tab
 loop-i-init c = search rules
 
 pub loop-i-preserved : goal.loop-i-preserved
-loop-i-preserved c = (search rules, simp length-set (omega arith), part_step _ _ _ _ _ _ _ c.loop-i.invariant.2 refl c.column_gradient.ensures)
+loop-i-preserved c = (simp length-set (omega arith), part_step _ _ _ _ _ _ _ c.loop-i.invariant.1 refl c.column_gradient.ensures)
 
 pub returns : goal.returns
 returns c =
     let e : c.loop-i.i ≡ c.args.p = omega arith in
-    rw e at c.loop-i.invariant.2
+    rw e at c.loop-i.invariant.1

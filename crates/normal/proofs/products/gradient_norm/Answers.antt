@@ -12,10 +12,10 @@ unfolding sum_of
 loop-k-init c = search rules
 
 pub loop-k-preserved : goal.loop-k-preserved
-loop-k-preserved c = (search rules, sum_step _ _ _ _ c.loop-k.invariant.1 refl)
+loop-k-preserved c = sum_step _ _ _ _ c.loop-k.invariant refl
 
 pub returns : goal.returns
 unfolding norm_of
 returns c =
     let e : c.loop-k.k ≡ c.args.p = omega arith in
-    c.sqrt.ensures ∙ ap sqrt_of (rw e at c.loop-k.invariant.1)
+    c.sqrt.ensures ∙ ap sqrt_of (rw e at c.loop-k.invariant)

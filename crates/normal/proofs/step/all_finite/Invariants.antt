@@ -1,6 +1,6 @@
 -- `normal::step::all_finite` meets its contract: every entry passed was finite. Assumes nothing.
 use mathlib.Core.Path.{◌≡◌}
-use Prim.Native.Nat.{ℕ, ◌+◌, ◌-◌, ◌≤◌}
+use Prim.Native.Nat.{ℕ, ◌+◌}
 use lib.ListN.{get_or}
 use mathlib.Core.Bool.{true}
 use lib.Ieee.{nan}
@@ -10,7 +10,4 @@ use Rattle.normal.specs.Layout.{step_at}
 use Rattle.normal.proofs.step.all_finite.Given as goal
 
 abbrev pub invariant-loop-k : goal.invariant-loop-k
-invariant-loop-k l = (l.k ≤ l.p) × (all_below (λ (n : ℕ). finite_of (get_or l.scratch (step_at + n) nan)) l.k ≡ true)
-
-abbrev pub decreases-loop-k : goal.decreases-loop-k
-decreases-loop-k l = l.p - l.k
+invariant-loop-k l = all_below (λ (n : ℕ). finite_of (get_or l.scratch (step_at + n) nan)) l.k ≡ true

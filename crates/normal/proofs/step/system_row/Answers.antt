@@ -17,14 +17,13 @@ pub loop-j-preserved : goal.loop-j-preserved
 loop-j-preserved c =
     let l = c in
     let x = l.args in (
-      search rules,
       simp length-set (omega arith),
       row-turn x.scratch.now l.loop-j.scratch x.p x.i l.loop-j.j _ x.damping _ (search rules)
-          (omega arith) (search rules) l.system_place-first.ensures l.loop-j.invariant.2 c.system_entry.ensures,
+          (omega arith) (search rules) l.system_place-first.ensures l.loop-j.invariant.1 c.system_entry.ensures,
     )
 
 pub returns : goal.returns
 unfolding with_system_row
 returns c =
     let e : c.loop-j.j ≡ c.args.p + 1 = omega arith in
-    rw e at c.loop-j.invariant.2
+    rw e at c.loop-j.invariant.1

@@ -1,7 +1,7 @@
 -- `records::requests::multi_start_request` meets its contract. Assumes nothing.
 use mathlib.Core.Bool.{Bool}
 use mathlib.Core.Path.{◌∙◌, ap}
-use Rattle.records.specs.Requests.{count_setting}
+use Rattle.std.specs.Bool.{then_some}
 use Rattle.records.proofs.requests.multi_start_request.Goals as goal
 
 pub returns : goal.returns
@@ -10,6 +10,6 @@ returns c =
     λ i. record {
       local_dls_config = c.dls_request-local.ensures i;
       num_trials =
-          (c.count_setting-trials.ensures ∙ ap (λ (b : Bool). count_setting b s.num_trials) c.is_given.ensures) i;
-      seed = (c.count_setting-seed.ensures ∙ ap (λ (b : Bool). count_setting b s.seed) c.is_given-2.ensures) i;
+          (c.then_some-trials.ensures ∙ ap (λ (b : Bool). then_some b s.num_trials) c.is_given.ensures) i;
+      seed = (c.then_some-seed.ensures ∙ ap (λ (b : Bool). then_some b s.seed) c.is_given-2.ensures) i;
     }
