@@ -36,9 +36,7 @@ fn exchange(scratch: &mut [f64], a: usize, b: usize, n: usize)
     ensures { scratch.new ≡ parts_exchanged a b n scratch.old }
 {
     for k in 0..n {
-        let x = scratch[a + k];
-        scratch[a + k] = scratch[b + k];
-        scratch[b + k] = x;
+        scratch.swap(a + k, b + k);
     }
 }
 

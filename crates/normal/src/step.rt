@@ -61,12 +61,7 @@ fn all_finite(scratch: &[f64], p: usize) -> bool
     requires fact_2 { p ≤ most_variables }
     ensures { result ≡ all_below (λ (k : ℕ). finite_of (get_or scratch.now (step_at + k) nan)) p }
 {
-    for k in 0..p {
-        if !is_finite(scratch[STEP + k]) {
-            return false;
-        }
-    }
-    true
+    scratch[STEP..STEP + p].iter().all(|x| is_finite(*x))
 }
 
 // Solves the damped system of the product matrix and the gradient that stand in scratch, and answers whether there is a step,
