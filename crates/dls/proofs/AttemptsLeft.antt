@@ -13,25 +13,16 @@ use Rattle.lists.specs.Tab.{tab-same}
 use Rattle.variables.specs.declared.types.VariableSet.{VariableSet}
 use Rattle.variables.specs.Active.{num_active}
 use Rattle.variables.specs.Values.{clamped_values}
-use Rattle.normal.specs.declared.elimination.Solved.TheVariants.{Yes, No}
 use Rattle.normal.specs.Layout.{step_at, most_variables}
 use Rattle.normal.specs.Jacobian.{jacobian_at, residual_at}
 use Rattle.normal.specs.Products.{Matrix, Vector, normal_product, gradient_of}
 use Rattle.normal.specs.Damping.{raised_of}
-use Rattle.normal.specs.Step.{step_of, step_found, solved_if}
+use Rattle.normal.specs.Step.{step_of, step_found}
 use Rattle.jobs.specs.declared.types.DlsConfig.{DlsConfig}
 use Rattle.runs.specs.declared.types.DampedState.{DampedState}
 use Rattle.runs.specs.DampedRun.{Optimizer, Current, is_solved, candidate_params}
 use Rattle.runs.specs.DampedRow.{current_of, at_candidate, ended, resume_solved, resume_attempts}
 use Rattle.dls.specs.DampedSteps.{optimizer, with_damping, candidate_in}
-
-pub solved-no : (b : Bool) → No ≡ solved_if b → b ≡ false
-solved-no true e = cc
-solved-no false e = refl
-
-pub solved-yes : (b : Bool) → Yes ≡ solved_if b → b ≡ true
-solved-yes true e = refl
-solved-yes false e = cc
 
 module _ (config : DlsConfig) (v : VariableSet) (m : ℕ) (d : DampedState) where
   abbrev o : Optimizer

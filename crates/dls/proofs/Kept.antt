@@ -1,9 +1,9 @@
 -- What a turn's calls leave of scratch. Assumes nothing.
 use mathlib.Core.Path.{refl, ◌∙◌}
+use mathlib.Core.Bool.{Bool}
 use mathlib.Core.List.{List}
 use Prim.Native.Nat.{ℕ}
 use lib.Ieee.{Float}
-use Rattle.normal.specs.declared.elimination.Solved.{Solved}
 use Rattle.normal.specs.Products.{Matrix, Vector}
 use Rattle.normal.specs.Scratch.{Equations, Attempt}
 use Rattle.normal.proofs.Kept.{equations-behind, attempt-behind}
@@ -19,5 +19,5 @@ pub kept-equations : {m p : ℕ} {jacobian : Matrix} {residuals : Vector} {l l' 
     → ScratchKept l l'
 kept-equations e = record { long = e.long; rest = equations-behind _ _ _ _ _ _ _ e }
 
-pub kept-attempt : {p : ℕ} {damping : Float} {l l' : List Float} {r : Solved} → Attempt p damping l l' r → ScratchKept l l'
+pub kept-attempt : {p : ℕ} {damping : Float} {l l' : List Float} {r : Bool} → Attempt p damping l l' r → ScratchKept l l'
 kept-attempt a = record { long = a.long; rest = attempt-behind _ _ _ _ _ a }

@@ -8,8 +8,6 @@ use Rattle.floats.specs.Basic.{finite_of}
 use Rattle.variables.specs.declared.types.VariableSet.{VariableSet}
 use Rattle.variables.specs.Active.{num_active}
 use Rattle.normal.specs.declared.damping.Damping.{Damping}
-use Rattle.normal.specs.declared.elimination.Solved.{Solved}
-use Rattle.normal.specs.declared.elimination.Solved.TheVariants.{Yes, No}
 use Rattle.normal.specs.Layout.{most_variables}
 use Rattle.normal.specs.Damping.{raised_of}
 use Rattle.normal.specs.Jacobian.{jacobian_at, residual_at}
@@ -20,7 +18,7 @@ use Rattle.runs.specs.declared.types.DampedState.{DampedState}
 use Rattle.runs.specs.DampedRun.{is_stationary, raised}
 use Rattle.runs.specs.DampedRow.{current_of, at_candidate, ended, resume_attempts, resume_stationary}
 use Rattle.dls.specs.DampedSteps.{optimizer, with_damping, ScratchKept, EquationsIn, candidate_in, AttemptsMade}
-use Rattle.dls.proofs.AttemptsLeft.{left, h, g, solved-no, solved-yes, attempt-none, attempt-found, attempts-over, candidate-made}
+use Rattle.dls.proofs.AttemptsLeft.{left, h, g, attempt-none, attempt-found, attempts-over, candidate-made}
 use Rattle.normal.proofs.Kept.{attempt-stands}
 use Rattle.dls.proofs.Kept.{kept_same, kept_on, kept-attempt}
 
@@ -36,7 +34,7 @@ module _ {v : VariableSet} {d : DampedState} {l₀ : List Float} {damping₀ : D
   trying-begin = record { goes = λ config m e. refl; stand = λ h g s. s; kept = kept_same l₀ }
 
   module _ {l : List Float} {damping : Damping} {k : ℕ} (t : Trying v d l₀ damping₀ k₀ l damping k) where
-    module _ {p : ℕ} {x : Solved} {l' : List Float} (active : p ≡ num_active v) (b : k < 10) (made : Attempt p damping.value l l' x) where
+    module _ {p : ℕ} {x : Bool} {l' : List Float} (active : p ≡ num_active v) (b : k < 10) (made : Attempt p damping.value l l' x) where
       a : Attempt (num_active v) damping.value l l' x
       a = rw active at made
 
@@ -44,21 +42,21 @@ module _ {v : VariableSet} {d : DampedState} {l₀ : List Float} {damping₀ : D
       answer config m s = a.attempted _ _ (t.stand _ _ s)
 
       -- an attempt without a step
-      pub trying-on : {more : Damping} → num_active v ≤ most_variables → x ≡ No → more.value ≡ raised_of damping.value
+      pub trying-on : {more : Damping} → num_active v ≤ most_variables → x ≡ false → more.value ≡ raised_of damping.value
           → Trying v d l₀ damping₀ k₀ l' more (k + 1)
       trying-on few none e = record {
-        goes = λ config m s. t.goes config m s ∙ attempt-none config v m d damping.value k b (solved-no _ (sym none ∙ (answer config m s).answer))
+        goes = λ config m s. t.goes config m s ∙ attempt-none config v m d damping.value k b (sym (answer config m s).answer ∙ none)
             ∙ ap (left config v m d (k + 1)) (sym e);
         stand = λ h g s. attempt-stands _ _ h g _ _ _ few a (t.stand h g s);
         kept = kept_on t.kept (kept-attempt a);
       }
 
       -- one with a step: the candidate
-      pub trying-found : {c : List Float} {r : DampedState} → x ≡ Yes → c ≡ candidate_in v d.params l' → r
+      pub trying-found : {c : List Float} {r : DampedState} → x ≡ true → c ≡ candidate_in v d.params l' → r
           ≡ at_candidate (with_damping damping.value (current_of d)) d.jacobian (k + 1) c → AttemptsMade v d damping₀ k₀ l₀ l' r
       trying-found some e f = record {
         reached = λ config m s.
-            let found = solved-yes _ (sym some ∙ (answer config m s).answer) in
+            let found = sym (answer config m s).answer ∙ some in
             f
             ∙ ap (at_candidate (with_damping damping.value (current_of d)) d.jacobian (k + 1))
             (e ∙ candidate-made config v m d damping.value l' ((answer config m s).step (rw found tt)))

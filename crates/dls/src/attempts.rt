@@ -16,7 +16,7 @@ use crate::states::{at_candidate, ended};
 use floats::is_finite;
 use held::{Head, clamp_values, num_active, operand_count};
 use jobs::DlsConfig;
-use normal::{Damping, STEP, Solved, attempt_step, normal_equations};
+use normal::{Damping, STEP, attempt_step, normal_equations};
 
 // The first p parameters moved by the step that stands in scratch.
 // dls.rs: `candidate_params[i] += dx[i]`
@@ -81,13 +81,12 @@ fn resume_attempts(
     let mut now = damping;
     let mut k = first;
     while k < 10 {
-        let solved = attempt_step(scratch, p, now);
-        let Solved::Yes = solved else {
+        if !attempt_step(scratch, p, now) {
             let raised = now.raise();
             now = raised;
             k += 1;
             continue;
-        };
+        }
         let x = *params;
         let found = candidate_params(p, counts, numbers, x, scratch);
         return at_candidate(h, now.value, k + 1, found, plus_residuals, candidate);

@@ -2,3 +2,4 @@ pub mod SameLaws
 pub mod RecordLaws
 pub mod UnusedLaws
 pub mod CheckLaws
+mod Mapped

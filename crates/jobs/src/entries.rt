@@ -1,39 +1,12 @@
 // One variable and one operand in numbers alone, and read back.
 ghost use Rattle.std.specs.Prelude.{◌≡◌};
-ghost use Rattle.jobs.specs.Entries.{variable_kind, variable_type, one_if, variable_record, variable_of, operand_kind, slot_or_surface, limit_of, slot_type};
-ghost use Rattle.jobs.specs.Entries.{surface_type, operand_type, operand_record, operand_of, zero_variable_record, zero_operand_record, variable_known};
+ghost use Rattle.jobs.specs.Entries.{variable_kind, variable_type, variable_record, variable_of, operand_kind, slot_or_surface, limit_of, slot_type};
+ghost use Rattle.jobs.specs.Entries.{surface_type, operand_type, operand_record, operand_of, variable_known};
 ghost use Rattle.jobs.specs.Entries.{operand_known, follows_of, follower_surface, follower_of};
 
 use crate::types::{OperandRecord, VariableRecord};
 use merit::{MeritOperand, OperandType};
 use variables::{Follower, VariableDef, VariableType};
-
-pub fn zero_variable_record() -> VariableRecord
-    ensures { result ≡ zero_variable_record }
-{
-    VariableRecord {
-        kind: 0,
-        surface_index: 0,
-        enabled: 0,
-        min_value: 0.0,
-        max_value: 0.0,
-        step_size: 0.0,
-        follows: 0,
-        follower: 0,
-    }
-}
-
-pub fn zero_operand_record() -> OperandRecord
-    ensures { result ≡ zero_operand_record }
-{
-    OperandRecord {
-        kind: 0,
-        at: 0,
-        limit_mm: 0.0,
-        target: 0.0,
-        weight: 0.0,
-    }
-}
 
 fn variable_kind(t: VariableType) -> u64
     ensures { result ≡ variable_kind t }
@@ -55,12 +28,6 @@ pub fn variable_type(kind: u64, i: usize) -> VariableType
         2 => VariableType::Conic(i),
         _ => VariableType::SemiDiameter(i),
     }
-}
-
-fn one_if(b: bool) -> u64
-    ensures { result ≡ one_if b }
-{
-    if b { 1 } else { 0 }
 }
 
 fn follows_of(f: Follower) -> u64
@@ -93,35 +60,35 @@ pub fn follower_of(follows: u64, i: usize) -> Follower
     }
 }
 
-pub(crate) fn variable_record(d: VariableDef) -> VariableRecord
-    ensures { result ≡ variable_record d }
-{
-    let t = d.var_type;
-    let f = d.follower;
-    VariableRecord {
-        kind: variable_kind(t),
-        surface_index: variables::surface_index(t) as u64,
-        enabled: one_if(d.enabled),
-        min_value: d.min_value,
-        max_value: d.max_value,
-        step_size: d.step_size,
-        follows: follows_of(f),
-        follower: follower_surface(f) as u64,
+impl From<VariableDef> for VariableRecord {
+    ghost from_gives = { λ d r. r ≡ variable_record d };
+
+    fn from(d: VariableDef) -> VariableRecord {
+        VariableRecord {
+            kind: variable_kind(d.var_type),
+            surface_index: variables::surface_index(d.var_type) as u64,
+            enabled: u64::from(d.enabled),
+            min_value: d.min_value,
+            max_value: d.max_value,
+            step_size: d.step_size,
+            follows: follows_of(d.follower),
+            follower: follower_surface(d.follower) as u64,
+        }
     }
 }
 
-pub(crate) fn variable_of(v: VariableRecord) -> VariableDef
-    ensures { result ≡ variable_of v }
-{
-    let t = variable_type(v.kind, v.surface_index as usize);
-    let f = follower_of(v.follows, v.follower as usize);
-    VariableDef {
-        var_type: t,
-        min_value: v.min_value,
-        max_value: v.max_value,
-        step_size: v.step_size,
-        enabled: v.enabled == 1,
-        follower: f,
+impl From<VariableRecord> for VariableDef {
+    ghost from_gives = { λ r d. d ≡ variable_of r };
+
+    fn from(v: VariableRecord) -> VariableDef {
+        VariableDef {
+            var_type: variable_type(v.kind, v.surface_index as usize),
+            min_value: v.min_value,
+            max_value: v.max_value,
+            step_size: v.step_size,
+            enabled: v.enabled == 1,
+            follower: follower_of(v.follows, v.follower as usize),
+        }
     }
 }
 
@@ -240,27 +207,29 @@ pub fn operand_type(kind: u64, at: usize, limit: f64) -> OperandType
     surface_type(kind, at, limit)
 }
 
-pub(crate) fn operand_record(o: MeritOperand) -> OperandRecord
-    ensures { result ≡ operand_record o }
-{
-    let t = o.operand_type;
-    OperandRecord {
-        kind: operand_kind(t),
-        at: slot_or_surface(t) as u64,
-        limit_mm: limit_of(t),
-        target: o.target,
-        weight: o.weight,
+impl From<MeritOperand> for OperandRecord {
+    ghost from_gives = { λ o r. r ≡ operand_record o };
+
+    fn from(o: MeritOperand) -> OperandRecord {
+        OperandRecord {
+            kind: operand_kind(o.operand_type),
+            at: slot_or_surface(o.operand_type) as u64,
+            limit_mm: limit_of(o.operand_type),
+            target: o.target,
+            weight: o.weight,
+        }
     }
 }
 
-pub(crate) fn operand_of(o: OperandRecord) -> MeritOperand
-    ensures { result ≡ operand_of o }
-{
-    let t = operand_type(o.kind, o.at as usize, o.limit_mm);
-    MeritOperand {
-        operand_type: t,
-        target: o.target,
-        weight: o.weight,
+impl From<OperandRecord> for MeritOperand {
+    ghost from_gives = { λ r o. o ≡ operand_of r };
+
+    fn from(o: OperandRecord) -> MeritOperand {
+        MeritOperand {
+            operand_type: operand_type(o.kind, o.at as usize, o.limit_mm),
+            target: o.target,
+            weight: o.weight,
+        }
     }
 }
 
@@ -268,13 +237,7 @@ pub(crate) fn operand_of(o: OperandRecord) -> MeritOperand
 pub fn variable_known(v: VariableRecord) -> bool
     ensures { result ≡ variable_known v }
 {
-    if v.kind >= 4 {
-        return false;
-    }
-    if v.enabled >= 2 {
-        return false;
-    }
-    v.follows < 3
+    v.kind < 4 && v.enabled < 2 && v.follows < 3
 }
 
 pub fn operand_known(o: OperandRecord) -> bool

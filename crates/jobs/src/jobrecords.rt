@@ -1,77 +1,16 @@
-// A job in numbers alone, as a row holds it, and read back.
+// A job in numbers alone, as a row holds it, and read back. A literal takes an array from a variable of its own: the borrow checker asks for that.
 ghost use Rattle.std.specs.Prelude.{◌≡◌, ◌≤◌};
-ghost use Rattle.jobs.specs.Records.{variable_records, operand_records, variables_of, operands_of, dls_settings, annealing_settings, settings_record};
-ghost use Rattle.jobs.specs.Records.{dls_config};
-ghost use Rattle.jobs.specs.Records.{multi_start_config, annealing_config, method, record_of, job_of, known_variables, known_operands, known_kinds};
+ghost use Rattle.jobs.specs.Records.{dls_settings, annealing_settings, settings_record, dls_config, multi_start_config, annealing_config};
+ghost use Rattle.jobs.specs.Records.{method, record_of, job_of, known_kinds};
 
+use crate::entries;
 use crate::types::{
     DlsConfig, Job, JobRecord, Method, MultiStartConfig, OperandRecord, SettingsRecord,
     SimulatedAnnealingConfig, VariableRecord,
 };
-use crate::{entries, kept};
 use merit::{MeritFunction, MeritOperand};
 use optics::OpticalPrescription;
 use variables::{VariableDef, VariableSet};
-
-fn variable_records(v: VariableSet) -> [VariableRecord; 8]
-    ensures { result ≡ variable_records v }
-{
-    let zero = entries::zero_variable_record();
-    let mut records = [zero; 8];
-    let mut i: usize = 0;
-    while i < 8 {
-        let d = v.variables[i];
-        let r = entries::variable_record(d);
-        records[i] = r;
-        i += 1;
-    }
-    records
-}
-
-fn operand_records(f: MeritFunction) -> [OperandRecord; 12]
-    ensures { result ≡ operand_records f }
-{
-    let zero = entries::zero_operand_record();
-    let mut records = [zero; 12];
-    let mut i: usize = 0;
-    while i < 12 {
-        let o = f.operands[i];
-        let r = entries::operand_record(o);
-        records[i] = r;
-        i += 1;
-    }
-    records
-}
-
-fn variables_of(records: [VariableRecord; 8]) -> [VariableDef; 8]
-    ensures { result ≡ variables_of records }
-{
-    let zero = kept::zero_variable();
-    let mut variables = [zero; 8];
-    let mut i: usize = 0;
-    while i < 8 {
-        let r = records[i];
-        let d = entries::variable_of(r);
-        variables[i] = d;
-        i += 1;
-    }
-    variables
-}
-
-fn operands_of(records: [OperandRecord; 12]) -> [MeritOperand; 12]
-    ensures { result ≡ operands_of records }
-{
-    let zero = kept::zero_operand();
-    let mut operands = [zero; 12];
-    let mut i: usize = 0;
-    while i < 12 {
-        let r = records[i];
-        let o = entries::operand_of(r);
-        operands[i] = o;
-        i += 1;
-    }
-    operands
-}
 
 // A damped run's settings, with the trials and seed of a multi-start beside them.
 fn dls_settings(c: DlsConfig, trials: u64, seed: u64) -> SettingsRecord
@@ -115,10 +54,7 @@ fn settings_record(m: Method) -> SettingsRecord
 {
     match m {
         Method::Damped(c) => dls_settings(c, 0, 0),
-        Method::MultiStart(c) => {
-            let runs = c.local_dls_config;
-            dls_settings(runs, c.num_trials, c.seed)
-        }
+        Method::MultiStart(c) => dls_settings(c.local_dls_config, c.num_trials, c.seed),
         Method::Annealing(c) => annealing_settings(c),
     }
 }
@@ -138,9 +74,8 @@ fn dls_config(s: SettingsRecord) -> DlsConfig
 fn multi_start_config(s: SettingsRecord) -> MultiStartConfig
     ensures { result ≡ multi_start_config s }
 {
-    let runs = dls_config(s);
     MultiStartConfig {
-        local_dls_config: runs,
+        local_dls_config: dls_config(s),
         num_trials: s.num_trials,
         seed: s.seed,
     }
@@ -168,29 +103,26 @@ fn method_from(kind: u64, s: SettingsRecord) -> Method
     }
 }
 
-pub fn record_of(job: Job) -> JobRecord
-    ensures { result ≡ record_of job }
-{
-    let p = job.prescription;
-    let v = job.variables;
-    let f = job.merit_function;
-    let m = job.method;
-    let surfaces = p.surfaces;
-    let indices = p.indices;
-    let variables = variable_records(v);
-    let operands = operand_records(f);
-    let settings = settings_record(m);
-    JobRecord {
-        surfaces,
-        indices,
-        variables,
-        operands,
-        surface_count: p.surface_count as u64,
-        slot_count: p.slot_count as u64,
-        variable_count: v.variable_count as u64,
-        operand_count: f.operand_count as u64,
-        entrance_pupil_diameter_mm: p.entrance_pupil_diameter_mm,
-        settings,
+impl From<Job> for JobRecord {
+    ghost from_gives = { λ j r. r ≡ record_of j };
+
+    fn from(job: Job) -> JobRecord {
+        let surfaces = job.prescription.surfaces;
+        let indices = job.prescription.indices;
+        let variables = job.variables.variables.map(VariableRecord::from);
+        let operands = job.merit_function.operands.map(OperandRecord::from);
+        JobRecord {
+            surfaces,
+            indices,
+            variables,
+            operands,
+            surface_count: job.prescription.surface_count as u64,
+            slot_count: job.prescription.slot_count as u64,
+            variable_count: job.variables.variable_count as u64,
+            operand_count: job.merit_function.operand_count as u64,
+            entrance_pupil_diameter_mm: job.prescription.entrance_pupil_diameter_mm,
+            settings: settings_record(job.method),
+        }
     }
 }
 
@@ -199,75 +131,41 @@ pub fn job_of(kind: u64, held: JobRecord) -> Job
 {
     let surfaces = held.surfaces;
     let indices = held.indices;
-    let variable_records = held.variables;
-    let operand_records = held.operands;
-    let settings = held.settings;
-    let prescription = OpticalPrescription {
-        surfaces,
-        indices,
-        surface_count: held.surface_count as usize,
-        slot_count: held.slot_count as usize,
-        entrance_pupil_diameter_mm: held.entrance_pupil_diameter_mm,
-    };
-    let read_variables = variables_of(variable_records);
-    let variables = VariableSet {
-        variables: read_variables,
-        variable_count: held.variable_count as usize,
-    };
-    let read_operands = operands_of(operand_records);
-    let merit_function = MeritFunction {
-        operands: read_operands,
-        operand_count: held.operand_count as usize,
-    };
-    let method = method_from(kind, settings);
+    let variables = held.variables.map(VariableDef::from);
+    let operands = held.operands.map(MeritOperand::from);
     Job {
-        prescription,
-        variables,
-        merit_function,
-        method,
+        prescription: OpticalPrescription {
+            surfaces,
+            indices,
+            surface_count: held.surface_count as usize,
+            slot_count: held.slot_count as usize,
+            entrance_pupil_diameter_mm: held.entrance_pupil_diameter_mm,
+        },
+        variables: VariableSet {
+            variables,
+            variable_count: held.variable_count as usize,
+        },
+        merit_function: MeritFunction {
+            operands,
+            operand_count: held.operand_count as usize,
+        },
+        method: method_from(kind, held.settings),
     }
-}
-
-fn known_variables(held: JobRecord) -> bool
-    requires { held.variable_count ≤ 8 }
-    ensures { result ≡ known_variables held }
-{
-    let records = held.variables;
-    let count = held.variable_count as usize;
-    let mut i: usize = 0;
-    while i < count {
-        let v = records[i];
-        if !entries::variable_known(v) {
-            return false;
-        }
-        i += 1;
-    }
-    true
-}
-
-fn known_operands(held: JobRecord) -> bool
-    requires { held.operand_count ≤ 12 }
-    ensures { result ≡ known_operands held }
-{
-    let records = held.operands;
-    let count = held.operand_count as usize;
-    let mut i: usize = 0;
-    while i < count {
-        let o = records[i];
-        if !entries::operand_known(o) {
-            return false;
-        }
-        i += 1;
-    }
-    true
 }
 
 pub fn known_kinds(held: JobRecord) -> bool
     requires { (held.variable_count ≤ 8) × (held.operand_count ≤ 12) }
     ensures { result ≡ known_kinds held }
 {
-    if !known_variables(held) {
-        return false;
-    }
-    known_operands(held)
+    let variables = held.variable_count as usize;
+    let operands = held.operand_count as usize;
+    held.variables
+        .iter()
+        .take(variables)
+        .all(|v| entries::variable_known(*v))
+        && held
+            .operands
+            .iter()
+            .take(operands)
+            .all(|o| entries::operand_known(*o))
 }

@@ -9,11 +9,8 @@ mod kept;
 mod types;
 
 pub use checks::{annealing_taken, dls_taken, job_refusal};
-pub use entries::{
-    OPERAND_KINDS, follower_of, operand_type, variable_type, zero_operand_record,
-    zero_variable_record,
-};
-pub use jobrecords::{job_of, known_kinds, record_of};
+pub use entries::{OPERAND_KINDS, follower_of, operand_type, variable_type};
+pub use jobrecords::{job_of, known_kinds};
 pub use kept::kept_job;
 pub use types::{
     DlsConfig, DlsRequest, Job, JobRecord, JobRequest, Method, MethodRequest, MultiStartConfig,

@@ -87,7 +87,8 @@ pub struct Job {
     pub method: Method,
 }
 
-// The same in numbers alone, as a row holds it; the row's kind says which settings are used.
+// The same in numbers alone, as a row holds it; the row's kind says which settings are used. Callers in C read and write these
+// records, so kinds, marks and signs are numbers here, and counts stand beside arrays.
 // `follows` is 0 for no follower, 1 for plus, 2 for minus.
 #[repr(C)]
 #[derive(Clone, Copy)]

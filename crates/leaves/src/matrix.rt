@@ -3,7 +3,7 @@ ghost use Rattle.std.specs.Prelude.{◌<◌, ◌≤◌, length};
 ghost use Rattle.normal.specs.Layout.{scratch_length, most_operands, most_variables};
 
 use crate::pieces;
-use normal::{GRADIENT, PRODUCT, STEP, Solved, place, system_place};
+use normal::{GRADIENT, PRODUCT, STEP, place, system_place};
 use streams::console::Console;
 use streams::output;
 use streams::output::Waiting;
@@ -63,9 +63,9 @@ fn put_solved(
     requires fact_1 { scratch_length ≤ length scratch.old }
     requires fact_2 { p ≤ most_variables }
 {
-    let Solved::Yes = normal::solve(scratch, p) else {
+    if !normal::solve(scratch, p) {
         return output::put(console, out, waiting, b" none\n");
-    };
+    }
     let waiting = output::put_floats(console, out, waiting, &scratch[STEP..STEP + p]);
     pieces::end_line(console, out, waiting)
 }

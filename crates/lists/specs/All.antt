@@ -1,6 +1,8 @@
 -- A test of every index below a count. Assumes nothing.
-use Rattle.std.specs.Prelude.{◌≡◌, refl, Bool, true, false, ◌&&◌, ℕ, zero, suc, ◌+◌, ◌<◌, T}
-use Rattle.std.proofs.Common.{inl, inr, eq-or-lt_of_le, le_of_suc-le-suc, add-one, arith}
+use Rattle.std.specs.Prelude.{◌≡◌, refl, Bool, true, false, ◌&&◌, ℕ, zero, suc, ◌+◌, ◌≤◌, ◌<◌, T, List, length, take, get_or}
+use Rattle.std.proofs.Common.{sym, ap, ◌∙◌, inl, inr, eq-or-lt_of_le, le_of_suc-le-suc, add-one, arith}
+use Rattle.std.specs.List.{list_all}
+use Rattle.std.proofs.lemmas.List.Folds.{list_all_more}
 use Rattle.std.specs.Float.Ieee.Fits.{and_i, and_l, and_r}
 
 -- the test holds at 0, .., n-1
@@ -53,3 +55,10 @@ all_same s t (suc n) h = λ i. all_same s t n (λ k l. h k (further k n l)) i &&
 pub all_more : (t : ℕ → Bool) (i : ℕ) → all_below t i ≡ true → t i ≡ true → all_below t (i + 1) ≡ true
 unfolding all_below
 all_more t i a e = rw (add-one, a, e)
+
+-- a test of the first n entries of a list
+pub all-listed : {A : Type 0} (t : A → Bool) (l : List A) (d : A) (n : ℕ) → n ≤ length l → all_below (λ (i : ℕ). t (get_or l i d)) n ≡ list_all t (take n l)
+unfolding all_below
+all-listed t l d zero h = refl
+all-listed t l d (suc n) h =
+    (λ i. all-listed t l d n (omega arith) i && t (get_or l n d)) ∙ sym (list_all_more t l n d h) ∙ ap (λ (k : ℕ). list_all t (take k l)) (add-one n)

@@ -2,7 +2,7 @@
 use mathlib.Core.Path.{◌≡◌, refl, sym, ap, ◌∙◌, subst}
 use mathlib.Core.List.{List}
 use mathlib.Core.Logic.{inl, inr}
-use mathlib.Core.Bool.{Bool, true, false}
+use mathlib.Core.Bool.{true, false}
 use Prim.Native.Nat.{ℕ, ◌+◌, ◌≤◌, ◌<◌}
 use native.Mathlib.Omega.{arith}
 use lib.Dec.{T}
@@ -12,35 +12,23 @@ use lib.Ieee.{Float, nan}
 use Rattle.lists.specs.Parts.{get_or-sets-in, get_or-sets-out}
 use Rattle.normal.specs.Layout.{scratch_length, step_at, most_variables}
 use Rattle.normal.specs.Products.{Matrix}
-use Rattle.normal.specs.Elimination.{eliminated, solvable, unknowns, solution_of}
-use Rattle.normal.specs.Step.{solved_if}
+use Rattle.normal.specs.Elimination.{eliminated, unknowns, solution_of}
 use Rattle.normal.specs.Scratch.{Outside, system_in, SystemStands, Solving}
 use Rattle.normal.specs.Loops.{Live, solved_upward, Eliminated}
-use Rattle.normal.specs.declared.elimination.Solved.TheVariants.{Yes, No}
-use Rattle.normal.proofs.Stages.{no-yes}
 use Rattle.normal.proofs.Upward.{length-unknowns, unknowns-same}
-
--- what the solver's answer says of its test
-pub told-no : (b : Bool) → No ≡ solved_if b → b ≡ false
-told-no true e = absurd (no-yes e)
-told-no false e = refl
-
-pub told-yes : (b : Bool) → Yes ≡ solved_if b → b ≡ true
-told-yes true e = refl
-told-yes false e = absurd (no-yes (sym e))
 
 module _ (p : ℕ) (l l₁ : List Float) where
   live : (a : Matrix) → SystemStands p l a → Live p 0 l a
   live a s i j hi hc hj = s i j hi hj
 
-  pub solve-none : Eliminated p l l₁ No → Solving p l l₁ No
+  pub solve-none : Eliminated p l l₁ false → Solving p l l₁ false
   solve-none e = record {
-    solved = λ a s. record { answer = e.answer a (live a s); solution = λ t. absurd (subst T (told-no (solvable p a) (e.answer a (live a s))) t) };
+    solved = λ a s. record { answer = e.answer a (live a s); solution = λ t. absurd (subst T (sym (e.answer a (live a s))) t) };
     long = e.long;
     rest = λ x o os. e.rest x o;
   }
 
-  module _ (l₂ : List Float) (most : p ≤ most_variables) (enough : scratch_length ≤ length l) (e : Eliminated p l l₁ Yes) (up : l₂ ≡ solved_upward p l₁) where
+  module _ (l₂ : List Float) (most : p ≤ most_variables) (enough : scratch_length ≤ length l) (e : Eliminated p l l₁ true) (up : l₂ ≡ solved_upward p l₁) where
     count : length (unknowns p (system_in l₁) p) ≡ p
     count = length-unknowns p (system_in l₁) p
 
@@ -52,7 +40,7 @@ module _ (p : ℕ) (l l₁ : List Float) where
         ∙ ap (λ (xs : List Float). get_or xs k nan) (unknowns-same p (system_in l₁) (eliminated p a p) (λ i j hi hd hj. e.done a (live a s) refl i j hi
         (omega arith) hj) p (omega arith))
 
-    pub solve-some : Solving p l l₂ Yes
+    pub solve-some : Solving p l l₂ true
     solve-some = record {
       solved = λ a s. record { answer = e.answer a (live a s); solution = λ t. stands a s };
       long = ap length up ∙ length-sets l₁ step_at (unknowns p (system_in l₁) p) ∙ e.long;

@@ -1,6 +1,7 @@
 -- Elimination, column by column: the loop's invariant, and what it leaves. Assumes nothing.
 use mathlib.Core.Path.{◌≡◌, refl, sym, ap, ◌∙◌}
 use mathlib.Core.List.{List}
+use Rattle.std.proofs.lemmas.Bool.{false≢true}
 use mathlib.Core.Bool.{true, false, not}
 use Prim.Native.Nat.{ℕ, suc, ◌+◌, ◌-◌, ◌≤◌, ◌<◌}
 use native.Mathlib.Numerals.{add-one}
@@ -12,15 +13,10 @@ use Rattle.floats.specs.Constants.{zero64}
 use Rattle.normal.specs.Layout.{scratch_length, system_at, system_length, system_place}
 use Rattle.normal.specs.Products.{Matrix}
 use Rattle.normal.specs.Elimination.{pivoted, eliminated, pivot_of, solvable}
-use Rattle.normal.specs.Step.{solved_if}
 use Rattle.normal.specs.Scratch.{Outside}
 use Rattle.normal.specs.Loops.{Live, pivot_brought, rows_reduced, Eliminated}
-use Rattle.normal.specs.declared.elimination.Solved.TheVariants.{Yes, No}
 use Rattle.normal.proofs.Exchange.{brought-live, brought-long, brought-out}
 use Rattle.normal.proofs.Reduce.{reduced-live, rows_long, rows_out}
-
-pub no-yes : No ≡ Yes → ⊥
-no-yes e = let z : ◌≡◌ {A = ℕ} 0 1 = cc in omega arith
 
 -- c columns of the system in l₀ are done in l, and no pivot was zero
 pub record Stage (p c : ℕ) (l₀ l : List Float) : Type 0 where
@@ -33,10 +29,10 @@ pub stage-none : (p : ℕ) (l : List Float) → Stage p 0 l l
 unfolding eliminated all_below
 stage-none p l = record { live = λ a h. h; pivots = λ a h. refl; long = refl; rest = λ x o. refl }
 
-pub stage-all : (p : ℕ) (l₀ l : List Float) → Stage p p l₀ l → Eliminated p l₀ l Yes
+pub stage-all : (p : ℕ) (l₀ l : List Float) → Stage p p l₀ l → Eliminated p l₀ l true
 unfolding solvable
 stage-all p l₀ l s = record {
-  answer = λ a h. ap solved_if (sym (s.pivots a h));
+  answer = λ a h. sym (s.pivots a h);
   done = λ a h e. s.live a h;
   long = s.long;
   rest = s.rest;
@@ -61,13 +57,13 @@ module _ (p c : ℕ) (l₀ l b : List Float) (pivot : Float) (s : Stage p c l₀
   unfolding pivot_of
   pivot-is a h = is ∙ live-b a h c c below (omega arith) (omega arith)
 
-  pub stage-stop : eq pivot zero64 ≡ true → Eliminated p l₀ b No
+  pub stage-stop : eq pivot zero64 ≡ true → Eliminated p l₀ b false
   unfolding solvable
   stage-stop z = record {
-    answer = λ a h. ap solved_if (sym
+    answer = λ a h. sym
         (not-all (λ (k : ℕ). not (eq (pivot_of p a k) zero64)) p c below (ap (λ (x : Float). not (eq x zero64)) (sym (pivot-is a h))
-        ∙ ap not z)));
-    done = λ a h e. absurd (no-yes e);
+        ∙ ap not z));
+    done = λ a h e. absurd (false≢true e);
     long = long-b;
     rest = rest-b;
   }

@@ -1,13 +1,15 @@
 -- One turn of each loop of the elimination, over plain lists and matrices. Assumes nothing.
 use mathlib.Core.Path.{◌≡◌, refl, sym, ap, ◌∙◌}
-use mathlib.Core.List.{List}
+use mathlib.Core.List.{List, [], ◌∷◌}
 use mathlib.Core.Logic.{inl, inr}
 use mathlib.Core.Bool.{Bool, true, false, cond}
 use Prim.Native.Nat.{ℕ, zero, suc, ◌+◌, ◌-◌, ◌≤◌, ◌<◌}
 use native.Mathlib.Nat.{le_refl}
 use native.Mathlib.Omega.{arith}
-use lib.ListN.{get_or, set}
+use lib.ListN.{length, get_or, set}
 use lib.Seq.{sets}
+use Rattle.std.specs.List.{swap}
+use Rattle.std.proofs.lemmas.List.{get_or_default}
 use lib.Ieee.{Float, nan, binary64, sub, mul, div, lt}
 use Rattle.lists.specs.Tab.{tab, get_or-tab}
 use Rattle.floats.specs.Basic.{magnitude}
@@ -18,10 +20,14 @@ use Rattle.normal.specs.Scratch.{system_in}
 use Rattle.normal.specs.Loops.{part_of, parts_exchanged, part_subtracted, unknown_in}
 use Rattle.normal.proofs.Parts.{set-sets, part_step, part_out}
 
+-- two entries exchanged, as writes of one behind the other
+swapped : (l : List Float) (i j : ℕ) → i < length l → j < length l → swap l i j ≡ set (set l i (get_or l j nan)) j (get_or l i nan)
+swapped [] i j h k = absurd (omega (arith, h))
+swapped (d ∷ ys) i j h k = λ t. set (set (d ∷ ys) i (get_or_default (d ∷ ys) j d nan k t)) j (get_or_default (d ∷ ys) i d nan h t)
+
 module _ (l : List Float) (a b n k : ℕ) (apart : a + n ≤ b) (below : k < n) where
-  pub exchange-turn : (p : List Float) → p ≡ parts_exchanged a b k l → set (set p (a + k) (get_or p (b + k) nan)) (b + k) (get_or p (a + k) nan)
-      ≡ parts_exchanged a b (k + 1) l
-  exchange-turn p e =
+  pub exchange-turn : (p : List Float) → p ≡ parts_exchanged a b k l → b + k < length p → swap p (a + k) (b + k) ≡ parts_exchanged a b (k + 1) l
+  exchange-turn p e room =
       let f : ℕ → Float = λ (j : ℕ). get_or l (b + j) nan in
       let g : ℕ → Float = λ (j : ℕ). get_or l (a + j) nan in
       let q : List Float = sets l a (tab f k) in
@@ -35,7 +41,8 @@ module _ (l : List Float) (a b n k : ℕ) (apart : a + n ≤ b) (below : k < n) 
       ap (λ (x : List Float). set x (a + k) (get_or p (b + k) nan)) e
       ∙ set-sets (tab g k) q b (a + k) (get_or p (b + k) nan) (inl (omega arith))
       ∙ ap (λ (x : List Float). sets x b (tab g k)) (part_step f l q a k (a + k) (get_or p (b + k) nan) refl refl lower) in
-      part_step g (sets l a (tab f (k + 1))) (set p (a + k) (get_or p (b + k) nan)) b k (b + k) (get_or p (a + k) nan) first refl upper
+      swapped p (a + k) (b + k) (omega arith) room
+      ∙ part_step g (sets l a (tab f (k + 1))) (set p (a + k) (get_or p (b + k) nan)) b k (b + k) (get_or p (a + k) nan) first refl upper
 
   pub subtract-turn : (factor : Float) (p : List Float) → p ≡ part_subtracted a b k factor l
       → set p (b + k) (sub binary64 (get_or p (b + k) nan) (mul binary64 factor (get_or p (a + k) nan))) ≡ part_subtracted a b (k + 1) factor l

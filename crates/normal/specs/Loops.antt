@@ -1,5 +1,5 @@
 -- What the inner functions leave in scratch. Definitions only: no contract that another crate sees cites one.
-use Rattle.std.specs.Prelude.{◌≡◌, List, cond, ℕ, zero, suc, min, ◌+◌, ◌-◌, ◌≤◌, ◌<◌, eqb, length, get_or, set, Float}
+use Rattle.std.specs.Prelude.{◌≡◌, Bool, true, List, cond, ℕ, zero, suc, min, ◌+◌, ◌-◌, ◌≤◌, ◌<◌, eqb, length, get_or, set, Float}
 use Rattle.std.proofs.lemmas.List.Edits.{sets}
 use Rattle.std.specs.Float.{nan, binary64}
 use Rattle.std.specs.Float.Ieee.{sub, mul, div}
@@ -8,9 +8,6 @@ use Rattle.normal.specs.Layout.{product_at, system_at, system_length, gradient_a
 use Rattle.normal.specs.Products.{Matrix, Vector, normal_product, gradient_of}
 use Rattle.normal.specs.Damping.{damped_system}
 use Rattle.normal.specs.Elimination.{pivot_row, eliminated, solvable, right_side, unknowns}
-use Rattle.normal.specs.Step.{solved_if}
-use Rattle.normal.specs.declared.elimination.Solved.{Solved}
-use Rattle.normal.specs.declared.elimination.Solved.TheVariants.{Yes}
 use Rattle.normal.specs.Scratch.{Outside, product_in, system_in, gradient_in}
 
 -- ---- elimination
@@ -19,9 +16,9 @@ use Rattle.normal.specs.Scratch.{Outside, product_in, system_in, gradient_in}
 abbrev pub Live : ℕ → ℕ → List Float → Matrix → Type 0
 Live p c l a = (i j : ℕ) → i < p → min i c ≤ j → j ≤ p → get_or l (system_place i j) nan ≡ a i j
 
-pub record Eliminated (p : ℕ) (l l' : List Float) (r : Solved) : Type 0 where
-  pub answer : (a : Matrix) → Live p 0 l a → r ≡ solved_if (solvable p a)
-  pub done : (a : Matrix) → Live p 0 l a → r ≡ Yes → Live p p l' (eliminated p a p)
+pub record Eliminated (p : ℕ) (l l' : List Float) (r : Bool) : Type 0 where
+  pub answer : (a : Matrix) → Live p 0 l a → r ≡ solvable p a
+  pub done : (a : Matrix) → Live p 0 l a → r ≡ true → Live p p l' (eliminated p a p)
   pub long : length l' ≡ length l
   pub rest : (x : ℕ) → Outside system_at system_length x → get_or l' x nan ≡ get_or l x nan
 

@@ -1,11 +1,10 @@
 -- What stands in scratch, whose numbers are a list, before and after the calls that other crates make. Definitions only.
-use Rattle.std.specs.Prelude.{◌≡◌, List, ◌⊎◌, ℕ, ◌+◌, ◌≤◌, ◌<◌, T, length, get_or, Float}
+use Rattle.std.specs.Prelude.{◌≡◌, Bool, List, ◌⊎◌, ℕ, ◌+◌, ◌≤◌, ◌<◌, T, length, get_or, Float}
 use Rattle.std.specs.Float.{nan}
 use Rattle.normal.specs.Layout.{product_at, product_length, system_at, system_length, gradient_at, step_at, most_variables, place, system_place}
 use Rattle.normal.specs.Products.{Matrix, Vector, normal_product, gradient_of, norm_of}
 use Rattle.normal.specs.Elimination.{solvable, solution_of}
-use Rattle.normal.specs.Step.{step_of, step_found, solved_if}
-use Rattle.normal.specs.declared.elimination.Solved.{Solved}
+use Rattle.normal.specs.Step.{step_of, step_found}
 
 -- the product matrix that stands in its part
 abbrev pub product_in : List Float → Matrix
@@ -40,22 +39,22 @@ abbrev pub SystemStands : ℕ → List Float → Matrix → Type 0
 SystemStands p l a = (i j : ℕ) → i < p → j ≤ p → get_or l (system_place i j) nan ≡ a i j
 
 -- the solver's answer r, and beside it, in scratch l', the solution
-pub record Solution (p : ℕ) (a : Matrix) (l' : List Float) (r : Solved) : Type 0 where
-  pub answer : r ≡ solved_if (solvable p a)
+pub record Solution (p : ℕ) (a : Matrix) (l' : List Float) (r : Bool) : Type 0 where
+  pub answer : r ≡ solvable p a
   pub solution : T (solvable p a) → (k : ℕ) → k < p → get_or l' (step_at + k) nan ≡ get_or (solution_of p a) k nan
 
 -- scratch l became l' and r was answered: whatever system stood there is solved, and nothing else changed but the system's part
-pub record Solving (p : ℕ) (l l' : List Float) (r : Solved) : Type 0 where
+pub record Solving (p : ℕ) (l l' : List Float) (r : Bool) : Type 0 where
   pub solved : (a : Matrix) → SystemStands p l a → Solution p a l' r
   pub long : length l' ≡ length l
   pub rest : (x : ℕ) → Outside system_at system_length x → Outside step_at most_variables x → get_or l' x nan ≡ get_or l x nan
 
 -- the same for an attempt: a step is found or not, and where it is found it stands in its part
-pub record Attempted (p : ℕ) (damping : Float) (h : Matrix) (g : Vector) (l' : List Float) (r : Solved) : Type 0 where
-  pub answer : r ≡ solved_if (step_found p damping h g)
+pub record Attempted (p : ℕ) (damping : Float) (h : Matrix) (g : Vector) (l' : List Float) (r : Bool) : Type 0 where
+  pub answer : r ≡ step_found p damping h g
   pub step : T (step_found p damping h g) → (k : ℕ) → k < p → get_or l' (step_at + k) nan ≡ get_or (step_of p damping h g) k nan
 
-pub record Attempt (p : ℕ) (damping : Float) (l l' : List Float) (r : Solved) : Type 0 where
+pub record Attempt (p : ℕ) (damping : Float) (l l' : List Float) (r : Bool) : Type 0 where
   pub attempted : (h : Matrix) (g : Vector) → Stands p l h g → Attempted p damping h g l' r
   pub long : length l' ≡ length l
   pub rest : (x : ℕ) → Outside system_at system_length x → Outside step_at most_variables x → get_or l' x nan ≡ get_or l x nan

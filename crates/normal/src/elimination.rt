@@ -10,13 +10,6 @@ ghost use Rattle.normal.specs.Loops.{parts_exchanged, pivot_brought, part_subtra
 use crate::layout::{STEP, system_place};
 use floats::abs;
 
-// Whether there is a solution, which stands beside it.
-#[derive(Clone, Copy)]
-pub enum Solved {
-    Yes,
-    No,
-}
-
 // The row with the largest magnitude in column c, on or below the diagonal; the upper one on ties.
 fn pivot_row(scratch: &[f64], p: usize, c: usize) -> usize
     requires fact_1 { scratch_length ≤ length scratch.now }
@@ -43,9 +36,7 @@ fn exchange(scratch: &mut [f64], a: usize, b: usize, n: usize)
     ensures { scratch.new ≡ parts_exchanged a b n scratch.old }
 {
     for k in 0..n {
-        let x = scratch[a + k];
-        scratch[a + k] = scratch[b + k];
-        scratch[b + k] = x;
+        scratch.swap(a + k, b + k);
     }
 }
 
@@ -108,7 +99,7 @@ fn reduce_below(scratch: &mut [f64], p: usize, c: usize, pivot: f64)
 }
 
 // Column by column; a zero pivot means no solution.
-fn eliminate(scratch: &mut [f64], p: usize) -> Solved
+fn eliminate(scratch: &mut [f64], p: usize) -> bool
     requires fact_1 { scratch_length ≤ length scratch.old }
     requires fact_2 { p ≤ most_variables }
     ensures { Eliminated p scratch.old scratch.new result }
@@ -116,11 +107,11 @@ fn eliminate(scratch: &mut [f64], p: usize) -> Solved
     for c in 0..p {
         let pivot = bring_pivot(scratch, p, c);
         if pivot == 0.0 {
-            return Solved::No;
+            return false;
         }
         reduce_below(scratch, p, c, pivot);
     }
-    Solved::Yes
+    true
 }
 
 // Unknown i, where those behind it are known.
@@ -148,17 +139,16 @@ fn solve_upward(scratch: &mut [f64], p: usize)
     }
 }
 
-// Solves the system that stands in scratch. The solution stands there too, as the step.
+// Solves the system that stands in scratch, and answers whether it has a solution, which then stands there too, as the step.
 // dls.rs: `a_mat.lu()` and `lu.solve`
-pub fn solve(scratch: &mut [f64], p: usize) -> Solved
+pub fn solve(scratch: &mut [f64], p: usize) -> bool
     requires fact_1 { scratch_length ≤ length scratch.old }
     requires fact_2 { p ≤ most_variables }
     ensures { Solving p scratch.old scratch.new result }
 {
-    let eliminated = eliminate(scratch, p);
-    let Solved::Yes = eliminated else {
-        return Solved::No;
-    };
+    if !eliminate(scratch, p) {
+        return false;
+    }
     solve_upward(scratch, p);
-    Solved::Yes
+    true
 }

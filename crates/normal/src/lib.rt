@@ -11,7 +11,7 @@ mod products;
 mod step;
 
 pub use damping::Damping;
-pub use elimination::{Solved, solve};
+pub use elimination::solve;
 pub use jacobian::{delta, denominator, jacobian_column, minus_value, plus_value};
 pub use layout::{GRADIENT, PRODUCT, SCRATCH, STEP, place, system_place};
 pub use products::normal_equations;

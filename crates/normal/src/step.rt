@@ -5,12 +5,11 @@ ghost use Rattle.lists.specs.All.{all_below};
 ghost use Rattle.floats.specs.Basic.{finite_of};
 ghost use Rattle.normal.specs.Layout.{scratch_length, step_at, most_variables};
 ghost use Rattle.normal.specs.Damping.{damped_system};
-ghost use Rattle.normal.specs.Step.{solved_if};
 ghost use Rattle.normal.specs.Scratch.{product_in, gradient_in, Attempt};
 ghost use Rattle.normal.specs.Loops.{with_system_row, with_system};
 
 use crate::damping::{Damping, damped_diagonal};
-use crate::elimination::{Solved, solve};
+use crate::elimination::solve;
 use crate::layout::{GRADIENT, PRODUCT, STEP, place, system_place};
 use floats::is_finite;
 
@@ -57,30 +56,22 @@ fn system(scratch: &mut [f64], p: usize, damping: f64)
 }
 
 // dls.rs: `dx.iter().all(|&v| v.is_finite())`
-fn all_finite(scratch: &[f64], p: usize) -> Solved
+fn all_finite(scratch: &[f64], p: usize) -> bool
     requires fact_1 { scratch_length ≤ length scratch.now }
     requires fact_2 { p ≤ most_variables }
-    ensures { result ≡ solved_if (all_below (λ (k : ℕ). finite_of (get_or scratch.now (step_at + k) nan)) p) }
+    ensures { result ≡ all_below (λ (k : ℕ). finite_of (get_or scratch.now (step_at + k) nan)) p }
 {
-    for k in 0..p {
-        if !is_finite(scratch[STEP + k]) {
-            return Solved::No;
-        }
-    }
-    Solved::Yes
+    scratch[STEP..STEP + p].iter().all(|x| is_finite(*x))
 }
 
-// Solves the damped system of the product matrix and the gradient that stand in scratch; the step stands there too.
+// Solves the damped system of the product matrix and the gradient that stand in scratch, and answers whether there is a step,
+// which then stands there too.
 // dls.rs: an attempt, as far as `dx`
-pub fn attempt_step(scratch: &mut [f64], p: usize, damping: Damping) -> Solved
+pub fn attempt_step(scratch: &mut [f64], p: usize, damping: Damping) -> bool
     requires fact_1 { scratch_length ≤ length scratch.old }
     requires fact_2 { p ≤ most_variables }
     ensures { Attempt p damping.value scratch.old scratch.new result }
 {
     system(scratch, p, damping.value);
-    let solved = solve(scratch, p);
-    let Solved::Yes = solved else {
-        return Solved::No;
-    };
-    all_finite(scratch, p)
+    solve(scratch, p) && all_finite(scratch, p)
 }

@@ -23,13 +23,11 @@ pub fn lay_flat(surfaces: [OpticalSurface; 16], count: usize, flat: &mut [f64])
     requires { (count ≤ 16) × (4 * count ≤ length flat.old) }
     ensures { flat.new ≡ laid_flat surfaces count ++ drop (4 * count) flat.old }
 {
-    let mut k = 0;
-    while k < count {
+    for k in 0..count {
         let s = surfaces[k];
         flat[4 * k] = s.radius_mm;
         flat[4 * k + 1] = s.conic_constant;
         flat[4 * k + 2] = s.thickness_mm;
         flat[4 * k + 3] = s.semi_diameter_mm;
-        k += 1;
     }
 }

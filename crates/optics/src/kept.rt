@@ -8,10 +8,7 @@ use crate::types::{OpticalPrescription, OpticalSurface};
 pub fn lens_counts_taken(surfaces: usize, slots: usize) -> bool
     ensures { result ≡ lens_counts_taken surfaces slots }
 {
-    if surfaces > 16 {
-        return false;
-    }
-    1 <= slots && slots <= 4
+    surfaces <= 16 && 1 <= slots && slots <= 4
 }
 
 pub fn zero_surface() -> OpticalSurface
@@ -29,11 +26,8 @@ fn kept_surfaces(surfaces: [OpticalSurface; 16], count: usize) -> [OpticalSurfac
     ensures { result ≡ kept_surfaces count surfaces }
 {
     let mut kept = surfaces;
-    let mut i = count;
-    while i < 16 {
-        let zero = zero_surface();
-        kept[i] = zero;
-        i += 1;
+    for i in count..16 {
+        kept[i] = zero_surface();
     }
     kept
 }
@@ -48,12 +42,10 @@ fn kept_indices(indices: [f64; 64], count: usize, slots: usize) -> [f64; 64]
     ensures { result ≡ kept_indices count slots indices }
 {
     let mut kept = indices;
-    let mut k: usize = 0;
-    while k < 64 {
+    for (k, index) in kept.iter_mut().enumerate() {
         if !index_used(count, slots, k) {
-            kept[k] = 0.0;
+            *index = 0.0;
         }
-        k += 1;
     }
     kept
 }
@@ -61,15 +53,13 @@ fn kept_indices(indices: [f64; 64], count: usize, slots: usize) -> [f64; 64]
 pub fn kept_prescription(prescription: OpticalPrescription) -> OpticalPrescription
     ensures { result ≡ kept_prescription prescription }
 {
-    let surfaces = prescription.surfaces;
-    let indices = prescription.indices;
-    let surfaces_kept = kept_surfaces(surfaces, prescription.surface_count);
-    let indices_kept = kept_indices(indices, prescription.surface_count, prescription.slot_count);
     OpticalPrescription {
-        surfaces: surfaces_kept,
-        indices: indices_kept,
-        surface_count: prescription.surface_count,
-        slot_count: prescription.slot_count,
-        entrance_pupil_diameter_mm: prescription.entrance_pupil_diameter_mm,
+        surfaces: kept_surfaces(prescription.surfaces, prescription.surface_count),
+        indices: kept_indices(
+            prescription.indices,
+            prescription.surface_count,
+            prescription.slot_count,
+        ),
+        ..prescription
     }
 }

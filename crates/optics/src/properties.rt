@@ -21,13 +21,9 @@ fn ends_in_detector(flat: &[f64], indices: &[f64], slot: usize, count: usize) ->
 {
     let before = count - 2;
     let last = count - 1;
-    if !is_negligible(indices[before * 4 + slot] - indices[last * 4 + slot]) {
-        return false;
-    }
-    if !is_negligible(curvature_of(flat[4 * last])) {
-        return false;
-    }
-    flat[4 * last + 2] == 0.0
+    is_negligible(indices[before * 4 + slot] - indices[last * 4 + slot])
+        && is_negligible(curvature_of(flat[4 * last]))
+        && flat[4 * last + 2] == 0.0
 }
 
 // How far behind its surface a ray meets the axis.
@@ -76,13 +72,12 @@ fn slot_properties(
     requires { (slot < 4) × (2 ≤ count) × (4 * count ≤ length flat.now) × (4 * count ≤ length indices.now) }
     ensures { result ≡ properties_behind rays (flat_surface flat.now) (slot_index indices.now slot) pupil count }
 {
-    let last = rays.last;
-    let before = rays.before;
-    let height = pupil * 0.5;
-    if ends_in_detector(flat, indices, slot, count) {
-        return properties_from(height, pupil, last, before);
-    }
-    properties_from(height, pupil, last, last)
+    let back = if ends_in_detector(flat, indices, slot, count) {
+        rays.before
+    } else {
+        rays.last
+    };
+    properties_from(pupil * 0.5, pupil, rays.last, back)
 }
 
 // The properties of `count` surfaces laid flat, in every slot. Fewer than two surfaces are a failed trace, which has none.
@@ -100,11 +95,8 @@ pub fn paraxial_slots(
         return slots;
     }
     let last = last_rays(flat, indices, count, pupil);
-    let mut w: usize = 0;
-    while w < 4 {
-        let properties = slot_properties(last[w], flat, indices, w, count, pupil);
-        slots[w] = Some(properties);
-        w += 1;
+    for w in 0..4 {
+        slots[w] = Some(slot_properties(last[w], flat, indices, w, count, pupil));
     }
     slots
 }
@@ -120,6 +112,5 @@ pub fn paraxial(
     requires { (slot < 4) × (4 * count ≤ length flat.now) × (4 * count ≤ length indices.now) }
     ensures { result ≡ paraxial_of (flat_surface flat.now) (slot_index indices.now slot) pupil count }
 {
-    let slots = paraxial_slots(flat, indices, count, pupil);
-    slots[slot]
+    paraxial_slots(flat, indices, count, pupil)[slot]
 }

@@ -16,10 +16,8 @@ fn next_rays(rays: [ArrivingRay; 4], flat: &[f64], indices: &[f64], k: usize) ->
     let curvature = curvature_of(flat[4 * k]);
     let thickness = flat[4 * k + 2];
     let mut next = rays;
-    let mut w: usize = 0;
-    while w < 4 {
+    for w in 0..4 {
         next[w] = ray_behind(rays[w], curvature, thickness, indices[k * 4 + w]);
-        w += 1;
     }
     next
 }
@@ -29,13 +27,10 @@ fn arriving_rays(flat: &[f64], indices: &[f64], count: usize, pupil: f64) -> [Ar
     requires { (4 * count ≤ length flat.now) × (4 * count ≤ length indices.now) }
     ensures { result ≡ tab (λ (w : ℕ). arriving (flat_surface flat.now) (slot_index indices.now w) pupil count) 4 }
 {
-    let start = start_of(pupil);
-    let mut rays = [start; 4];
-    let mut k = 0;
-    while k < count {
+    let mut rays = [start_of(pupil); 4];
+    for k in 0..count {
         let next = next_rays(rays, flat, indices, k);
         rays = next;
-        k += 1;
     }
     rays
 }
@@ -71,10 +66,8 @@ pub(crate) fn last_rays(flat: &[f64], indices: &[f64], count: usize, pupil: f64)
         last: nothing,
     };
     let mut last = [none; 4];
-    let mut w: usize = 0;
-    while w < 4 {
+    for w in 0..4 {
         last[w] = rays_between(first[w], second[w], third[w]);
-        w += 1;
     }
     last
 }

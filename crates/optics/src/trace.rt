@@ -8,14 +8,12 @@ ghost use Rattle.optics.specs.Trace.{start, ray_behind, onward, ray_at};
 use crate::types::ArrivingRay;
 
 // What stands in for `ConicSurface::from_radius`.
+#[tactic(auto, using(floats::specs::Constants::infinite), unfolding(crate::specs::Curvature::curvature))]
 pub fn curvature_of(radius: f64) -> f64
     ensures { result ≡ curvature radius }
 {
     let size = floats::abs(radius);
-    if size == 1.0 / 0.0 {
-        return 0.0;
-    }
-    if size < 1e-15 {
+    if size == 1.0 / 0.0 || size < 1e-15 {
         return 0.0;
     }
     1.0 / radius
@@ -81,11 +79,9 @@ pub fn trace_heights(
         ++ drop count slopes.old }
 {
     let mut ray = start_of(pupil);
-    let mut k = 0;
-    while k < count {
+    for k in 0..count {
         heights[k] = ray.y;
         ray = next_ray(ray, flat, indices, slot, k);
         slopes[k] = ray.u;
-        k += 1;
     }
 }

@@ -20,47 +20,36 @@ fn is_given(given: u64, weight: u64) -> bool
 fn dls_request(s: SettingsRecord, given: u64) -> DlsRequest
     ensures { result ≡ dls_request s given }
 {
-    let iterations = is_given(given, 1).then_some(s.max_iterations);
-    let damping = is_given(given, 2).then_some(s.initial_damping);
-    let merit_tolerance = is_given(given, 4).then_some(s.relative_merit_tolerance);
-    let gradient_tolerance = is_given(given, 8).then_some(s.gradient_tolerance);
-    let relative_step = is_given(given, 16).then_some(s.finite_difference_relative_step);
     DlsRequest {
-        max_iterations: iterations,
-        initial_damping: damping,
-        relative_merit_tolerance: merit_tolerance,
-        gradient_tolerance: gradient_tolerance,
-        finite_difference_relative_step: relative_step,
+        max_iterations: is_given(given, 1).then_some(s.max_iterations),
+        initial_damping: is_given(given, 2).then_some(s.initial_damping),
+        relative_merit_tolerance: is_given(given, 4).then_some(s.relative_merit_tolerance),
+        gradient_tolerance: is_given(given, 8).then_some(s.gradient_tolerance),
+        finite_difference_relative_step: is_given(given, 16).then_some(
+            s.finite_difference_relative_step,
+        ),
     }
 }
 
 fn multi_start_request(s: SettingsRecord, given: u64) -> MultiStartRequest
     ensures { result ≡ multi_start_request s given }
 {
-    let local = dls_request(s, given);
-    let trials = is_given(given, 32).then_some(s.num_trials);
-    let seed = is_given(given, 1024).then_some(s.seed);
     MultiStartRequest {
-        local_dls_config: local,
-        num_trials: trials,
-        seed: seed,
+        local_dls_config: dls_request(s, given),
+        num_trials: is_given(given, 32).then_some(s.num_trials),
+        seed: is_given(given, 1024).then_some(s.seed),
     }
 }
 
 fn annealing_request(s: SettingsRecord, given: u64) -> SimulatedAnnealingRequest
     ensures { result ≡ annealing_request s given }
 {
-    let temperature = is_given(given, 64).then_some(s.initial_temperature);
-    let cooling = is_given(given, 128).then_some(s.cooling_rate);
-    let steps = is_given(given, 256).then_some(s.steps_per_temperature);
-    let cycles = is_given(given, 512).then_some(s.max_cooling_cycles);
-    let seed = is_given(given, 1024).then_some(s.seed);
     SimulatedAnnealingRequest {
-        initial_temperature: temperature,
-        cooling_rate: cooling,
-        steps_per_temperature: steps,
-        max_cooling_cycles: cycles,
-        seed: seed,
+        initial_temperature: is_given(given, 64).then_some(s.initial_temperature),
+        cooling_rate: is_given(given, 128).then_some(s.cooling_rate),
+        steps_per_temperature: is_given(given, 256).then_some(s.steps_per_temperature),
+        max_cooling_cycles: is_given(given, 512).then_some(s.max_cooling_cycles),
+        seed: is_given(given, 1024).then_some(s.seed),
     }
 }
 
@@ -77,37 +66,23 @@ fn method_request(kind: u64, s: SettingsRecord, given: u64) -> MethodRequest
 pub fn request_of(asked: RequestRecord) -> JobRequest
     ensures { result ≡ request_of asked }
 {
-    let held = asked.job;
-    let settings = held.settings;
-    let job = jobs::job_of(asked.kind, held);
-    let prescription = job.prescription;
-    let variables = job.variables;
-    let function = job.merit_function;
-    let method = method_request(asked.kind, settings, asked.given);
+    let job = jobs::job_of(asked.kind, asked.job);
     JobRequest {
-        prescription: prescription,
-        variables: variables,
-        merit_function: function,
-        method: method,
+        prescription: job.prescription,
+        variables: job.variables,
+        merit_function: job.merit_function,
+        method: method_request(asked.kind, asked.job.settings, asked.given),
     }
 }
 
 // Whether each number for a kind is one, and each bit of `given` names a setting.
+#[tactic(auto, unfolding(crate::specs::Requests::is_request))]
 pub fn is_request(asked: RequestRecord) -> bool
     ensures { result ≡ is_request asked }
 {
-    if !kinds::is_kind(asked.kind) {
-        return false;
-    }
-    if asked.given > 2047 {
-        return false;
-    }
-    let held = asked.job;
-    if held.variable_count > 8 {
-        return false;
-    }
-    if held.operand_count > 12 {
-        return false;
-    }
-    jobs::known_kinds(held)
+    kinds::is_kind(asked.kind)
+        && asked.given <= 2047
+        && asked.job.variable_count <= 8
+        && asked.job.operand_count <= 12
+        && jobs::known_kinds(asked.job)
 }

@@ -8,7 +8,7 @@ use crate::began::began;
 use crate::types::RowAnswer;
 use crate::zeros;
 use held::HeldRow;
-use jobs::JobRequest;
+use jobs::{JobRecord, JobRequest};
 
 // What refuses an admission: 1, 2, 3 to 8, and 10 where the place is occupied.
 pub fn admit_number(place: usize, occupied: bool, request: JobRequest) -> u32
@@ -43,7 +43,7 @@ pub fn admit_row(held: HeldRow, place: usize, request: JobRequest) -> RowAnswer
         };
     }
     let job = defaults::job_from(request);
-    let record = jobs::record_of(job);
+    let record = JobRecord::from(job);
     let admitted = began(record, job);
     let left = heldrows::held_of(admitted);
     RowAnswer {

@@ -11,10 +11,10 @@ pub fn surface_index(kind: VariableType) -> usize
     ensures { result ≡ surface_index kind }
 {
     match kind {
-        VariableType::Curvature(i) => i,
-        VariableType::Thickness(i) => i,
-        VariableType::Conic(i) => i,
-        VariableType::SemiDiameter(i) => i,
+        VariableType::Curvature(i)
+        | VariableType::Thickness(i)
+        | VariableType::Conic(i)
+        | VariableType::SemiDiameter(i) => i,
     }
 }
 
@@ -46,7 +46,7 @@ pub fn no_surface() -> OpticalSurface
 pub fn apply_clamp(x: f64, lo: f64, hi: f64) -> f64
     ensures { result ≡ apply_clamp x lo hi }
 {
-    if x != x {
+    if x.is_nan() {
         return lo;
     }
     floats::clamp(x, lo, hi)
@@ -66,23 +66,22 @@ fn radius_of(curvature: f64) -> f64
 pub fn with_value(surface: OpticalSurface, kind: VariableType, value: f64) -> OpticalSurface
     ensures { result ≡ with_value surface kind value }
 {
-    let mut s = surface;
     match kind {
-        VariableType::Curvature(_) => {
-            s.radius_mm = radius_of(value);
-            s
-        }
-        VariableType::Thickness(_) => {
-            s.thickness_mm = value;
-            s
-        }
-        VariableType::Conic(_) => {
-            s.conic_constant = value;
-            s
-        }
-        VariableType::SemiDiameter(_) => {
-            s.semi_diameter_mm = value;
-            s
-        }
+        VariableType::Curvature(_) => OpticalSurface {
+            radius_mm: radius_of(value),
+            ..surface
+        },
+        VariableType::Thickness(_) => OpticalSurface {
+            thickness_mm: value,
+            ..surface
+        },
+        VariableType::Conic(_) => OpticalSurface {
+            conic_constant: value,
+            ..surface
+        },
+        VariableType::SemiDiameter(_) => OpticalSurface {
+            semi_diameter_mm: value,
+            ..surface
+        },
     }
 }

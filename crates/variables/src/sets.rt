@@ -9,14 +9,9 @@ pub fn num_active(v: VariableSet) -> usize
     requires { v.variable_count ≤ 8 }
     ensures { result ≡ num_active v }
 {
-    let mut p: usize = 0;
-    let mut i: usize = 0;
-    while i < v.variable_count {
-        let d = v.variables[i];
-        if d.enabled {
-            p += 1;
-        }
-        i += 1;
-    }
-    p
+    v.variables
+        .iter()
+        .take(v.variable_count)
+        .filter(|d| d.enabled)
+        .count()
 }

@@ -9,13 +9,7 @@ use crate::types::{Follower, VariableDef, VariableSet, VariableType};
 fn bounds_taken(lo: f64, hi: f64) -> bool
     ensures { result ≡ bounds_taken lo hi }
 {
-    if !optics::is_within(lo) {
-        return false;
-    }
-    if !optics::is_within(hi) {
-        return false;
-    }
-    lo <= hi
+    optics::is_within(lo) && optics::is_within(hi) && lo <= hi
 }
 
 fn step_taken(step: f64) -> bool
@@ -36,20 +30,14 @@ fn lower_bound_taken(kind: VariableType, lo: f64) -> bool
     }
 }
 
+#[tactic(auto, unfolding(crate::specs::Taken::variable_taken))]
 pub fn variable_taken(v: VariableDef, surface_count: usize) -> bool
     ensures { result ≡ variable_taken surface_count v }
 {
-    let kind = v.var_type;
-    if quantities::surface_index(kind) >= surface_count {
-        return false;
-    }
-    if !bounds_taken(v.min_value, v.max_value) {
-        return false;
-    }
-    if !step_taken(v.step_size) {
-        return false;
-    }
-    lower_bound_taken(kind, v.min_value)
+    quantities::surface_index(v.var_type) < surface_count
+        && bounds_taken(v.min_value, v.max_value)
+        && step_taken(v.step_size)
+        && lower_bound_taken(v.var_type, v.min_value)
 }
 
 // Enabled or not.
@@ -57,15 +45,10 @@ pub fn variables_taken(v: VariableSet, surface_count: usize) -> bool
     requires { v.variable_count ≤ 8 }
     ensures { result ≡ variables_taken surface_count v }
 {
-    let mut i: usize = 0;
-    while i < v.variable_count {
-        let d = v.variables[i];
-        if !variable_taken(d, surface_count) {
-            return false;
-        }
-        i += 1;
-    }
-    true
+    v.variables
+        .iter()
+        .take(v.variable_count)
+        .all(|d| variable_taken(*d, surface_count))
 }
 
 // A semi-diameter or thickness has no follower with minus.
@@ -95,15 +78,8 @@ pub fn followers_taken(v: VariableSet, surface_count: usize) -> bool
     requires { v.variable_count ≤ 8 }
     ensures { result ≡ followers_taken surface_count v }
 {
-    let mut i: usize = 0;
-    while i < v.variable_count {
-        let d = v.variables[i];
-        let kind = d.var_type;
-        let follower = d.follower;
-        if !follower_taken(kind, follower, surface_count) {
-            return false;
-        }
-        i += 1;
-    }
-    true
+    v.variables
+        .iter()
+        .take(v.variable_count)
+        .all(|d| follower_taken(d.var_type, d.follower, surface_count))
 }

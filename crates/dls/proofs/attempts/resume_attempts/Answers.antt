@@ -1,9 +1,7 @@
 -- `dls::attempts::resume_attempts` meets its contract: the loop's invariant is `Trying`. Assumes nothing.
-use mathlib.Core.Path.{◌≡◌}
 use mathlib.Core.List.{[]}
 use native.Mathlib.Omega.{arith}
 use Rattle.variables.proofs.CallerLaws.{active-le}
-use Rattle.normal.specs.declared.elimination.Solved.TheVariants.{Yes, No}
 use Rattle.held.specs.JobFrom.{variables_from}
 use Rattle.dls.proofs.Trying.{trying-begin, trying-on, trying-found, trying-over}
 use Rattle.std.proofs.Common.{rules}
@@ -12,8 +10,8 @@ use Rattle.dls.proofs.attempts.resume_attempts.Goals as goal
 pub loop-k-init : goal.loop-k-init
 loop-k-init c = λ s v r. trying-begin
 
-pub attempt_step-solved-requires : goal.attempt_step-solved-requires
-attempt_step-solved-requires c =
+pub attempt_step-requires : goal.attempt_step-requires
+attempt_step-requires c =
     omega (
       arith,
       active-le (variables_from c.args.counts.now
@@ -23,22 +21,21 @@ attempt_step-solved-requires c =
 
 pub loop-k-preserved : goal.loop-k-preserved
 loop-k-preserved c = λ s v r.
-    let a = c.attempt_step-solved in
-    let no : a.result ≡ No = cc in
+    let a = c.attempt_step in
     trying-on (c.loop-k.invariant s v r)
     c.requires.fact_4 (omega arith) a.ensures
     (omega (
       arith,
       active-le (variables_from c.args.counts.now
           c.args.numbers.now),
-    )) no c.raise-raised.ensures
+    )) c.if-not-attempt_step.true c.raise-raised.ensures
 
 pub candidate_params-found-requires : goal.candidate_params-found-requires
 candidate_params-found-requires c =
     omega (
       arith,
       (c.loop-k.invariant [] [] []).kept.long,
-      c.attempt_step-solved.ensures.long,
+      c.attempt_step.ensures.long,
     )
 
 pub shape_of-scratch-in-loop-k : goal.shape_of-scratch-in-loop-k
@@ -47,11 +44,10 @@ shape_of-scratch-in-loop-k c = let k = (c.loop-k.invariant [] [] []).kept in
 
 pub returns-in-loop-k : goal.returns-in-loop-k
 returns-in-loop-k c = λ s v r.
-    let a = c.attempt_step-solved in
-    let yes : a.result ≡ Yes = cc in
+    let a = c.attempt_step in
     trying-found (c.loop-k.invariant s v r)
     c.requires.fact_4
-    (omega arith) a.ensures yes c.candidate_params-found.ensures
+    (omega arith) a.ensures c.if-not-attempt_step.false c.candidate_params-found.ensures
     (c.at_candidate.ensures s
     c.args.jacobian.now
     v r c.args.params.now)

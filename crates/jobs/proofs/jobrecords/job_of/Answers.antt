@@ -1,13 +1,24 @@
--- `jobs::jobrecords::job_of` meets its contract. Assumes nothing.
+-- `jobs::jobrecords::job_of` meets its contract: what an array is mapped to is the list made by the rule. Assumes nothing.
+use Rattle.std.proofs.Common.{of_calls}
+use Rattle.variables.specs.Active.{no_variable}
+use Rattle.merit.specs.OperandTable.{no_operand}
+use Rattle.jobs.specs.Entries.{variable_of, operand_of, no_variable_record, no_operand_record}
 use Rattle.jobs.specs.Records.{job_of}
+use Rattle.jobs.proofs.Mapped.{mapped}
 use Rattle.jobs.proofs.jobrecords.job_of.Goals as goal
 
 pub returns : goal.returns
 returns c =
-    let x = c.args in
+    let x = c.args.held in
+    let v = c.map-variables.ensures.items in
+    let o = c.map-operands.ensures.items in
+    let variables = mapped variable_of x.variables c.map-variables.result 8 no_variable_record no_variable v.long
+    (λ i h. let q = (v.at i no_variable_record no_variable h).2.met in search of_calls) in
+    let operands = mapped operand_of x.operands c.map-operands.result 12 no_operand_record no_operand o.long
+    (λ i h. let q = (o.at i no_operand_record no_operand h).2.met in search of_calls) in
     λ i. record {
-      prescription = (job_of x.kind x.held).prescription;
-      variables = record { variables = c.variables_of-read_variables.ensures i; variable_count = x.held.variable_count };
-      merit_function = record { operands = c.operands_of-read_operands.ensures i; operand_count = x.held.operand_count };
-      method = c.method_from-method.ensures i;
+      prescription = (job_of c.args.kind x).prescription;
+      variables = record { variables = variables i; variable_count = x.variable_count };
+      merit_function = record { operands = operands i; operand_count = x.operand_count };
+      method = c.method_from.ensures i;
     }

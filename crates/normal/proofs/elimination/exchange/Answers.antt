@@ -1,7 +1,6 @@
 -- `normal::elimination::exchange` meets its contract: the parts are exchanged as far as the loop has come. Assumes nothing.
-use mathlib.Core.Path.{◌≡◌}
+use mathlib.Core.Path.{◌≡◌, ◌∙◌}
 use native.Mathlib.Omega.{arith}
-use lib.ListN.{length-set}
 use Rattle.lists.specs.Tab.{tab}
 use Rattle.normal.proofs.Turns.{exchange-turn}
 use Rattle.std.proofs.Common.{rules}
@@ -11,15 +10,12 @@ pub loop-k-init : goal.loop-k-init
 unfolding tab
 loop-k-init c = search rules
 
-pub bounds-scratch-b-in-loop-k : goal.bounds-scratch-b-in-loop-k
-bounds-scratch-b-in-loop-k c = simp length-set (omega arith)
-
 pub loop-k-preserved : goal.loop-k-preserved
 loop-k-preserved c =
-    let l = c in (
-      simp length-set (omega arith),
-      exchange-turn l.args.scratch.now l.args.a l.args.b l.args.n
-          l.loop-k.k (search rules) (omega arith) _ l.loop-k.invariant.1,
+    let x = c.args in (
+      c.swap.ensures.len ∙ c.loop-k.invariant.0,
+      c.swap.ensures.after
+          ∙ exchange-turn x.scratch.now x.a x.b x.n c.loop-k.k (search rules) (omega arith) c.loop-k.scratch c.loop-k.invariant.1 (omega arith),
     )
 
 pub returns : goal.returns

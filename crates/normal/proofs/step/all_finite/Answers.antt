@@ -1,35 +1,27 @@
--- `normal::step::all_finite` meets its contract: every entry passed was finite. Assumes nothing.
-use mathlib.Core.Path.{◌≡◌, sym, ap, ◌∙◌}
-use Prim.Native.Nat.{ℕ, ◌+◌}
+-- `normal::step::all_finite` meets its contract: of the step's part, read from its first entry on. Assumes nothing.
 use native.Mathlib.Omega.{arith}
-use lib.ListN.{get_or}
+use mathlib.Core.Path.{◌≡◌, sym, ap, ◌∙◌}
+use Prim.Native.Nat.{ℕ, ◌+◌, ◌-◌}
+use lib.ListN.{length, get_or, drop, take}
 use lib.Ieee.{nan}
-use Rattle.lists.specs.All.{all_below, all_more, not-all}
+use Rattle.std.proofs.Common.{◌≤◌, rules, tests}
+use Rattle.std.proofs.lemmas.Iterator.{YieldsList-from_slice}
+use Rattle.std.proofs.lemmas.Iterator.Search.{all_from_yields_List}
+use Rattle.std.specs.List.{list_all}
+use Rattle.std.proofs.lemmas.List.{get_or-drop, length-drop}
+use Rattle.lists.specs.All.{all_same, all-listed}
 use Rattle.floats.specs.Basic.{finite_of}
 use Rattle.normal.specs.Layout.{step_at}
-use Rattle.normal.specs.Step.{solved_if}
-use Rattle.std.proofs.Common.{rules}
 use Rattle.normal.proofs.step.all_finite.Goals as goal
-
-pub loop-k-init : goal.loop-k-init
-unfolding all_below
-loop-k-init c = search rules
-
-pub returns-then-not-is_finite : goal.returns-then-not-is_finite
-returns-then-not-is_finite c =
-    let l = c in
-    let x = l.args in
-    ap solved_if (sym (not-all (λ (n : ℕ). finite_of (get_or x.scratch.now (step_at + n) nan)) x.p l.loop-k.k (omega arith)
-    (sym c.is_finite.ensures ∙ c.if-not-is_finite.true)))
-
-pub loop-k-preserved : goal.loop-k-preserved
-loop-k-preserved c =
-    let l = c in
-    let x = l.args in
-    all_more (λ (n : ℕ). finite_of (get_or x.scratch.now (step_at + n) nan)) l.loop-k.k l.loop-k.invariant
-    (sym c.is_finite.ensures ∙ c.if-not-is_finite.false)
 
 pub returns : goal.returns
 returns c =
-    let e : c.loop-k.k ≡ c.args.p = omega arith in
-    ap solved_if (sym (rw e at c.loop-k.invariant))
+    let x = c.args in
+    let l = x.scratch.now in
+    let room : x.p ≤ length (drop step_at l) = rw length-drop (omega arith) in
+    let count : step_at + x.p - step_at ≡ x.p = omega arith in
+    all_from_yields_List finite_of _ _ _ c.all.ensures.ran (YieldsList-from_slice _ c.iter.ensures.rest) (λ x b q k. search (rules, tests))
+    ∙ ap (λ (n : ℕ). list_all finite_of (take n (drop step_at l))) count
+    ∙ sym (all-listed finite_of (drop step_at l) nan x.p room)
+    ∙ all_same (λ (k : ℕ). finite_of (get_or (drop step_at l) k nan)) (λ (k : ℕ). finite_of (get_or l (step_at + k) nan)) x.p
+    (λ k b. ap finite_of (get_or-drop step_at l k nan))

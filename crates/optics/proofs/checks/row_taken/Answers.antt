@@ -1,31 +1,22 @@
--- `optics::checks::row_taken` meets its contract. The loop's invariant: the index of every slot passed is taken. Assumes nothing.
-use mathlib.Core.Path.{◌≡◌, sym, ◌∙◌}
-use Prim.Native.Nat.{ℕ}
-use mathlib.Core.Bool.{Bool}
-use Rattle.lists.specs.All.{all_below, all_more, not-all}
-use Rattle.optics.specs.Types.{slot_index}
+-- `optics::checks::row_taken` meets its contract. Assumes nothing.
+use Rattle.std.proofs.Common.{◌≡◌, ◌≤◌, ℕ, ◌+◌, ◌-◌, ◌*◌, length, sym, ap, ◌∙◌, arith, rules, tests, take, drop, length-drop}
+use Rattle.std.proofs.lemmas.List.{get_or-drop}
+use Rattle.std.proofs.lemmas.Iterator.{YieldsList-from_slice}
+use Rattle.std.proofs.lemmas.Iterator.Search.{all_from_yields_List}
+use Rattle.std.specs.Float.{nan}
+use Rattle.std.specs.List.{list_all}
+use Rattle.lists.specs.All.{all-listed, all_same}
 use Rattle.optics.specs.Check.{index_taken}
-use native.Mathlib.Omega.{arith}
-use Rattle.std.proofs.Common.{rules}
 use Rattle.optics.proofs.checks.row_taken.Goals as goal
-
-pub loop-w-init : goal.loop-w-init
-unfolding all_below
-loop-w-init c = search rules
-
-pub returns-then-not-above_zero_up_to : goal.returns-then-not-above_zero_up_to
-returns-then-not-above_zero_up_to c =
-    let a = c.args in
-    let taken : ℕ → Bool = λ w. index_taken (slot_index a.indices.now w a.i) in
-    sym (not-all taken _ c.loop-w.w (omega arith) (sym c.above_zero_up_to.ensures ∙ c.if-not-above_zero_up_to.true))
-
-pub loop-w-preserved : goal.loop-w-preserved
-loop-w-preserved c =
-    let a = c.args in
-    let taken : ℕ → Bool = λ w. index_taken (slot_index a.indices.now w a.i) in
-    (search rules, all_more taken _ c.loop-w.invariant.1 (sym c.above_zero_up_to.ensures ∙ c.if-not-above_zero_up_to.false))
 
 pub returns : goal.returns
 returns c =
-    let e : c.loop-w.w ≡ c.args.slots = omega arith in
-    sym (rw e at c.loop-w.invariant.1)
+    let a = c.args in
+    let row = drop (a.i * 4) a.indices.now in
+    let long : a.slots ≤ length row = simp length-drop (omega arith) in
+    let many : a.i * 4 + a.slots - a.i * 4 ≡ a.slots = omega arith in
+    all_from_yields_List index_taken _ _ _ c.all.ensures.ran
+    (YieldsList-from_slice (take (a.i * 4 + a.slots - a.i * 4) row) cc) (λ x b q k. search (rules, tests))
+    ∙ ap (λ (n : ℕ). list_all index_taken (take n row)) many
+    ∙ sym (all-listed index_taken row nan a.slots long)
+    ∙ all_same _ _ a.slots (λ w h. ap index_taken (get_or-drop (a.i * 4) a.indices.now w nan))

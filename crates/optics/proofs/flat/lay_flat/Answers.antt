@@ -24,9 +24,9 @@ pub loop-k-preserved : goal.loop-k-preserved
 loop-k-preserved c =
     let l = c.loop-k in
     let a = c.args in
-    (search rules, search rules, laid_more a.surfaces a.flat.now l.flat l.k l.invariant.2 (omega arith))
+    (search rules, laid_more a.surfaces a.flat.now l.flat l.k l.invariant.1 (omega arith))
 
 pub returns : goal.returns
 returns c =
     let e : c.loop-k.k ≡ c.args.count = omega arith in
-    rw e at c.loop-k.invariant.2
+    rw e at c.loop-k.invariant.1

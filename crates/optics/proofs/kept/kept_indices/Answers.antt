@@ -7,6 +7,7 @@ use Rattle.lists.specs.Kept.{clear-begin, clear-more, clear-past, clear-end}
 use Rattle.optics.specs.Kept.{index_used}
 use native.Mathlib.Omega.{arith}
 use Rattle.std.proofs.Common.{rules}
+use Rattle.std.proofs.lemmas.List.{set-get_or}
 use Rattle.optics.proofs.kept.kept_indices.Goals as goal
 use Rattle.optics.proofs.kept.kept_indices.Goals.{then-not-index_used, else-not-index_used}
 
@@ -21,10 +22,10 @@ loop-k-preserved c =
     let x = c.args in
     let used = index_used x.count x.slots in
     elim c.if-not-index_used.branch [
-      | then-not-index_used w ↦ (clear-more used zero64 nan x.indices c.loop-k.invariant _ w.kept-is (search rules)
+      | then-not-index_used w ↦ (clear-more used zero64 nan x.indices c.loop-k.invariant _ w.index-items-is (search rules)
           (sym c.index_used.ensures ∙ w.if-not-index_used.true))
-      | else-not-index_used w ↦ (clear-past used zero64 nan x.indices c.loop-k.invariant _ w.kept-is
-          (sym c.index_used.ensures ∙ w.if-not-index_used.false))
+      | else-not-index_used w ↦ (clear-past used zero64 nan x.indices c.loop-k.invariant _
+          (w.index-items-is ∙ set-get_or c.loop-k.index-items c.loop-k.k nan) (sym c.index_used.ensures ∙ w.if-not-index_used.false))
     ]
 
 pub returns : goal.returns

@@ -1,5 +1,4 @@
 -- `optics::kept::kept_indices` meets its contract. The loop's invariant: of the entries passed those not in use are zero. Assumes nothing.
-use Prim.Native.Nat.{◌-◌}
 use lib.Ieee.{nan}
 use Rattle.floats.specs.Constants.{zero64}
 use Rattle.lists.specs.Kept.{Clearing}
@@ -7,7 +6,4 @@ use Rattle.optics.specs.Kept.{index_used}
 use Rattle.optics.proofs.kept.kept_indices.Given as goal
 
 abbrev pub invariant-loop-k : goal.invariant-loop-k
-invariant-loop-k l = Clearing (index_used l.count l.slots) zero64 nan l.initial.kept l.kept l.k
-
-abbrev pub decreases-loop-k : goal.decreases-loop-k
-decreases-loop-k l = 64 - l.k
+invariant-loop-k l = Clearing (index_used l.count l.slots) zero64 nan l.initial.index-items l.index-items l.k

@@ -11,4 +11,4 @@ use Rattle.optics.proofs.properties.paraxial.Goals as goal
 pub returns : goal.returns
 returns c =
     let slot = c.args.slot in
-    ap (λ (l : List (Option ParaxialProperties)). get_or l slot None) c.paraxial_slots-slots.ensures ∙ get_or-tab _ 4 slot None (search rules)
+    ap (λ (l : List (Option ParaxialProperties)). get_or l slot None) c.paraxial_slots.ensures ∙ get_or-tab _ 4 slot None (search rules)

@@ -25,14 +25,11 @@ loop-w-preserved c =
     let last = c in
     let slot =
     traced (flat_surface a.flat.now) (slot_index a.indices.now) a.pupil a.count _ last.if-count-lt2.false last.last_rays-last.ensures l.w
-    (omega arith) _ c.slot_properties-properties.ensures in (
-      search rules,
-      search rules,
-      tab-step (λ (w : ℕ). paraxial_of (flat_surface a.flat.now) (slot_index a.indices.now w) a.pupil a.count) _ l.slots l.w _ None
-          l.invariant.2 slot (omega arith),
-    )
+    (omega arith) _ c.slot_properties.ensures in
+    tab-step (λ (w : ℕ). paraxial_of (flat_surface a.flat.now) (slot_index a.indices.now w) a.pupil a.count) _ l.slots l.w _ None
+    l.invariant slot (omega arith)
 
 pub returns : goal.returns
 returns c =
     let l = c.loop-w in
-    tab-full _ _ l.slots l.w 4 l.invariant.2 (search rules) l.invariant.0 c.loop-w-test.false
+    tab-full _ _ l.slots l.w 4 l.invariant (search rules) (omega arith) (omega arith)

@@ -1,5 +1,5 @@
 -- `optics::rays::fill_rays` meets its contract. Assumes nothing.
-use Rattle.std.proofs.Common.{rules, arith}
+use Rattle.std.proofs.Common.{rules, arith, refl}
 use Rattle.std.specs.Float.{nan}
 use Rattle.lists.specs.Tab.{tab, tab-step}
 use Rattle.std.proofs.Common.{ℕ, get_or}
@@ -14,8 +14,5 @@ loop-i-init c = search rules
 pub loop-i-preserved : goal.loop-i-preserved
 loop-i-preserved c =
     let l = c.loop-i in
-    let a = c.args in (
-      omega arith,
-      tab-step (λ (k : ℕ). ray_of (get_or a.heights.now k nan) (get_or a.slopes.now k nan)) a.rays.now l.rays l.i _ no_ray l.invariant.1
-          c.ray_from-r.ensures (omega arith),
-    )
+    let a = c.args in
+    tab-step (λ (k : ℕ). ray_of (get_or a.heights.now k nan) (get_or a.slopes.now k nan)) a.rays.now l.rays l.i _ no_ray l.invariant refl (omega arith)

@@ -4,25 +4,21 @@ use native.Mathlib.Omega.{arith}
 use Rattle.lists.specs.Tab.{tab}
 use Rattle.optics.specs.Types.{flat_surface, slot_index}
 use Rattle.optics.proofs.AllSlots.{starting, arriving-next}
-use Rattle.std.proofs.Common.{rules}
 use Rattle.optics.proofs.slots.arriving_rays.Goals as goal
 
 pub loop-k-init : goal.loop-k-init
 unfolding tab
 loop-k-init c =
     let a = c.args in
-    (search rules, starting (flat_surface a.flat.now) (slot_index a.indices.now) a.pupil _ c.start_of-start.ensures)
+    starting (flat_surface a.flat.now) (slot_index a.indices.now) a.pupil _ c.start_of-rays.ensures
 
 pub loop-k-preserved : goal.loop-k-preserved
 loop-k-preserved c =
-    let a = c.args in (
-      search rules,
-      arriving-next (flat_surface a.flat.now) (slot_index a.indices.now) a.pupil _ _ _ c.loop-k.invariant.1
-          c.next_rays-next.ensures,
-    )
+    let a = c.args in
+    arriving-next (flat_surface a.flat.now) (slot_index a.indices.now) a.pupil _ _ _ c.loop-k.invariant c.next_rays-next.ensures
 
 pub returns : goal.returns
 returns c =
     let l = c.loop-k in
     let e : l.k ≡ c.args.count = omega arith in
-    rw e at l.invariant.1
+    rw e at l.invariant

@@ -1,11 +1,7 @@
 -- `optics::slots::arriving_rays` meets its contract. The loop's invariant: the rays are those that arrive at surface k. Assumes nothing.
-use Prim.Native.Nat.{◌≤◌, ◌-◌}
 use Rattle.optics.specs.Types.{flat_surface, slot_index}
 use Rattle.optics.proofs.AllSlots.{Arriving}
 use Rattle.optics.proofs.slots.arriving_rays.Given as goal
 
 abbrev pub invariant-loop-k : goal.invariant-loop-k
-invariant-loop-k l = (l.k ≤ l.count) × Arriving (flat_surface l.flat) (slot_index l.indices) l.pupil l.k l.rays
-
-abbrev pub decreases-loop-k : goal.decreases-loop-k
-decreases-loop-k l = l.count - l.k
+invariant-loop-k l = Arriving (flat_surface l.flat) (slot_index l.indices) l.pupil l.k l.rays

@@ -21,14 +21,11 @@ loop-w-preserved c =
     let second = c in
     let rays =
     last-are (flat_surface a.flat.now) (slot_index a.indices.now) a.pupil a.count _ _ _ start.requires.0 second.arriving_rays-first.ensures
-    second.next_rays-second.ensures c.next_rays-third.ensures l.w (omega arith) in (
-      search rules,
-      search rules,
-      tab-step (λ (w : ℕ). last_rays (flat_surface a.flat.now) (slot_index a.indices.now w) a.pupil a.count) _ l.last l.w _ no_last l.invariant.2
-          (c.rays_between.ensures ∙ rays) (omega arith),
-    )
+    second.next_rays-second.ensures c.next_rays-third.ensures l.w (omega arith) in
+    tab-step (λ (w : ℕ). last_rays (flat_surface a.flat.now) (slot_index a.indices.now w) a.pupil a.count) _ l.last l.w _ no_last l.invariant
+    (c.rays_between.ensures ∙ rays) (omega arith)
 
 pub returns : goal.returns
 returns c =
     let l = c.loop-w in
-    tab-full _ _ l.last l.w 4 l.invariant.2 (search rules) l.invariant.0 c.loop-w-test.false
+    tab-full _ _ l.last l.w 4 l.invariant (search rules) (omega arith) (omega arith)

@@ -16,17 +16,14 @@ loop-w-init c = search rules
 pub loop-w-preserved : goal.loop-w-preserved
 loop-w-preserved c =
     let a = c.args in
-    let l = c.loop-w in (
-      search rules,
-      search rules,
-      tab-step (λ (w : ℕ). onward (flat_surface a.flat.now a.k) (slot_index a.indices.now w a.k) (get_or a.rays w no_arriving)) a.rays l.next
-          l.w _ no_arriving l.invariant.2 (rw c.curvature_of-curvature.ensures at c.ray_behind.ensures)
-          (omega arith),
-    )
+    let l = c.loop-w in
+    tab-step (λ (w : ℕ). onward (flat_surface a.flat.now a.k) (slot_index a.indices.now w a.k) (get_or a.rays w no_arriving)) a.rays l.next
+    l.w _ no_arriving l.invariant (rw c.curvature_of-curvature.ensures at c.ray_behind.ensures)
+    (omega arith)
 
 pub returns : goal.returns
 returns c =
     let l = c.loop-w in
     let a = c.args in
     tab-full (λ (w : ℕ). onward (flat_surface a.flat.now a.k) (slot_index a.indices.now w a.k) (get_or a.rays w no_arriving)) a.rays l.next l.w
-    4 l.invariant.2 (search rules) l.invariant.0 c.loop-w-test.false
+    4 l.invariant (search rules) (omega arith) (omega arith)

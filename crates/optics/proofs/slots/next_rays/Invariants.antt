@@ -2,16 +2,12 @@
 -- came. Assumes nothing.
 use mathlib.Core.Path.{◌≡◌}
 use mathlib.Core.List.{◌++◌}
-use Prim.Native.Nat.{ℕ, ◌≤◌, ◌-◌}
-use lib.ListN.{length, get_or, drop}
+use Prim.Native.Nat.{ℕ}
+use lib.ListN.{get_or, drop}
 use Rattle.lists.specs.Tab.{tab}
 use Rattle.optics.specs.Types.{no_arriving, flat_surface, slot_index}
 use Rattle.optics.specs.Trace.{onward}
 use Rattle.optics.proofs.slots.next_rays.Given as goal
 
 abbrev pub invariant-loop-w : goal.invariant-loop-w
-invariant-loop-w l = (l.w ≤ 4) × (length l.next ≡ 4)
-    × (l.next ≡ tab (λ (w : ℕ). onward (flat_surface l.flat l.k) (slot_index l.indices w l.k) (get_or l.rays w no_arriving)) l.w ++ drop l.w l.rays)
-
-abbrev pub decreases-loop-w : goal.decreases-loop-w
-decreases-loop-w l = 4 - l.w
+invariant-loop-w l = l.next ≡ tab (λ (w : ℕ). onward (flat_surface l.flat l.k) (slot_index l.indices w l.k) (get_or l.rays w no_arriving)) l.w ++ drop l.w l.rays

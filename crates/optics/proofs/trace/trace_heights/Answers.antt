@@ -22,16 +22,15 @@ loop-k-preserved c =
     let l = c.loop-k in
     let surface : ℕ → OpticalSurface = flat_surface a.flat.now in
     let index : ℕ → Float = slot_index a.indices.now a.slot in
-    let turned = ray-turned surface index a.pupil l.k l.ray c.next_ray-ray.result l.invariant.3 c.next_ray-ray.ensures in (
+    let turned = ray-turned surface index a.pupil l.k l.ray c.next_ray-ray.result l.invariant.2 c.next_ray-ray.ensures in (
       search rules,
       search rules,
-      search rules,
-      arriving-more surface index a.pupil l.k l.ray c.next_ray-ray.result l.invariant.3 c.next_ray-ray.ensures,
-      tab-step (λ (k : ℕ). (ray_at surface index a.pupil k).y) a.heights.now l.heights l.k _ nan l.invariant.4 (λ i. (turned i).y) (omega arith),
-      tab-step (λ (k : ℕ). (ray_at surface index a.pupil k).u) a.slopes.now l.slopes l.k _ nan l.invariant.5 (λ i. (turned i).u) (omega arith),
+      arriving-more surface index a.pupil l.k l.ray c.next_ray-ray.result l.invariant.2 c.next_ray-ray.ensures,
+      tab-step (λ (k : ℕ). (ray_at surface index a.pupil k).y) a.heights.now l.heights l.k _ nan l.invariant.3 (λ i. (turned i).y) (omega arith),
+      tab-step (λ (k : ℕ). (ray_at surface index a.pupil k).u) a.slopes.now l.slopes l.k _ nan l.invariant.4 (λ i. (turned i).u) (omega arith),
     )
 
 pub returns : goal.returns
 returns c =
     let e : c.loop-k.k ≡ c.args.count = omega arith in
-    record { heights_after = rw e at c.loop-k.invariant.4; slopes_after = rw e at c.loop-k.invariant.5 }
+    record { heights_after = rw e at c.loop-k.invariant.3; slopes_after = rw e at c.loop-k.invariant.4 }

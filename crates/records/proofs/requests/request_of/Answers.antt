@@ -10,5 +10,5 @@ returns c =
       variables = (c.job_of-job.ensures i).variables;
       merit_function = (c.job_of-job.ensures
           i).merit_function;
-      method = c.method_request-method.ensures i;
+      method = c.method_request.ensures i;
     }

@@ -42,19 +42,19 @@ past e f rest = λ i. cond (e i) 1 (cond (f i) 2 rest)
 pub returns-then-number-eq1 : goal.returns-then-number-eq1
 returns-then-number-eq1 c =
     let x = c.args in
-    let e = c.refusal_of-number.ensures in
+    let e = c.answered-number.ensures ∙ c.refusal_of.ensures in
     sym (first ((refused-1 (filled x.request)).0 (sym e ∙ c.if-number-eq1.true)).0 _)
 
 pub returns-then-place-gt3 : goal.returns-then-place-gt3
 returns-then-place-gt3 c =
     let x = c.args in
-    let e = c.refusal_of-number.ensures in
+    let e = c.answered-number.ensures ∙ c.refusal_of.ensures in
     sym (second (counted (filled x.request) (λ q. c.if-number-eq1.false (e ∙ q))) (ap not (le-ltb x.place 4 c.if-place-gt3.true)) _)
 
 pub returns-then-number-gt0 : goal.returns-then-number-gt0
 returns-then-number-gt0 c =
     let x = c.args in
-    let e = c.refusal_of-number.ensures in
+    let e = c.answered-number.ensures ∙ c.refusal_of.ensures in
     let j = filled x.request in
     let free = counted (filled x.request) (λ q. c.if-number-eq1.false (e ∙ q)) in
     let answer : _ ≡ first_refusal (later j) = e ∙ ap (λ (b : Bool). cond b 1 (first_refusal (later j))) free in
@@ -64,7 +64,7 @@ returns-then-number-gt0 c =
 pub returns-then-occupied : goal.returns-then-occupied
 returns-then-occupied c =
     let x = c.args in
-    let e = c.refusal_of-number.ensures in
+    let e = c.answered-number.ensures ∙ c.refusal_of.ensures in
     let j = filled x.request in
     sym (past (counted (filled x.request) (λ q. c.if-number-eq1.false (e ∙ q))) (placed x.place c.if-place-gt3.false) _
     ∙ refused-last (later j) (refusal 10 x.occupied) ((not-refused j).0 (sym e ∙ none _ c.if-number-gt0.false)).1 ∙ λ i. cond (c.if-occupied.true i) 10 0)
@@ -72,7 +72,7 @@ returns-then-occupied c =
 pub returns : goal.returns
 returns c =
     let x = c.args in
-    let e = c.refusal_of-number.ensures in
+    let e = c.answered-number.ensures ∙ c.refusal_of.ensures in
     let j = filled x.request in
     sym (past (counted (filled x.request) (λ q. c.if-number-eq1.false (e ∙ q))) (placed x.place c.if-place-gt3.false) _
     ∙ refused-last (later j) (refusal 10 x.occupied) ((not-refused j).0 (sym e ∙ none _ c.if-number-gt0.false)).1 ∙ λ i. cond (c.if-occupied.false i) 10 0)

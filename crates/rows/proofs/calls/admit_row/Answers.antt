@@ -35,7 +35,7 @@ returns c =
     c.kind.ensures in
     let job = c.job_from-job.result in
     let row =
-    c.began-admitted.ensures ∙ ap (λ (held : JobRecord). row_of held (kind_of job) 0 (Rows.began job.method job)) c.record_of-record.ensures
+    c.began-admitted.ensures ∙ ap (λ (held : JobRecord). row_of held (kind_of job) 0 (Rows.began job.method job)) c.from-record.ensures
     ∙ ap Rows.admitted c.job_from-job.ensures in
     let held = c.held_of-left.ensures ∙ ap held_from row in
     λ i. record {

@@ -1,32 +1,19 @@
--- `variables::taken::followers_taken` meets its contract: the loop's invariant: the follower of every variable passed is taken. Assumes nothing.
-use mathlib.Core.Path.{◌≡◌, refl, sym, ◌∙◌}
-use native.Mathlib.Omega.{arith}
-use Rattle.lists.specs.All.{all_below, not-all, all_more}
-use Rattle.variables.specs.Taken.{followers_taken}
-use Rattle.variables.proofs.taken.followers_taken.Invariants.{taken}
+-- `variables::taken::followers_taken` meets its contract. Assumes nothing.
+use Rattle.std.proofs.Common.{Bool, sym, ◌∙◌, ◌≤◌, length, rules, tests}
+use Rattle.std.proofs.lemmas.Iterator.{YieldsList-from_slice, YieldsList-from_take}
+use Rattle.std.proofs.lemmas.Iterator.Search.{all_from_yields_List}
+use Rattle.lists.specs.All.{all-listed}
+use Rattle.variables.specs.Active.{no_variable}
+use Rattle.variables.specs.Taken.{follower_taken, followers_taken}
+use Rattle.variables.specs.declared.types.VariableDef.{VariableDef}
 use Rattle.variables.proofs.taken.followers_taken.Goals as goal
-
-pub loop-i-init : goal.loop-i-init
-unfolding all_below
-loop-i-init c = (omega arith, refl)
-
-pub returns-then-not-follower_taken : goal.returns-then-not-follower_taken
-unfolding followers_taken
-returns-then-not-follower_taken c =
-    let at = c in
-    let a = at.args in
-    sym (not-all (taken a.surface_count a.v) a.v.variable_count at.loop-i.i c.loop-i-test.true
-    (sym c.follower_taken.ensures ∙ c.if-not-follower_taken.true))
-
-pub loop-i-preserved : goal.loop-i-preserved
-loop-i-preserved c =
-    let at = c in
-    let a = at.args in
-    let this = sym c.follower_taken.ensures ∙ c.if-not-follower_taken.false in
-    (omega arith, all_more (taken a.surface_count a.v) at.loop-i.i at.loop-i.invariant.1 this)
 
 pub returns : goal.returns
 unfolding followers_taken
 returns c =
-    let e : c.loop-i.i ≡ c.args.v.variable_count = omega arith in
-    sym (rw e at c.loop-i.invariant.1)
+    let a = c.args in
+    let taken : VariableDef → Bool = λ d. follower_taken a.surface_count d.var_type d.follower in
+    let long : a.v.variable_count ≤ length a.v.variables = search rules in
+    all_from_yields_List taken _ _ _ c.all.ensures.ran
+    (YieldsList-from_take a.v.variable_count (YieldsList-from_slice a.v.variables cc) c.take.ensures.count) (λ x b q k. search (rules, tests))
+    ∙ sym (all-listed taken a.v.variables no_variable a.v.variable_count long)

@@ -1,34 +1,17 @@
--- `variables::taken::variables_taken` meets its contract: the loop's invariant: every variable passed is taken. Assumes nothing.
-use Prim.Native.Nat.{ℕ}
-use mathlib.Core.Path.{◌≡◌, refl, sym, ◌∙◌}
-use native.Mathlib.Omega.{arith}
-use Rattle.lists.specs.All.{all_below, not-all, all_more}
-use Rattle.variables.specs.Active.{variable_at}
+-- `variables::taken::variables_taken` meets its contract. Assumes nothing.
+use Rattle.std.proofs.Common.{sym, ◌∙◌, ◌≤◌, length, rules, tests}
+use Rattle.std.proofs.lemmas.Iterator.{YieldsList-from_slice, YieldsList-from_take}
+use Rattle.std.proofs.lemmas.Iterator.Search.{all_from_yields_List}
+use Rattle.lists.specs.All.{all-listed}
+use Rattle.variables.specs.Active.{no_variable}
 use Rattle.variables.specs.Taken.{variable_taken, variables_taken}
 use Rattle.variables.proofs.taken.variables_taken.Goals as goal
-
-pub loop-i-init : goal.loop-i-init
-unfolding all_below
-loop-i-init c = (omega arith, refl)
-
-pub returns-then-not-variable_taken : goal.returns-then-not-variable_taken
-unfolding variables_taken
-returns-then-not-variable_taken c =
-    sym (not-all (λ (k : ℕ). variable_taken c.args.surface_count
-    (variable_at c.args.v k)) c.args.v.variable_count
-    c.loop-i.i c.loop-i-test.true
-    (sym c.variable_taken.ensures ∙ c.if-not-variable_taken.true))
-
-pub loop-i-preserved : goal.loop-i-preserved
-loop-i-preserved c = (
-  omega arith,
-  all_more (λ (k : ℕ). variable_taken c.args.surface_count
-      (variable_at c.args.v k)) c.loop-i.i
-      c.loop-i.invariant.1 (sym c.variable_taken.ensures ∙ c.if-not-variable_taken.false),
-)
 
 pub returns : goal.returns
 unfolding variables_taken
 returns c =
-    let e : c.loop-i.i ≡ c.args.v.variable_count = omega arith in
-    sym (rw e at c.loop-i.invariant.1)
+    let a = c.args in
+    let long : a.v.variable_count ≤ length a.v.variables = search rules in
+    all_from_yields_List (variable_taken a.surface_count) _ _ _ c.all.ensures.ran
+    (YieldsList-from_take a.v.variable_count (YieldsList-from_slice a.v.variables cc) c.take.ensures.count) (λ x b q k. search (rules, tests))
+    ∙ sym (all-listed (variable_taken a.surface_count) a.v.variables no_variable a.v.variable_count long)
