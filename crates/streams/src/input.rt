@@ -38,13 +38,68 @@ impl Input {
             is_good: true,
         }
     }
-}
 
-// How many lines were taken: one less than the number of the line that comes next.
-pub(crate) fn lines_of(input: Input) -> u64
-    ensures { result ≡ lines_of input }
-{
-    input.number.wrapping_add(u64::MAX)
+    // How many lines were taken: one less than the number of the line that comes next.
+    pub(crate) fn lines(self) -> u64
+        ensures { result ≡ lines_of self }
+    {
+        self.number.wrapping_add(u64::MAX)
+    }
+
+    // Whether something of a line is left at the end of the input.
+    fn is_left(self) -> bool
+        ensures { result ≡ is_left self }
+    {
+        self.from < self.to || self.is_cut
+    }
+
+    // What is left at the end of the input: a last line needs no line feed.
+    fn last_line(self) -> Line
+        ensures { result ≡ last_line self }
+    {
+        let is_there = self.is_left();
+        let rest = Input {
+            from: self.to,
+            number: self.number.wrapping_add(u64::from(is_there)),
+            is_cut: false,
+            has_more: false,
+            is_open: false,
+            ..self
+        };
+        Line {
+            from: self.from,
+            to: self.to,
+            number: self.number,
+            is_cut: self.is_cut,
+            is_there,
+            input: rest,
+        }
+    }
+
+    fn not_yet(self) -> Line
+        ensures { result ≡ not_yet self }
+    {
+        Line {
+            from: self.from,
+            to: self.from,
+            number: self.number,
+            is_cut: self.is_cut,
+            is_there: false,
+            input: self,
+        }
+    }
+
+    // The same line in the first `to` bytes.
+    fn placed(self, to: usize, is_cut: bool) -> Input
+        ensures { result ≡ placed_at to is_cut self }
+    {
+        Input {
+            from: 0,
+            to,
+            is_cut,
+            ..self
+        }
+    }
 }
 
 // A line: the bytes of the buffer from `from` up to `to`. None is there while its end has yet to be read.
@@ -98,49 +153,6 @@ fn held_line(buf: &[u8], input: Input, end: usize) -> Line
     }
 }
 
-// Whether something of a line is left at the end of the input.
-fn is_left(input: Input) -> bool
-    ensures { result ≡ is_left input }
-{
-    input.from < input.to || input.is_cut
-}
-
-// What is left at the end of the input: a last line needs no line feed.
-fn last_line(input: Input) -> Line
-    ensures { result ≡ last_line input }
-{
-    let is_there = is_left(input);
-    let rest = Input {
-        from: input.to,
-        number: input.number.wrapping_add(u64::from(is_there)),
-        is_cut: false,
-        has_more: false,
-        is_open: false,
-        ..input
-    };
-    Line {
-        from: input.from,
-        to: input.to,
-        number: input.number,
-        is_cut: input.is_cut,
-        is_there,
-        input: rest,
-    }
-}
-
-fn not_yet(input: Input) -> Line
-    ensures { result ≡ not_yet input }
-{
-    Line {
-        from: input.from,
-        to: input.from,
-        number: input.number,
-        is_cut: input.is_cut,
-        is_there: false,
-        input,
-    }
-}
-
 // The next line where the buffer holds it whole or the input is at its end.
 pub fn next_line(buf: &[u8], input: Input) -> Line
     requires from_le_to { input.from ≤ input.to }
@@ -154,9 +166,9 @@ pub fn next_line(buf: &[u8], input: Input) -> Line
         return held_line(buf, input, end);
     }
     if input.has_more {
-        return not_yet(input);
+        return input.not_yet();
     }
-    last_line(input)
+    input.last_line()
 }
 
 // What comes after a line; where none was there yet, after one more read.
@@ -196,22 +208,10 @@ fn with_room(buf: &mut [u8], input: Input) -> Input
     let from = input.from;
     let to = input.to;
     if to - from == buf.len() {
-        return placed(input, 0, true);
+        return input.placed(0, true);
     }
     move_front(buf, from, to);
-    placed(input, to - from, input.is_cut)
-}
-
-// The same line in the first `to` bytes.
-fn placed(input: Input, to: usize, is_cut: bool) -> Input
-    ensures { result ≡ placed_at to is_cut input }
-{
-    Input {
-        from: 0,
-        to,
-        is_cut,
-        ..input
-    }
+    input.placed(to - from, input.is_cut)
 }
 
 // The input after one more read. There is no more where nothing came, and no further line where the read failed.
