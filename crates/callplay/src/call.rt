@@ -1,96 +1,102 @@
 // The lines of calls: each is one call, or turns of one place, and has a name of one letter.
-use crate::asked::Asked;
-use crate::types::Answered;
-use crate::{admission, asked, deals, fetching, listing, pieces, turning};
-use answers::put_unknown;
-use benchcalls::BenchAnswer;
-use streams::console::Console;
-use streams::output;
-use streams::output::Waiting;
-use text::cursor;
-use text::cursor::Cursor;
+use jobs::JobRequest;
+use text::cursor::{Cursor, Why};
+use text::{cursor, words};
 
-// Answers a line from where its name ends.
-pub(crate) fn answer_call(
-    console: Console,
-    out: &mut [u8],
-    state: Answered,
-    line: &[u8],
-    at: usize,
-    letter: u8,
-    number: u64,
-) -> Answered {
-    if letter == b'A' {
-        return admission::admit(console, out, state, line, at, number);
-    }
-    let asked = asked::read_asked(line, at, letter);
-    if !cursor::is_done(line, asked.next) {
-        return unknown(console, out, state, line, number, asked.next);
-    }
-    answer_asked(console, out, state, letter, asked)
+#[derive(Clone, Copy)]
+pub(crate) enum Call {
+    // The bench is emptied.
+    Empty,
+    Admit {
+        place: usize,
+        request: JobRequest,
+    },
+    // So many turns of a place, with so many numbers of scratch.
+    Turn {
+        place: usize,
+        room: usize,
+        turns: u64,
+    },
+    Release {
+        place: usize,
+    },
+    // So many turns dealt, with so many numbers of scratch.
+    Deal {
+        turns: u16,
+        room: usize,
+    },
+    Fetch {
+        place: usize,
+    },
+    List,
 }
 
-// A line out of form leaves the bench as it is.
-pub(crate) fn unknown(
-    console: Console,
-    out: &mut [u8],
-    state: Answered,
-    line: &[u8],
-    number: u64,
-    c: Cursor,
-) -> Answered {
-    let bench = state.bench;
-    Answered {
-        bench: bench,
-        waiting: put_unknown(console, out, state.waiting, line, number, c),
-    }
-}
-
-// Answers a line that is in form.
-fn answer_asked(
-    console: Console,
-    out: &mut [u8],
-    state: Answered,
-    letter: u8,
-    asked: Asked,
-) -> Answered {
-    match letter {
-        b'Z' => empty(console, out, state.waiting),
-        b'T' => turning::turn(console, out, state, asked),
-        b'D' => release(console, out, state, asked.place),
-        b'N' => deals::deal(console, out, state, asked),
-        b'F' => fetching::fetch(console, out, state, asked.place),
-        _ => listing::list(console, out, state),
+impl Call {
+    // A line with another name is out of form at its first word.
+    pub(crate) fn read(line: &[u8]) -> Result<Call, Cursor> {
+        let name = words::next_word(line, 0);
+        let c = Cursor::new(name.to);
+        match &line[name.from..name.to] {
+            b"Z" => alone(line, c, Call::Empty),
+            b"A" => admission(line, c),
+            b"T" => turns(line, c),
+            b"D" => a_place(line, c, |place| Call::Release { place }),
+            b"N" => turns_to_deal(line, c),
+            b"F" => a_place(line, c, |place| Call::Fetch { place }),
+            b"L" => alone(line, c, Call::List),
+            _ => Err(cursor::out_of_form(Cursor::new(0), Why::Kind)),
+        }
     }
 }
 
-// The answer of a call that answers its number alone.
-pub(crate) fn answered(
-    console: Console,
-    out: &mut [u8],
-    waiting: Waiting,
-    letter: u8,
-    answer: BenchAnswer,
-) -> Answered {
-    let left = answer.bench;
-    let waiting = pieces::put_name(console, out, waiting, letter, answer.number);
-    Answered {
-        bench: left,
-        waiting: pieces::end_line(console, out, waiting),
-    }
+// A name alone.
+fn alone(line: &[u8], c: Cursor, call: Call) -> Result<Call, Cursor> {
+    answers::end(line, c)?;
+    Ok(call)
 }
 
-// Z: the empty bench.
-fn empty(console: Console, out: &mut [u8], waiting: Waiting) -> Answered {
-    Answered {
-        bench: benchcalls::empty_bench(),
-        waiting: output::put(console, out, waiting, b"Z\n"),
-    }
+// place
+fn a_place<F: Fn(usize) -> Call>(line: &[u8], c: Cursor, call: F) -> Result<Call, Cursor>
+    requires { F.IsAlwaysCallable call }
+{
+    let place = cursor::decimal(line, c);
+    answers::end(line, place.next)?;
+    Ok(call(place.value as usize))
 }
 
-// D place
-fn release(console: Console, out: &mut [u8], state: Answered, place: usize) -> Answered {
-    let bench = state.bench;
-    let answer = benchcalls::released(bench, place);
-    answered(console, out, state.waiting, b'D', answer)
+// place J id kind ..
+fn admission(line: &[u8], c: Cursor) -> Result<Call, Cursor> {
+    let place = cursor::decimal(line, c);
+    let named = cursor::word(line, cursor::tag(line, place.next, b"J"));
+    let kind = cursor::within(line, named, 1, 3, Why::Kind);
+    let read = joblines::read_request(line, kind.value, joblines::read_job(line, kind.next));
+    answers::end(line, read.next)?;
+    Ok(Call::Admit {
+        place: place.value as usize,
+        request: read.value,
+    })
+}
+
+// place length turns
+fn turns(line: &[u8], c: Cursor) -> Result<Call, Cursor> {
+    let place = cursor::decimal(line, c);
+    let room = cursor::decimal(line, place.next);
+    let turns = cursor::decimal(line, room.next);
+    answers::end(line, turns.next)?;
+    Ok(Call::Turn {
+        place: place.value as usize,
+        room: room.value as usize,
+        turns: turns.value,
+    })
+}
+
+// turns length
+fn turns_to_deal(line: &[u8], c: Cursor) -> Result<Call, Cursor> {
+    let turns = cursor::within(line, c, 0, 65535, Why::Range);
+    let room = cursor::decimal(line, turns.next);
+    answers::end(line, room.next)?;
+    Ok(Call::Deal {
+        turns: u16::try_from(turns.value).unwrap_or(u16::MAX),
+        room: room.value as usize,
+    })
 }

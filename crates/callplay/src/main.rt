@@ -4,18 +4,36 @@
 // Stands on `benchcalls`, `joblines` and `answers`; a program that only tests.
 #![tactic(auto)]
 
-mod admission;
-mod asked;
+mod answer;
 mod call;
-mod deals;
-mod fetching;
-mod lines;
-mod listing;
 mod pieces;
-mod turning;
-mod types;
 
+use answers::Program;
+use bench::Bench;
+use call::Call;
 use streams::console::Console;
+use streams::output::Waiting;
+use text::cursor::Cursor;
+
+// The bench as the calls so far have left it.
+#[derive(Clone, Copy)]
+struct Played {
+    bench: Bench,
+}
+
+impl Program for Played {
+    fn answer(
+        &mut self,
+        console: Console,
+        out: &mut [u8],
+        waiting: Waiting,
+        line: &[u8],
+        _number: u64,
+    ) -> Result<Waiting, Cursor> {
+        let call = Call::read(line)?;
+        Ok(answer::answer(console, out, waiting, &mut self.bench, call))
+    }
+}
 
 fn main(rt: HostRuntime) {
     let console = Console {
@@ -25,5 +43,8 @@ fn main(rt: HostRuntime) {
     };
     let mut buf = io::large_buffer();
     let mut out = io::large_buffer();
-    lines::answer_all(console, &mut buf, &mut out);
+    let mut played = Played {
+        bench: benchcalls::empty_bench(),
+    };
+    answers::answer_all(&mut played, console, &mut buf, &mut out);
 }

@@ -1,24 +1,34 @@
-// Pieces of answers, without the text that they are made of: what carries a bench along names none.
+// Pieces of answers.
 use streams::console::Console;
 use streams::output;
 use streams::output::Waiting;
 
-// A call's letter and its number.
+// A call's name and its number.
 pub(crate) fn put_name(
     console: Console,
     out: &mut [u8],
     waiting: Waiting,
-    letter: u8,
+    name: &[u8],
     number: u32,
 ) -> Waiting {
-    let name = [letter];
     let waiting = output::counted(waiting, number > 0);
-    answers::put_number(console, out, waiting, &name, number as u64)
+    answers::put_number(console, out, waiting, name, number as u64)
 }
 
-// One number more.
-pub(crate) fn put_more(console: Console, out: &mut [u8], waiting: Waiting, x: u64) -> Waiting {
-    answers::put_number(console, out, waiting, b"", x)
+// name number {more}
+pub(crate) fn put_answer(
+    console: Console,
+    out: &mut [u8],
+    waiting: Waiting,
+    name: &[u8],
+    number: u32,
+    more: &[u64],
+) -> Waiting {
+    let mut held = put_name(console, out, waiting, name, number);
+    for x in more {
+        held = answers::put_number(console, out, held, b"", *x);
+    }
+    end_line(console, out, held)
 }
 
 pub(crate) fn end_line(console: Console, out: &mut [u8], waiting: Waiting) -> Waiting {

@@ -5,12 +5,39 @@
 #![tactic(auto)]
 
 mod leaf;
-mod lines;
 mod matrix;
 mod names;
 mod pieces;
 
+use answers::Program;
+use names::Name;
 use streams::console::Console;
+use streams::output::Waiting;
+use text::cursor::Cursor;
+use text::words;
+
+// No line leaves anything to the next.
+#[derive(Clone, Copy)]
+struct Leaves;
+
+impl Program for Leaves {
+    fn answer(
+        &mut self,
+        console: Console,
+        out: &mut [u8],
+        waiting: Waiting,
+        line: &[u8],
+        _number: u64,
+    ) -> Result<Waiting, Cursor> {
+        let word = words::next_word(line, 0);
+        let c = Cursor::new(word.to);
+        match Name::of(&line[word.from..word.to])? {
+            Name::Leaf(leaf) => leaf::answer(console, out, waiting, line, c, leaf),
+            Name::Solve => matrix::solve(console, out, waiting, line, c),
+            Name::Normal => matrix::normal(console, out, waiting, line, c),
+        }
+    }
+}
 
 fn main(rt: HostRuntime) {
     let console = Console {
@@ -20,5 +47,5 @@ fn main(rt: HostRuntime) {
     };
     let mut buf = io::large_buffer();
     let mut out = io::large_buffer();
-    lines::answer_all(console, &mut buf, &mut out);
+    answers::answer_all(&mut Leaves, console, &mut buf, &mut out);
 }

@@ -1,37 +1,40 @@
-// The names of lines, each as one number: its bytes behind a 1.
-pub(crate) const E: u64 = 0x1_45;
+// The names of lines.
+use text::cursor;
+use text::cursor::{Cursor, Why};
 
-pub(crate) const SQRT: u64 = 0x1_53515254;
-
-pub(crate) const ABS: u64 = 0x1_414253;
-
-pub(crate) const DRAW: u64 = 0x1_44524157;
-
-pub(crate) const JUMP: u64 = 0x1_4a554d50;
-
-pub(crate) const UNIFORM: u64 = 0x1_554e49464f524d;
-
-pub(crate) const CLAMP: u64 = 0x1_434c414d50;
-
-pub(crate) const SOLVE: u64 = 0x1_534f4c5645;
-
-pub(crate) const NORMAL: u64 = 0x1_4e4f524d414c;
-
-fn wide(byte: u8) -> u64 {
-    byte as u64
+#[derive(Clone, Copy)]
+pub(crate) enum Name {
+    Leaf(Leaf),
+    Solve,
+    Normal,
 }
 
-// The number of a name, or 0 where it is longer than all of those.
-pub(crate) fn number_of(name: &[u8]) -> u64 {
-    if name.len() > 7 {
-        return 0;
+// Functions of numbers.
+#[derive(Clone, Copy)]
+pub(crate) enum Leaf {
+    Exp,
+    Sqrt,
+    Abs,
+    Draw,
+    Jump,
+    Uniform,
+    Clamp,
+}
+
+impl Name {
+    // A line with another name is out of form at its first word.
+    pub(crate) fn of(word: &[u8]) -> Result<Name, Cursor> {
+        match word {
+            b"E" => Ok(Name::Leaf(Leaf::Exp)),
+            b"SQRT" => Ok(Name::Leaf(Leaf::Sqrt)),
+            b"ABS" => Ok(Name::Leaf(Leaf::Abs)),
+            b"DRAW" => Ok(Name::Leaf(Leaf::Draw)),
+            b"JUMP" => Ok(Name::Leaf(Leaf::Jump)),
+            b"UNIFORM" => Ok(Name::Leaf(Leaf::Uniform)),
+            b"CLAMP" => Ok(Name::Leaf(Leaf::Clamp)),
+            b"SOLVE" => Ok(Name::Solve),
+            b"NORMAL" => Ok(Name::Normal),
+            _ => Err(cursor::out_of_form(Cursor::new(0), Why::Kind)),
+        }
     }
-    let mut number: u64 = 1;
-    let mut i = 0;
-    while i < name.len() {
-        let shifted = number % 0x100_0000_0000_0000 * 256;
-        number = std::num::wrapping_add_u64(shifted, wide(name[i]));
-        i += 1;
-    }
-    number
 }

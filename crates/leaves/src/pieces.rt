@@ -9,12 +9,6 @@ pub(crate) fn put_line(console: Console, out: &mut [u8], waiting: Waiting, line:
     output::put(console, out, waiting, b" =")
 }
 
-// A blank and a float.
-pub(crate) fn put_one(console: Console, out: &mut [u8], waiting: Waiting, x: f64) -> Waiting {
-    let row = [x];
-    output::put_floats(console, out, waiting, &row)
-}
-
 // A blank and a state.
 pub(crate) fn put_state(console: Console, out: &mut [u8], waiting: Waiting, x: u64) -> Waiting {
     let waiting = output::put(console, out, waiting, b" ");

@@ -1,0 +1,104 @@
+// The lines of the input, answered one after the other by a program.
+ghost use Rattle.std.specs.Prelude.{◌≤◌, length, ◌≡◌, ◌↔◌, IsTrue, IsOk, OnErr};
+ghost use Rattle.text.specs.Cursor.{done_with};
+
+use crate::pieces::{put_cut, put_unknown};
+use streams::console::Console;
+use streams::input::{Input, Line};
+use streams::output::Waiting;
+use streams::{input, output, session};
+use text::cursor::Cursor;
+use text::{cursor, words};
+
+// What a program does with a line.
+pub trait Program {
+    // Answers a line that is not blank, and says what waits of the output then. Of a line that is out of form it says where
+    // that is, and puts nothing.
+    fn answer(
+        &mut self,
+        console: Console,
+        out: &mut [u8],
+        waiting: Waiting,
+        line: &[u8],
+        number: u64,
+    ) -> Result<Waiting, Cursor>;
+
+    // Puts what comes after the answers to all lines.
+    fn sum_up(&self, _console: Console, _out: &mut [u8], waiting: Waiting) -> Waiting {
+        waiting
+    }
+}
+
+// Where a line is out of form, if it is, once it is read.
+pub fn end(line: &[u8], c: Cursor) -> Result<(), Cursor>
+    ensures done { IsOk result ↔ IsTrue (done_with line.now c) }
+    ensures left { OnErr result (result ≡ Err c) }
+{
+    if cursor::is_done(line, c) {
+        return Ok(());
+    }
+    Err(c)
+}
+
+// Answers one line. Blanks alone have no answer.
+fn answer_line<P: Program>(
+    program: &mut P,
+    console: Console,
+    out: &mut [u8],
+    waiting: Waiting,
+    line: &[u8],
+    number: u64,
+) -> Waiting {
+    if words::is_end(line, 0) {
+        return waiting;
+    }
+    match program.answer(console, out, waiting, line, number) {
+        Ok(answered) => answered,
+        Err(c) => put_unknown(console, out, waiting, line, number, c),
+    }
+}
+
+// Answers a line of the input; while none is there, what waits is written.
+fn answer_found<P: Program>(
+    program: &mut P,
+    console: Console,
+    out: &mut [u8],
+    waiting: Waiting,
+    buf: &[u8],
+    line: Line,
+) -> Waiting
+    requires from_le_to { line.from ≤ line.to }
+    requires to_in_bounds { line.to ≤ length buf.now }
+{
+    if !line.is_there {
+        return output::flush(console, out, waiting);
+    }
+    if line.is_cut {
+        return put_cut(console, out, waiting, line.number);
+    }
+    answer_line(
+        program,
+        console,
+        out,
+        waiting,
+        &buf[line.from..line.to],
+        line.number,
+    )
+}
+
+// Answers all lines of the input, through the two buffers. A proved loop has to end, and nothing says that the input does: so
+// the steps are counted, up to a number that no run reaches.
+pub fn answer_all<P: Program>(program: &mut P, console: Console, buf: &mut [u8], out: &mut [u8]) {
+    let mut input = Input::new();
+    let mut waiting = Waiting::new();
+    for _ in 0..u64::MAX {
+        if !input.is_open || !waiting.is_good {
+            break;
+        }
+        let line = input::next_line(buf, input);
+        waiting = answer_found(program, console, out, waiting, buf, line);
+        input = input::go_on(console, buf, line);
+    }
+    let waiting = program.sum_up(console, out, waiting);
+    session::finish(console, out, waiting, input);
+}
