@@ -1,5 +1,5 @@
 // The input, read into a buffer a part at a time, and taken from it line by line.
-ghost use Rattle.std.specs.Prelude.{◌≡◌, ◌-◌, ◌<◌, ◌≤◌, length, take, drop};
+ghost use Rattle.std.specs.Prelude.{◌≡◌, ◌-◌, ◌<◌, ◌≤◌, length, take, drop, IfSome};
 ghost use Rattle.streams.specs.Input.{new_input, lines_of, line_to, held_line, is_left, last_line, not_yet, line_from, placed_at, roomed, held_bytes};
 ghost use Rattle.streams.specs.Input.{ReadOn, WentOn};
 
@@ -54,10 +54,16 @@ impl Input {
     }
 
     // What is left at the end of the input: a last line needs no line feed.
-    fn last_line(self) -> Line
+    fn last_line(self) -> Found
         ensures { result ≡ last_line self }
     {
         let is_there = self.is_left();
+        let line = is_there.then_some(Line {
+            from: self.from,
+            to: self.to,
+            number: self.number,
+            is_cut: self.is_cut,
+        });
         let rest = Input {
             from: self.to,
             number: self.number.wrapping_add(u64::from(is_there)),
@@ -66,25 +72,14 @@ impl Input {
             is_open: false,
             ..self
         };
-        Line {
-            from: self.from,
-            to: self.to,
-            number: self.number,
-            is_cut: self.is_cut,
-            is_there,
-            input: rest,
-        }
+        Found { line, input: rest }
     }
 
-    fn not_yet(self) -> Line
+    fn not_yet(self) -> Found
         ensures { result ≡ not_yet self }
     {
-        Line {
-            from: self.from,
-            to: self.from,
-            number: self.number,
-            is_cut: self.is_cut,
-            is_there: false,
+        Found {
+            line: None,
             input: self,
         }
     }
@@ -102,15 +97,20 @@ impl Input {
     }
 }
 
-// A line: the bytes of the buffer from `from` up to `to`. None is there while its end has yet to be read.
+// A line: the bytes of the buffer from `from` up to `to`, which the next read may write over.
 #[derive(Clone, Copy)]
 pub struct Line {
     pub from: usize,
     pub to: usize,
     pub number: u64,
+    // Whether its start is gone.
     pub is_cut: bool,
-    pub is_there: bool,
-    // What comes after it.
+}
+
+// What was looked for: a line, unless its end has yet to be read, and what comes after it.
+#[derive(Clone, Copy)]
+pub struct Found {
+    pub line: Option<Line>,
     pub input: Input,
 }
 
@@ -129,12 +129,12 @@ fn line_end(buf: &[u8], from: usize, end: usize) -> usize
 }
 
 // The line whose line feed stands at `end`.
-fn held_line(buf: &[u8], input: Input, end: usize) -> Line
+fn held_line(buf: &[u8], input: Input, end: usize) -> Found
     requires from_le_end { input.from ≤ end }
     requires end_lt_to { end < input.to }
     requires to_in_bounds { input.to ≤ length buf.now }
     ensures value { result ≡ held_line buf.now input end }
-    ensures from_le_to { (result.from ≤ result.to) × (result.to ≤ end) }
+    ensures from_le_to { IfSome result.line (λ line. (line.from ≤ line.to) × (line.to ≤ end)) }
 {
     let rest = Input {
         from: end + 1,
@@ -143,22 +143,24 @@ fn held_line(buf: &[u8], input: Input, end: usize) -> Line
         is_open: true,
         ..input
     };
-    Line {
+    let line = Line {
         from: input.from,
         to: line_end(buf, input.from, end),
         number: input.number,
         is_cut: input.is_cut,
-        is_there: true,
+    };
+    Found {
+        line: Some(line),
         input: rest,
     }
 }
 
 // The next line where the buffer holds it whole or the input is at its end.
-pub fn next_line(buf: &[u8], input: Input) -> Line
+pub fn next_line(buf: &[u8], input: Input) -> Found
     requires from_le_to { input.from ≤ input.to }
     requires to_in_bounds { input.to ≤ length buf.now }
     ensures value { result ≡ line_from buf.now input }
-    ensures from_le_to_2 { (result.from ≤ result.to) × (result.to ≤ length buf.now) }
+    ensures from_le_to_2 { IfSome result.line (λ line. (line.from ≤ line.to) × (line.to ≤ length buf.now)) }
     ensures from_le_to_3 { (result.input.from ≤ result.input.to) × (result.input.to ≤ length buf.now) }
 {
     let end = parts::find(buf, input.from, input.to, b'\n');
@@ -172,14 +174,14 @@ pub fn next_line(buf: &[u8], input: Input) -> Line
 }
 
 // What comes after a line; where none was there yet, after one more read.
-pub fn go_on(console: Console, buf: &mut [u8], line: Line) -> Input
-    requires from_le_to { line.input.from ≤ line.input.to }
-    requires to_in_bounds { line.input.to ≤ length buf.old }
+pub fn go_on(console: Console, buf: &mut [u8], found: Found) -> Input
+    requires from_le_to { found.input.from ≤ found.input.to }
+    requires to_in_bounds { found.input.to ≤ length buf.old }
     ensures from_le_to_2 { (result.from ≤ result.to) × (result.to ≤ length buf.new) }
-    ensures went_on { WentOn buf.old line buf.new result }
+    ensures went_on { WentOn buf.old found buf.new result }
 {
-    let input = line.input;
-    if line.is_there {
+    let input = found.input;
+    if found.line.is_some() {
         return input;
     }
     if input.has_more {
