@@ -44,6 +44,16 @@ impl Waiting {
         self.with_bytes(self.bytes.min(length))
     }
 
+    // One more line refused, where it is.
+    pub fn counted(self, is_refused: bool) -> Waiting
+        ensures { result ≡ one_refused is_refused self }
+    {
+        Waiting {
+            refused: self.refused.wrapping_add(u64::from(is_refused)),
+            ..self
+        }
+    }
+
     // One more line out of form.
     pub fn counted_unknown(self) -> Waiting
         ensures { result ≡ one_unknown self }
@@ -53,23 +63,6 @@ impl Waiting {
             ..self
         }
     }
-}
-
-// One more line refused, where it is.
-pub fn counted(waiting: Waiting, is_refused: bool) -> Waiting
-    ensures { result ≡ one_refused is_refused waiting }
-{
-    Waiting {
-        refused: waiting.refused.wrapping_add(u64::from(is_refused)),
-        ..waiting
-    }
-}
-
-// The lesser of two counts.
-pub fn least(a: usize, b: usize) -> usize
-    ensures { result ≡ min a b }
-{
-    a.min(b)
 }
 
 // Writes text, where nothing failed before it. Nothing waits then.
