@@ -1,6 +1,7 @@
 // FNV-1a of 64 bits, over surfaces and merits.
-ghost use Rattle.std.specs.Prelude.{◌≡◌, ◌*◌, ◌%◌, ◌^◌, min};
-ghost use Rattle.answers.specs.Digest.{prime, with_byte, with_bytes, with_float, with_surface, with_surfaces};
+ghost use Rattle.std.specs.Prelude.{◌≡◌, min};
+ghost use Rattle.std.specs.List.{fold};
+ghost use Rattle.answers.specs.Digest.{with_byte, with_bytes, with_float, with_surface, with_surfaces};
 
 use optics::OpticalSurface;
 use text::numbers;
@@ -8,34 +9,28 @@ use text::numbers;
 // The offset basis.
 pub const START: u64 = 0xcbf2_9ce4_8422_2325;
 
-// × the prime 2^40 + 435, what passes 64 bits dropped: each half of x by itself.
-fn times_prime(x: u64) -> u64
-    ensures { result ≡ x * prime % 2 ^ 64 }
-{
-    let high = (x / 0x1_0000_0000 * 435) % 0x1_0000_0000 * 0x1_0000_0000;
-    let low = x % 0x1_0000_0000 * 435;
-    let shifted = x % 0x100_0000 * 0x100_0000_0000;
-    high.wrapping_add(low).wrapping_add(shifted)
-}
+// The prime, 2^40 + 435.
+const PRIME: u64 = 0x100_0000_01b3;
 
 // One byte more.
 fn with_byte(hash: u64, byte: u64) -> u64
     ensures { result ≡ with_byte hash byte }
 {
-    times_prime(hash ^ byte)
+    (hash ^ byte).wrapping_mul(PRIME)
+}
+
+// All these bytes more.
+fn with_all(hash: u64, bytes: &[u8]) -> u64
+    ensures { result ≡ fold with_byte hash bytes.now }
+{
+    bytes.iter().fold(hash, |h, b| with_byte(h, u64::from(*b)))
 }
 
 // The eight bytes of a number more, the lowest first.
 fn with_word(hash: u64, x: u64) -> u64
     ensures { result ≡ with_bytes 8 hash x }
 {
-    let mut h = hash;
-    let mut rest = x;
-    for _ in 0..8u64 {
-        h = with_byte(h, rest % 256);
-        rest = rest / 256;
-    }
-    h
+    with_all(hash, &x.to_le_bytes())
 }
 
 // A float more.

@@ -48,7 +48,7 @@ pub fn put_refused(
     ensures bytes_in_bounds { result.bytes ≤ length out.new }
     ensures put { Put (one_refused true waiting) out.old (refused_texts number is_kept) result out.new }
 {
-    let waiting = output::counted(waiting, true);
+    let waiting = waiting.counted(true);
     let waiting = put_number(console, out, waiting, b" refused", number as u64);
     put_kept(console, out, waiting, is_kept)
 }

@@ -1,5 +1,5 @@
 // The lines of the input, answered one after the other by a program.
-ghost use Rattle.std.specs.Prelude.{◌≤◌, length, ◌≡◌, ◌↔◌, IsTrue, IsOk, OnErr};
+ghost use Rattle.std.specs.Prelude.{◌≤◌, length, ◌≡◌, ◌↔◌, IfSome, IsTrue, IsOk, OnErr};
 ghost use Rattle.text.specs.Cursor.{done_with};
 
 use crate::pieces::{put_cut, put_unknown};
@@ -65,14 +65,13 @@ fn answer_found<P: Program>(
     out: &mut [u8],
     waiting: Waiting,
     buf: &[u8],
-    line: Line,
+    line: Option<Line>,
 ) -> Waiting
-    requires from_le_to { line.from ≤ line.to }
-    requires to_in_bounds { line.to ≤ length buf.now }
+    requires { IfSome line (λ l. (l.from ≤ l.to) × (l.to ≤ length buf.now)) }
 {
-    if !line.is_there {
+    let Some(line) = line else {
         return output::flush(console, out, waiting);
-    }
+    };
     if line.is_cut {
         return put_cut(console, out, waiting, line.number);
     }
@@ -95,9 +94,9 @@ pub fn answer_all<P: Program>(program: &mut P, console: Console, buf: &mut [u8],
         if !input.is_open || !waiting.is_good {
             break;
         }
-        let line = input::next_line(buf, input);
-        waiting = answer_found(program, console, out, waiting, buf, line);
-        input = input::go_on(console, buf, line);
+        let found = input::next_line(buf, input);
+        waiting = answer_found(program, console, out, waiting, buf, found.line);
+        input = input::go_on(console, buf, found);
     }
     let waiting = program.sum_up(console, out, waiting);
     session::finish(console, out, waiting, input);

@@ -48,7 +48,7 @@ pub fn put_unknown(
     ensures put { Put (one_unknown waiting) out.old (unknown_texts line.now number c) result out.new }
 {
     let field = words::words_before(line, c.at).wrapping_add(1);
-    let waiting = put_number(console, out, output::counted_unknown(waiting), b"?", number);
+    let waiting = put_number(console, out, waiting.counted_unknown(), b"?", number);
     let waiting = put_number(console, out, waiting, b" field", field);
     let waiting = output::put(console, out, waiting, b": ");
     put_fault(console, out, waiting, line, c)
@@ -59,7 +59,7 @@ pub fn put_cut(console: Console, out: &mut [u8], waiting: Waiting, number: u64) 
     ensures bytes_in_bounds { result.bytes ≤ length out.new }
     ensures put { Put (one_unknown waiting) out.old (cut_texts number) result out.new }
 {
-    let waiting = put_number(console, out, output::counted_unknown(waiting), b"?", number);
+    let waiting = put_number(console, out, waiting.counted_unknown(), b"?", number);
     output::put(console, out, waiting, b" too long\n")
 }
 

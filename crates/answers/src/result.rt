@@ -59,7 +59,7 @@ fn put_surfaces(
     ensures bytes_in_bounds { result.bytes ≤ length out.new }
     ensures put { Put waiting out.old (surfaces_texts surfaces (min count 16)) result out.new }
 {
-    let mut held = output::within(waiting, out.len());
+    let mut held = waiting.within(out.len());
     for s in &surfaces[..count.min(16)] {
         held = put_surface(console, out, held, *s);
     }

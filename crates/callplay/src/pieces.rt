@@ -11,7 +11,7 @@ pub(crate) fn put_name(
     name: &[u8],
     number: u32,
 ) -> Waiting {
-    let waiting = output::counted(waiting, number > 0);
+    let waiting = waiting.counted(number > 0);
     answers::put_number(console, out, waiting, name, number as u64)
 }
 

@@ -4,7 +4,7 @@ use bench::Bench;
 
 // Damage: 12, with no turn too, and nothing is changed.
 pub(crate) fn refuses(bench: Bench) -> bool {
-    answers(bench, 0, 0, 12, bench) & answers(bench, 5, 0, 12, bench)
+    answers(bench, 0, 0, 12, bench) && answers(bench, 5, 0, 12, bench)
 }
 
 // No job is left: none is dealt, and nothing is changed.
@@ -14,34 +14,30 @@ pub(crate) fn deals_none(bench: Bench) -> bool {
 
 // A place to go next that is none gives 12.
 pub(crate) fn refuses_past(bench: Bench) -> bool {
-    refuses(with_next(bench, 4))
-        & refuses(with_next(bench, 5))
-        & refuses(with_next(bench, usize::MAX))
+    [4, 5, usize::MAX]
+        .iter()
+        .all(|next| refuses(with_next(bench, *next)))
 }
 
-// The place is served, if a turn there is taken.
-pub(crate) fn serves(bench: Bench, place: usize, turn: u32) -> bool {
-    if turn > 0 {
-        return deals_none(bench);
-    }
-    let mut scratch = [0.5; 256];
-    let turned = benchcalls::turned(bench, place, &mut scratch);
-    let left = turned.bench;
+// The place, where a turn is taken, is served.
+pub(crate) fn serves(bench: Bench, place: usize) -> bool {
+    let left = benchcalls::turned(bench, place, &mut [0.5; 256]).bench;
     answers(bench, 1, 1, 0, with_next(left, (place % 4 + 1) % 4))
 }
 
 fn with_next(bench: Bench, next: usize) -> Bench {
-    let mut b = bench;
-    b.next_place = next;
-    b
+    Bench {
+        next_place: next,
+        ..bench
+    }
 }
 
 // Whether a dealing of so many turns deals so many, answers the number and leaves that bench, with scratch as its turns leave it.
 fn answers(bench: Bench, turns: u16, dealt: u32, number: u32, after: Bench) -> bool {
     let mut scratch = [0.5; 256];
     let dealing = benchcalls::dealt(bench, turns, &mut scratch);
-    let left = dealing.bench;
-    let is_left = same::same_benches(left, after);
-    let is_scratch = verdict::is_scratch(scratch, dealt > 0);
-    is_left & is_scratch & (dealing.dealt == dealt) & (dealing.number == number)
+    same::same_benches(dealing.bench, after)
+        && verdict::is_scratch(&scratch, dealt > 0)
+        && dealing.dealt == dealt
+        && dealing.number == number
 }

@@ -1,6 +1,8 @@
-// One row: each of its entries, at each place where it has it, set to each value that is damage.
-use crate::tally::Tally;
-use crate::{changes, table, tally, verdict};
+// The rows that the run of a job leaves on its way: each of a row's entries, at each place where it has it in use, is set to
+// values that are damage.
+use crate::entries::{ENTRIES, Entry};
+use crate::tally::{Count, Tally};
+use crate::verdict;
 use bench::Bench;
 use held::HeldRow;
 use jobs::JobRequest;
@@ -14,22 +16,48 @@ pub(crate) struct Case {
     pub place: usize,
 }
 
-// 56 entries, 64 places at most, 5 values.
-pub(crate) fn examine_row(tally: Tally, case: Case) -> Tally {
-    let mut t = tally;
-    let mut k: usize = 0;
-    while k < 17920 {
-        t = examine_value(t, case, k / 320, k / 5 % 64, k % 5);
-        k += 1;
+// The run's rows after 0, 1, 3, 7, .. turns, up to the last, which may come more than once. Each has the next place for the
+// damaged row; the place to go next is two further.
+pub(crate) fn examine_job(tally: &mut Tally, admitted: Bench, request: JobRequest) {
+    let last = played(admitted, u64::MAX).rows[0];
+    let mut bench = admitted;
+    for stop in 0..12 {
+        let place = stop % 4;
+        let case = Case {
+            row: bench.rows[0],
+            bench: Bench {
+                rows: [last; 4],
+                next_place: (place + 2) % 4,
+            },
+            request,
+            place,
+        };
+        examine_row(tally, &case);
+        bench = played(bench, 1 << stop);
     }
-    t
 }
 
-fn examine_value(tally: Tally, case: Case, e: usize, i: usize, v: usize) -> Tally {
-    let row = case.row;
-    if !table::is_tried(row, e, i) {
-        return tally;
+// The bench after so many turns of place 0, or as many as there are.
+fn played(bench: Bench, count: u64) -> Bench {
+    let mut scratch = [0.0; 128];
+    benchcalls::play_turns(bench, 0, count, &mut scratch).bench
+}
+
+fn examine_row(tally: &mut Tally, case: &Case) {
+    for (entry, count) in ENTRIES.iter().zip(tally) {
+        examine_entry(count, case, entry);
     }
-    let changed = changes::changed(row, e, i, v);
-    tally::counted(tally, e, verdict::is_right(case, changed, e))
+}
+
+// There are 64 places at most.
+fn examine_entry(count: &mut Count, case: &Case, entry: &Entry) {
+    let Entry(_, uses, change) = *entry;
+    for i in 0..64 {
+        if uses.holds(&case.row, i) {
+            for v in 0..5 {
+                let changed = change.of(&case.row, i, v);
+                count.add(verdict::is_right(case, changed, change));
+            }
+        }
+    }
 }

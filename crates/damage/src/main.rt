@@ -2,21 +2,59 @@
 // entry at a time is set to a value that refusal 12 speaks of, and the calls are held to what they must answer: nothing is
 // done but releasing. Prints for each entry how many rows were tried and how many were answered right. A line that is no such
 // job is answered as the other programs do.
-// Stands on `benchcalls`, `joblines`, `answers` and `same`; a program that only tests. What it tests is written in tables, and
-// `&` stands where `&&` would do: branches are what takes a check long.
+// Stands on `benchcalls`, `joblines`, `answers` and `same`; a program that only tests.
 #![tactic(auto)]
 
-mod changes;
+mod change;
 mod deals;
+mod entries;
 mod examine;
-mod lines;
-mod number;
-mod real;
-mod table;
+mod limits;
+mod range;
 mod tally;
+mod uses;
 mod verdict;
 
+use answers::Program;
 use streams::console::Console;
+use streams::output::Waiting;
+use tally::Tally;
+use text::cursor;
+use text::cursor::{Cursor, Why};
+
+// What the lines so far have come to.
+#[derive(Clone, Copy)]
+struct Examined {
+    tally: Tally,
+}
+
+impl Program for Examined {
+    // J id kind ..: nothing is put. A job that is refused is counted, and leaves no rows.
+    fn answer(
+        &mut self,
+        _console: Console,
+        _out: &mut [u8],
+        waiting: Waiting,
+        line: &[u8],
+        _number: u64,
+    ) -> Result<Waiting, Cursor> {
+        let named = cursor::word(line, cursor::tag(line, Cursor::new(0), b"J"));
+        let kind = cursor::within(line, named, 1, 3, Why::Kind);
+        let job = joblines::read_job(line, kind.next);
+        let read = joblines::read_request(line, kind.value, job);
+        answers::end(line, read.next)?;
+        let admitted = benchcalls::admitted(benchcalls::empty_bench(), 0, read.value);
+        if admitted.number > 0 {
+            return Ok(waiting.counted(true));
+        }
+        examine::examine_job(&mut self.tally, admitted.bench, read.value);
+        Ok(waiting)
+    }
+
+    fn sum_up(&self, console: Console, out: &mut [u8], waiting: Waiting) -> Waiting {
+        tally::put(console, out, waiting, &self.tally)
+    }
+}
 
 fn main(rt: HostRuntime) {
     let console = Console {
@@ -26,5 +64,6 @@ fn main(rt: HostRuntime) {
     };
     let mut buf = io::large_buffer();
     let mut out = io::large_buffer();
-    lines::examine_all(console, &mut buf, &mut out);
+    let mut examined = Examined { tally: tally::NONE };
+    answers::answer_all(&mut examined, console, &mut buf, &mut out);
 }

@@ -16,4 +16,4 @@ mod settings;
 
 pub use limits::{LimitsRead, read_limits};
 pub use line::{JobLine, read_job};
-pub use request::{RequestRead, read_request};
+pub use request::read_request;

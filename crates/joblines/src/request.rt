@@ -7,8 +7,6 @@ use crate::settings;
 use jobs::JobRequest;
 use text::cursor::Read;
 
-pub type RequestRead = Read<JobRequest>;
-
 // The request of a job line of this kind, with the settings read from where the rest left off.
 pub fn read_request(line: &[u8], kind: u64, job: JobLine) -> Read<JobRequest>
     ensures { result ≡ request_from line.now kind job }

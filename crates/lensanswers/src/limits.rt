@@ -64,7 +64,7 @@ fn put_surfaces(
 {
     let heights = traced.heights;
     let slopes = traced.slopes;
-    let mut held = output::within(waiting, out.len());
+    let mut held = waiting.within(out.len());
     for i in 0..count.min(16) {
         held = put_surface(console, out, held, heights[i], slopes[i]);
     }

@@ -44,7 +44,7 @@ fn put_rays(
     ensures bytes_in_bounds { result.bytes ≤ length out.new }
     ensures put { Put waiting out.old (rays_texts rays (min count 16)) result out.new }
 {
-    let mut held = output::within(waiting, out.len());
+    let mut held = waiting.within(out.len());
     for ray in &rays[..count.min(16)] {
         held = put_ray(console, out, held, *ray);
     }

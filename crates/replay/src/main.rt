@@ -5,16 +5,53 @@
 #![tactic(auto)]
 
 mod evaluate;
-mod job;
 mod limits;
-mod lines;
 mod marks;
 mod play;
 mod run;
 mod trace;
-mod types;
 
+use answers::Program;
+use bench::Bench;
 use streams::console::Console;
+use streams::output::Waiting;
+use text::cursor;
+use text::cursor::{Cursor, Why};
+
+// The bench that the jobs are played on.
+#[derive(Clone, Copy)]
+struct Replay {
+    bench: Bench,
+}
+
+// J id kind ..: runs are played on the bench, evaluations and traces stand by themselves.
+impl Program for Replay {
+    fn answer(
+        &mut self,
+        console: Console,
+        out: &mut [u8],
+        waiting: Waiting,
+        line: &[u8],
+        number: u64,
+    ) -> Result<Waiting, Cursor> {
+        let named = cursor::word(line, cursor::tag(line, Cursor::new(0), b"J"));
+        let kind = cursor::within(line, named, 1, 6, Why::Kind);
+        let job = joblines::read_job(line, kind.next);
+        match kind.value {
+            4 => evaluate::answer(console, out, waiting, line, job),
+            5 => trace::answer(console, out, waiting, line, job),
+            6 => limits::answer(console, out, waiting, line, job),
+            _ => {
+                let read = joblines::read_request(line, kind.value, job);
+                answers::end(line, read.next)?;
+                // Each line has the place of its number.
+                let place = (number % 4) as usize;
+                let waiting = answers::put_head(console, out, waiting, line, kind.value);
+                Ok(run::answer(console, out, waiting, &mut self.bench, place, read.value))
+            }
+        }
+    }
+}
 
 fn main(rt: HostRuntime) {
     let console = Console {
@@ -24,5 +61,8 @@ fn main(rt: HostRuntime) {
     };
     let mut buf = io::large_buffer();
     let mut out = io::large_buffer();
-    lines::answer_all(console, &mut buf, &mut out);
+    let mut replay = Replay {
+        bench: benchcalls::empty_bench(),
+    };
+    answers::answer_all(&mut replay, console, &mut buf, &mut out);
 }

@@ -3,34 +3,21 @@ ghost use Rattle.std.specs.Prelude.{◌<◌};
 
 use bench::Bench;
 
-// The bench as far as it is played: the digest and the number of the job's turns, and the number of the turn that was
-// refused, or 0.
+// The digest and the number of a job's turns.
 #[derive(Clone, Copy)]
-pub(crate) struct Play {
-    pub bench: Bench,
+pub(crate) struct Turns {
     pub hash: u64,
-    pub turns: u64,
-    pub number: u32,
+    pub count: u64,
 }
 
 // The digest with the surfaces and the merit that the place's next turn works out.
-fn with_pending(hash: u64, bench: Bench, place: usize) -> u64
+fn with_pending(hash: u64, bench: &Bench, place: usize) -> u64
     requires { place < 4 }
 {
     let row = bench.rows[place];
     let pending = rowturns::pending_of(row);
-    let surfaces = pending.surfaces;
-    let counts = row.counts;
-    let h = answers::with_surfaces(hash, surfaces, held::surface_count(&counts));
+    let h = answers::with_surfaces(hash, pending.surfaces, held::surface_count(&row.counts));
     answers::with_float(h, pending.merit)
-}
-
-// The bench after a turn of the place, refused or not.
-fn after_turn(bench: Bench, place: usize) -> Bench {
-    let mut scratch = [0.0; 128];
-    let answer = benchcalls::turned(bench, place, &mut scratch);
-    let left = answer.bench;
-    left
 }
 
 // One of the three other places, in rotation.
@@ -39,46 +26,36 @@ fn other_place(place: usize, turns: u64) -> usize {
     (place % 4 + ahead) % 4
 }
 
-// One turn of the job at the place, then one of another place.
-fn step(play: Play, place: usize) -> Play
+// One turn of the job at the place, then one of another place, refused or not; none where the job's is refused.
+fn step(bench: &mut Bench, place: usize, turns: Turns) -> Option<Turns>
     requires { place < 4 }
 {
-    let bench = play.bench;
+    let hash = with_pending(turns.hash, bench, place);
     let mut scratch = [0.0; 128];
-    let answer = benchcalls::turned(bench, place, &mut scratch);
-    if answer.number > 0 {
-        return Play {
-            bench: bench,
-            hash: play.hash,
-            turns: play.turns,
-            number: answer.number,
-        };
+    if benchcalls::turn(bench, place, &mut scratch) > 0 {
+        return None;
     }
-    let turned = answer.bench;
-    let left = after_turn(turned, other_place(place, play.turns));
-    Play {
-        bench: left,
-        hash: with_pending(play.hash, bench, place),
-        turns: std::num::wrapping_add_u64(play.turns, 1),
-        number: 0,
-    }
+    benchcalls::turn(bench, other_place(place, turns.count), &mut scratch);
+    Some(Turns {
+        hash,
+        count: turns.count.wrapping_add(1),
+    })
 }
 
 // Turns of the job at the place until one is refused, as it is when the job is finished. A proved loop has to end: the turns
-// are counted down, from a number that no job uses up.
-pub(crate) fn played(bench: Bench, place: usize) -> Play
+// are counted, up to a number that no job reaches.
+pub(crate) fn play(bench: &mut Bench, place: usize) -> Turns
     requires { place < 4 }
 {
-    let mut play = Play {
-        bench: bench,
+    let mut turns = Turns {
         hash: answers::START,
-        turns: 0,
-        number: 0,
+        count: 0,
     };
-    let mut left = u64::MAX;
-    while left > 0 && play.number == 0 {
-        play = step(play, place);
-        left -= 1;
+    for _ in 0..u64::MAX {
+        match step(bench, place, turns) {
+            Some(more) => turns = more,
+            None => break,
+        }
     }
-    play
+    turns
 }

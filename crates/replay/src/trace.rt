@@ -1,6 +1,5 @@
 // Job lines of kind 5: a lens traced in one slot.
 use crate::marks;
-use answers::put_unknown;
 use joblines::JobLine;
 use merit::Traced;
 use optics::{OpticalPrescription, ParaxialProperties, ParaxialRay};
@@ -8,23 +7,21 @@ use streams::console::Console;
 use streams::output;
 use streams::output::Waiting;
 use text::cursor;
+use text::cursor::Cursor;
 
 // Kind 5 has a slot as its setting.
-pub(crate) fn trace(
+pub(crate) fn answer(
     console: Console,
     out: &mut [u8],
     waiting: Waiting,
     line: &[u8],
     job: JobLine,
-    number: u64,
-) -> Waiting {
+) -> Result<Waiting, Cursor> {
     let slot = cursor::decimal(line, job.next);
-    if !cursor::is_done(line, slot.next) {
-        return put_unknown(console, out, waiting, line, number, slot.next);
-    }
-    let prescription = job.prescription;
+    answers::end(line, slot.next)?;
     let waiting = answers::put_head(console, out, waiting, line, 5);
-    put_trace(console, out, waiting, prescription, slot.value as usize)
+    let slot = slot.value as usize;
+    Ok(put_trace(console, out, waiting, job.prescription, slot))
 }
 
 fn put_trace(
@@ -36,23 +33,11 @@ fn put_trace(
 ) -> Waiting {
     let count = prescription.surface_count;
     let t = lending::trace_over(prescription, slot, marks::marked_rays(), count);
-    let answer = t.answer;
-    let rays = t.rays;
-    match answer {
-        Traced::Refused(n) => answers::put_refused(
-            console,
-            out,
-            waiting,
-            n,
-            marks::are_marked(rays, 0),
-        ),
-        Traced::Failed => lensanswers::put_failed(
-            console,
-            out,
-            waiting,
-            marks::are_marked(rays, 0),
-        ),
-        Traced::Done => put_done(console, out, waiting, prescription, slot, rays),
+    let is_kept = marks::are_marked(&t.rays);
+    match t.answer {
+        Traced::Refused(n) => answers::put_refused(console, out, waiting, n, is_kept),
+        Traced::Failed => lensanswers::put_failed(console, out, waiting, is_kept),
+        Traced::Done => put_done(console, out, waiting, prescription, slot, t.rays),
     }
 }
 
@@ -66,55 +51,38 @@ fn put_done(
     rays: [ParaxialRay; 16],
 ) -> Waiting {
     let count = prescription.surface_count;
-    if !marks::are_marked(rays, count) || !lengths_refused(prescription, slot) {
+    if !marks::are_marked(&rays[count.min(16)..]) || !are_others_refused(prescription, slot) {
         return output::put(console, out, waiting, b" changed\n");
     }
     let waiting = lensanswers::put_traced(console, out, waiting, rays, count);
-    let q = paraxial(prescription, slot);
-    let Some(properties) = q else {
+    let Some(properties) = paraxial(prescription, slot) else {
         return waiting;
     };
     lensanswers::put_paraxial(console, out, waiting, properties)
 }
 
 // Whether a row of every other length gives 1, and stays as it was.
-fn lengths_refused(prescription: OpticalPrescription, slot: usize) -> bool {
-    let mut length = 0;
-    while length < 17 {
-        if length != prescription.surface_count && !is_refused(prescription, slot, length) {
-            return false;
-        }
-        length += 1;
-    }
-    true
+fn are_others_refused(prescription: OpticalPrescription, slot: usize) -> bool {
+    let count = prescription.surface_count;
+    (0..17).all(|length| length == count || is_refused(prescription, slot, length))
 }
 
 fn is_refused(prescription: OpticalPrescription, slot: usize, length: usize) -> bool {
     let t = lending::trace_over(prescription, slot, marks::marked_rays(), length);
-    let answer = t.answer;
-    let rays = t.rays;
-    let Traced::Refused(n) = answer else {
-        return false;
-    };
-    n == 1 && marks::are_marked(rays, 0)
+    matches!(t.answer, Traced::Refused(1)) && marks::are_marked(&t.rays)
 }
 
 // The lens in one slot, where both are within the limits.
 fn paraxial(prescription: OpticalPrescription, slot: usize) -> Option<ParaxialProperties> {
-    let surfaces = prescription.surfaces;
-    let indices = prescription.indices;
     let count = prescription.surface_count;
-    if count > 16 {
-        return None;
-    }
-    if slot > 3 {
+    if count > 16 || slot > 3 {
         return None;
     }
     let mut flat = [0.0; 64];
-    optics::lay_flat(surfaces, count, &mut flat);
+    optics::lay_flat(prescription.surfaces, count, &mut flat);
     optics::paraxial(
         &flat,
-        &indices,
+        &prescription.indices,
         slot,
         count,
         prescription.entrance_pupil_diameter_mm,

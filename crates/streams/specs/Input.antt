@@ -1,8 +1,9 @@
 -- The lines of the input. Definitions only.
-use Rattle.std.specs.Prelude.{◌≡◌, ℕ, ◌+◌, ◌-◌, ◌%◌, ◌^◌, ◌≤◌, Bool, true, false, cond, List, [], length, take, drop, ◌==◌, nat_lt, slice_index}
+use Rattle.std.specs.Prelude.{◌≡◌, ℕ, ◌+◌, ◌-◌, ◌%◌, ◌^◌, ◌≤◌, Bool, true, false, cond, List, [], length, take, drop, ◌==◌, nat_lt, slice_index, Some, None, IsSome, IsNone}
+use Rattle.std.specs.Bool.{then_some}
 use Rattle.streams.specs.Parts.{index_of, slice}
 use Rattle.streams.specs.declared.input.Input.{Input}
-use Rattle.streams.specs.declared.input.Line.{Line}
+use Rattle.streams.specs.declared.input.Found.{Found}
 
 -- nothing is read, and the first line is number 1
 abbrev pub new_input : Input
@@ -21,14 +22,10 @@ abbrev pub feed_at : List ℕ → Input → ℕ
 feed_at buf input = input.from + index_of 10 (slice input.from input.to buf)
 
 -- the line whose line feed stands at `end`, and what comes after that
-abbrev pub held_line : List ℕ → Input → ℕ → Line
+abbrev pub held_line : List ℕ → Input → ℕ → Found
 held_line buf input end =
     record {
-      from = input.from;
-      to = line_to buf input.from end;
-      number = input.number;
-      is_cut = input.is_cut;
-      is_there = true;
+      line = Some (record { from = input.from; to = line_to buf input.from end; number = input.number; is_cut = input.is_cut });
       input =
           record {
             from = end + 1;
@@ -45,14 +42,10 @@ held_line buf input end =
 abbrev pub is_left : Input → Bool
 is_left input = cond (nat_lt input.from input.to) true input.is_cut
 
-abbrev pub last_line : Input → Line
+abbrev pub last_line : Input → Found
 last_line input =
     record {
-      from = input.from;
-      to = input.to;
-      number = input.number;
-      is_cut = input.is_cut;
-      is_there = is_left input;
+      line = then_some (is_left input) (record { from = input.from; to = input.to; number = input.number; is_cut = input.is_cut });
       input =
           record {
             from = input.to;
@@ -65,19 +58,11 @@ last_line input =
           };
     }
 
-abbrev pub not_yet : Input → Line
-not_yet input =
-    record {
-      from = input.from;
-      to = input.from;
-      number = input.number;
-      is_cut = input.is_cut;
-      is_there = false;
-      input = input;
-    }
+abbrev pub not_yet : Input → Found
+not_yet input = record { line = None; input = input }
 
 -- a line that the buffer holds whole is taken; at the end of the input, what is left; and else no line is there yet
-unfoldable pub line_from : List ℕ → Input → Line
+unfoldable pub line_from : List ℕ → Input → Found
 line_from buf input =
     cond (nat_lt (feed_at buf input) input.to) (held_line buf input (feed_at buf input))
     (cond input.has_more (not_yet input) (last_line input))
@@ -118,7 +103,7 @@ pub record ReadOn (buf : List ℕ) (input : Input) (left : List ℕ) (next : Inp
   pub rest : next ≡ read_to next.to next.is_good (roomed (length buf) input)
 
 -- a line is followed by what comes after it; where none is there yet, and there is more, by what a read leaves
-pub record WentOn (buf : List ℕ) (line : Line) (left : List ℕ) (next : Input) : Type 0 where
-  pub there : line.is_there ≡ true → (next ≡ line.input) × (left ≡ buf)
-  pub over : line.input.has_more ≡ false → (next ≡ line.input) × (left ≡ buf)
-  pub read : line.is_there ≡ false → line.input.has_more ≡ true → ReadOn buf line.input left next
+pub record WentOn (buf : List ℕ) (found : Found) (left : List ℕ) (next : Input) : Type 0 where
+  pub there : IsSome found.line → (next ≡ found.input) × (left ≡ buf)
+  pub over : found.input.has_more ≡ false → (next ≡ found.input) × (left ≡ buf)
+  pub read : IsNone found.line → found.input.has_more ≡ true → ReadOn buf found.input left next

@@ -1,5 +1,5 @@
 // The input, read into a buffer a part at a time, and taken from it line by line.
-ghost use Rattle.std.specs.Prelude.{◌≡◌, ◌-◌, ◌<◌, ◌≤◌, length, take, drop};
+ghost use Rattle.std.specs.Prelude.{◌≡◌, ◌-◌, ◌<◌, ◌≤◌, length, take, drop, IfSome};
 ghost use Rattle.streams.specs.Input.{new_input, lines_of, line_to, held_line, is_left, last_line, not_yet, line_from, placed_at, roomed, held_bytes};
 ghost use Rattle.streams.specs.Input.{ReadOn, WentOn};
 
@@ -38,24 +38,79 @@ impl Input {
             is_good: true,
         }
     }
+
+    // How many lines were taken: one less than the number of the line that comes next.
+    pub(crate) fn lines(self) -> u64
+        ensures { result ≡ lines_of self }
+    {
+        self.number.wrapping_add(u64::MAX)
+    }
+
+    // Whether something of a line is left at the end of the input.
+    fn is_left(self) -> bool
+        ensures { result ≡ is_left self }
+    {
+        self.from < self.to || self.is_cut
+    }
+
+    // What is left at the end of the input: a last line needs no line feed.
+    fn last_line(self) -> Found
+        ensures { result ≡ last_line self }
+    {
+        let is_there = self.is_left();
+        let line = is_there.then_some(Line {
+            from: self.from,
+            to: self.to,
+            number: self.number,
+            is_cut: self.is_cut,
+        });
+        let rest = Input {
+            from: self.to,
+            number: self.number.wrapping_add(u64::from(is_there)),
+            is_cut: false,
+            has_more: false,
+            is_open: false,
+            ..self
+        };
+        Found { line, input: rest }
+    }
+
+    fn not_yet(self) -> Found
+        ensures { result ≡ not_yet self }
+    {
+        Found {
+            line: None,
+            input: self,
+        }
+    }
+
+    // The same line in the first `to` bytes.
+    fn placed(self, to: usize, is_cut: bool) -> Input
+        ensures { result ≡ placed_at to is_cut self }
+    {
+        Input {
+            from: 0,
+            to,
+            is_cut,
+            ..self
+        }
+    }
 }
 
-// How many lines were taken: one less than the number of the line that comes next.
-pub(crate) fn lines_of(input: Input) -> u64
-    ensures { result ≡ lines_of input }
-{
-    input.number.wrapping_add(u64::MAX)
-}
-
-// A line: the bytes of the buffer from `from` up to `to`. None is there while its end has yet to be read.
+// A line: the bytes of the buffer from `from` up to `to`, which the next read may write over.
 #[derive(Clone, Copy)]
 pub struct Line {
     pub from: usize,
     pub to: usize,
     pub number: u64,
+    // Whether its start is gone.
     pub is_cut: bool,
-    pub is_there: bool,
-    // What comes after it.
+}
+
+// What was looked for: a line, unless its end has yet to be read, and what comes after it.
+#[derive(Clone, Copy)]
+pub struct Found {
+    pub line: Option<Line>,
     pub input: Input,
 }
 
@@ -74,12 +129,12 @@ fn line_end(buf: &[u8], from: usize, end: usize) -> usize
 }
 
 // The line whose line feed stands at `end`.
-fn held_line(buf: &[u8], input: Input, end: usize) -> Line
+fn held_line(buf: &[u8], input: Input, end: usize) -> Found
     requires from_le_end { input.from ≤ end }
     requires end_lt_to { end < input.to }
     requires to_in_bounds { input.to ≤ length buf.now }
     ensures value { result ≡ held_line buf.now input end }
-    ensures from_le_to { (result.from ≤ result.to) × (result.to ≤ end) }
+    ensures from_le_to { IfSome result.line (λ line. (line.from ≤ line.to) × (line.to ≤ end)) }
 {
     let rest = Input {
         from: end + 1,
@@ -88,65 +143,24 @@ fn held_line(buf: &[u8], input: Input, end: usize) -> Line
         is_open: true,
         ..input
     };
-    Line {
+    let line = Line {
         from: input.from,
         to: line_end(buf, input.from, end),
         number: input.number,
         is_cut: input.is_cut,
-        is_there: true,
-        input: rest,
-    }
-}
-
-// Whether something of a line is left at the end of the input.
-fn is_left(input: Input) -> bool
-    ensures { result ≡ is_left input }
-{
-    input.from < input.to || input.is_cut
-}
-
-// What is left at the end of the input: a last line needs no line feed.
-fn last_line(input: Input) -> Line
-    ensures { result ≡ last_line input }
-{
-    let is_there = is_left(input);
-    let rest = Input {
-        from: input.to,
-        number: input.number.wrapping_add(u64::from(is_there)),
-        is_cut: false,
-        has_more: false,
-        is_open: false,
-        ..input
     };
-    Line {
-        from: input.from,
-        to: input.to,
-        number: input.number,
-        is_cut: input.is_cut,
-        is_there,
+    Found {
+        line: Some(line),
         input: rest,
-    }
-}
-
-fn not_yet(input: Input) -> Line
-    ensures { result ≡ not_yet input }
-{
-    Line {
-        from: input.from,
-        to: input.from,
-        number: input.number,
-        is_cut: input.is_cut,
-        is_there: false,
-        input,
     }
 }
 
 // The next line where the buffer holds it whole or the input is at its end.
-pub fn next_line(buf: &[u8], input: Input) -> Line
+pub fn next_line(buf: &[u8], input: Input) -> Found
     requires from_le_to { input.from ≤ input.to }
     requires to_in_bounds { input.to ≤ length buf.now }
     ensures value { result ≡ line_from buf.now input }
-    ensures from_le_to_2 { (result.from ≤ result.to) × (result.to ≤ length buf.now) }
+    ensures from_le_to_2 { IfSome result.line (λ line. (line.from ≤ line.to) × (line.to ≤ length buf.now)) }
     ensures from_le_to_3 { (result.input.from ≤ result.input.to) × (result.input.to ≤ length buf.now) }
 {
     let end = parts::find(buf, input.from, input.to, b'\n');
@@ -154,20 +168,20 @@ pub fn next_line(buf: &[u8], input: Input) -> Line
         return held_line(buf, input, end);
     }
     if input.has_more {
-        return not_yet(input);
+        return input.not_yet();
     }
-    last_line(input)
+    input.last_line()
 }
 
 // What comes after a line; where none was there yet, after one more read.
-pub fn go_on(console: Console, buf: &mut [u8], line: Line) -> Input
-    requires from_le_to { line.input.from ≤ line.input.to }
-    requires to_in_bounds { line.input.to ≤ length buf.old }
+pub fn go_on(console: Console, buf: &mut [u8], found: Found) -> Input
+    requires from_le_to { found.input.from ≤ found.input.to }
+    requires to_in_bounds { found.input.to ≤ length buf.old }
     ensures from_le_to_2 { (result.from ≤ result.to) × (result.to ≤ length buf.new) }
-    ensures went_on { WentOn buf.old line buf.new result }
+    ensures went_on { WentOn buf.old found buf.new result }
 {
-    let input = line.input;
-    if line.is_there {
+    let input = found.input;
+    if found.line.is_some() {
         return input;
     }
     if input.has_more {
@@ -196,22 +210,10 @@ fn with_room(buf: &mut [u8], input: Input) -> Input
     let from = input.from;
     let to = input.to;
     if to - from == buf.len() {
-        return placed(input, 0, true);
+        return input.placed(0, true);
     }
     move_front(buf, from, to);
-    placed(input, to - from, input.is_cut)
-}
-
-// The same line in the first `to` bytes.
-fn placed(input: Input, to: usize, is_cut: bool) -> Input
-    ensures { result ≡ placed_at to is_cut input }
-{
-    Input {
-        from: 0,
-        to,
-        is_cut,
-        ..input
-    }
+    input.placed(to - from, input.is_cut)
 }
 
 // The input after one more read. There is no more where nothing came, and no further line where the read failed.

@@ -30,46 +30,39 @@ impl Waiting {
             unknown: 0,
         }
     }
-}
 
-// One more line refused, where it is.
-pub fn counted(waiting: Waiting, is_refused: bool) -> Waiting
-    ensures { result ≡ one_refused is_refused waiting }
-{
-    Waiting {
-        refused: waiting.refused.wrapping_add(u64::from(is_refused)),
-        ..waiting
+    fn with_bytes(self, bytes: usize) -> Waiting
+        ensures { result ≡ with_bytes bytes self }
+    {
+        Waiting { bytes, ..self }
     }
-}
 
-// One more line out of form.
-pub fn counted_unknown(waiting: Waiting) -> Waiting
-    ensures { result ≡ one_unknown waiting }
-{
-    Waiting {
-        unknown: waiting.unknown.wrapping_add(1),
-        ..waiting
+    // No more waits than a buffer of so many bytes holds.
+    pub fn within(self, length: usize) -> Waiting
+        ensures { result ≡ clipped length self }
+    {
+        self.with_bytes(self.bytes.min(length))
     }
-}
 
-// The lesser of two counts.
-pub fn least(a: usize, b: usize) -> usize
-    ensures { result ≡ min a b }
-{
-    a.min(b)
-}
+    // One more line refused, where it is.
+    pub fn counted(self, is_refused: bool) -> Waiting
+        ensures { result ≡ one_refused is_refused self }
+    {
+        Waiting {
+            refused: self.refused.wrapping_add(u64::from(is_refused)),
+            ..self
+        }
+    }
 
-fn with_bytes(waiting: Waiting, bytes: usize) -> Waiting
-    ensures { result ≡ with_bytes bytes waiting }
-{
-    Waiting { bytes, ..waiting }
-}
-
-// No more waits than a buffer of so many bytes holds.
-pub fn within(waiting: Waiting, length: usize) -> Waiting
-    ensures { result ≡ clipped length waiting }
-{
-    with_bytes(waiting, waiting.bytes.min(length))
+    // One more line out of form.
+    pub fn counted_unknown(self) -> Waiting
+        ensures { result ≡ one_unknown self }
+    {
+        Waiting {
+            unknown: self.unknown.wrapping_add(1),
+            ..self
+        }
+    }
 }
 
 // Writes text, where nothing failed before it. Nothing waits then.
@@ -77,7 +70,7 @@ fn written(console: Console, waiting: Waiting, text: &[u8]) -> Waiting
     ensures { Written (length text.now) waiting result }
 {
     if !waiting.is_good {
-        return with_bytes(waiting, 0);
+        return waiting.with_bytes(0);
     }
     Waiting {
         bytes: 0,
@@ -105,9 +98,9 @@ pub fn put(console: Console, out: &mut [u8], waiting: Waiting, text: &[u8]) -> W
     let held = waiting.bytes.min(out.len());
     if held > out.len() - text.len() {
         let flushed = flush(console, out, waiting);
-        return with_bytes(flushed, parts::copy(text, out));
+        return flushed.with_bytes(parts::copy(text, out));
     }
-    with_bytes(waiting, held + parts::copy(text, &mut out[held..]))
+    waiting.with_bytes(held + parts::copy(text, &mut out[held..]))
 }
 
 // Adds a number's sixteen hexadecimal digits.
@@ -147,7 +140,7 @@ pub fn put_floats(console: Console, out: &mut [u8], waiting: Waiting, row: &[f64
     ensures bytes_in_bounds { result.bytes ≤ length out.new }
     ensures put { Put waiting out.old (float_texts row.now) result out.new }
 {
-    let mut held = within(waiting, out.len());
+    let mut held = waiting.within(out.len());
     for x in row {
         held = put(console, out, held, b" ");
         held = put_float(console, out, held, *x);

@@ -5,8 +5,8 @@ ghost use Rattle.streams.specs.Session.{count_texts, end_texts};
 
 use crate::console::Console;
 use crate::input::Input;
+use crate::output;
 use crate::output::Waiting;
-use crate::{input, output};
 
 // A number, and what is counted by it.
 fn put_count(console: Console, out: &mut [u8], waiting: Waiting, count: u64, name: &[u8]) -> Waiting
@@ -33,7 +33,7 @@ fn put_end(console: Console, out: &mut [u8], waiting: Waiting, lines: u64) -> Wa
 // Writes what waits, and the last line where all lines were read: where it is missing, an output is cut.
 pub fn finish(console: Console, out: &mut [u8], waiting: Waiting, input: Input) {
     if input.is_good {
-        let ended = put_end(console, out, waiting, input::lines_of(input));
+        let ended = put_end(console, out, waiting, input.lines());
         output::flush(console, out, ended);
         return;
     }

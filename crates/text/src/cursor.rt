@@ -56,8 +56,6 @@ pub struct Read<T> {
     pub next: Cursor,
 }
 
-pub type NumberRead = Read<u64>;
-
 // A cursor that stays before the field that is out of form.
 pub fn out_of_form(c: Cursor, why: Why) -> Cursor
     ensures { result ≡ out_of_form why c }

@@ -1,27 +1,29 @@
--- `answers::digest::with_word` meets its contract. The loop's invariant: the bytes that are left make of the hash so far what all make of the first. Assumes
--- nothing.
-use Rattle.std.proofs.Common.{◌≡◌, ℕ, suc, ◌+◌, ◌-◌, ◌/◌, ◌%◌, ◌<◌, ◌≤◌, sym, refl, ap, ◌∙◌, arith}
+-- `answers::digest::with_word` meets its contract: std's bytes of a number, the lowest first, are these. Assumes nothing.
+use Rattle.std.proofs.Common.{◌≡◌, ℕ, zero, suc, ◌/◌, ◌%◌, ◌^◌, sym, refl, ap, ◌∙◌, arith}
+use Rattle.std.proofs.Math.Nat.{div-div-eq-div-mul, pow-suc}
+use Rattle.std.specs.Int.{byte_at, bytes_low_first}
+use Rattle.std.specs.List.{fold}
 use Rattle.answers.specs.Digest.{with_byte, with_bytes}
 use Rattle.answers.proofs.digest.with_word.Goals as goal
 
-more : (i h rest : ℕ) → i < 8 → with_bytes (8 - i) h rest ≡ with_bytes (8 - (i + 1)) (with_byte h (rest % 256)) (rest / 256)
+whole : (x : ℕ) → x / 256 ^ 0 ≡ x
+whole x = omega arith
+
+byte : (i x : ℕ) → byte_at i x ≡ x / 256 ^ i % 256
+byte zero x = ap (λ (n : ℕ). n % 256) (sym (whole x))
+byte (suc i) x = refl
+
+further : (i x : ℕ) → x / 256 ^ suc i ≡ x / 256 ^ i / 256
+further i x = ap (λ (n : ℕ). x / n) (pow-suc 256 i) ∙ sym (div-div-eq-div-mul x (256 ^ i) 256)
+
+all_bytes : (n i hash x : ℕ) → fold with_byte hash (bytes_low_first i n x) ≡ with_bytes n hash (x / 256 ^ i)
 unfolding with_bytes
-more i h rest k = ap (λ (n : ℕ). with_bytes n h rest) (let e : 8 - i ≡ suc (8 - (i + 1)) = omega arith in e)
-
-none_left : (i h rest : ℕ) → 8 ≤ i → with_bytes (8 - i) h rest ≡ h
-unfolding with_bytes
-none_left i h rest k = ap (λ (n : ℕ). with_bytes n h rest) (let e : 8 - i ≡ 0 = omega arith in e)
-
-pub loop-init : goal.loop-init
-loop-init c = refl
-
-pub loop-preserved : goal.loop-preserved
-loop-preserved c =
-    let l = c.loop in
-    ap (λ (h : ℕ). with_bytes (8 - (l.counter + 1)) h (l.rest / 256)) c.with_byte-h.ensures ∙ sym (more l.counter l.h l.rest c.loop-test.true)
-    ∙ l.invariant
+all_bytes zero i hash x = refl
+all_bytes (suc n) i hash x =
+    all_bytes n (suc i) (with_byte hash (byte_at i x)) x
+    ∙ (λ k. with_bytes n (with_byte hash (byte i x k)) (further i x k))
 
 pub returns : goal.returns
 returns c =
-    let l = c.loop in
-    sym (none_left l.counter l.h l.rest c.loop-test.false) ∙ l.invariant
+    let a = c.args in
+    c.with_all.ensures ∙ ap (fold with_byte a.hash) c.to_le_bytes.ensures ∙ all_bytes 8 0 a.hash a.x ∙ ap (with_bytes 8 a.hash) (whole a.x)
