@@ -8,13 +8,10 @@ use bench::Bench;
 fn has_damaged(bench: Bench) -> bool
     ensures { result ≡ any_damaged bench }
 {
-    let mut place = 0;
-    while place < 4 {
-        let row = bench.rows[place];
-        if rows::is_damaged(row) {
+    for place in 0..4 {
+        if rows::is_damaged(bench.rows[place]) {
             return true;
         }
-        place += 1;
     }
     false
 }

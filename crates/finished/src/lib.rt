@@ -21,16 +21,7 @@ fn row_turns(held: HeldRow) -> u64
 fn turns_of(bench: Bench) -> [u64; 4]
     ensures { result ≡ turns_of bench }
 {
-    let first = bench.rows[0];
-    let second = bench.rows[1];
-    let third = bench.rows[2];
-    let fourth = bench.rows[3];
-    [
-        row_turns(first),
-        row_turns(second),
-        row_turns(third),
-        row_turns(fourth),
-    ]
+    bench.rows.map(|row| row_turns(row))
 }
 
 fn turns_at(turns: [u64; 4], place: usize) -> u64
@@ -47,14 +38,12 @@ fn position(turns: [u64; 4], places: [usize; 4], count: usize, place: usize) -> 
     requires { count ≤ 4 }
     ensures { result ≡ position_from (turns_in turns) place places 0 count }
 {
-    let mut at: usize = 0;
-    while at < count {
+    for at in 0..count {
         if turns_at(turns, place) < turns_at(turns, places[at]) {
             return at;
         }
-        at += 1;
     }
-    at
+    count
 }
 
 // Entry i, when a place stands at `at` and those from there on one further.
@@ -88,19 +77,13 @@ pub fn listed(bench: Bench) -> Finished
     let turns = turns_of(bench);
     let mut places = [0; 4];
     let mut count: usize = 0;
-    let mut place: usize = 0;
-    while place < 4 {
-        let row = bench.rows[place];
-        if rows::is_listed(row) {
+    for place in 0..4 {
+        if rows::is_listed(bench.rows[place]) {
             let at = position(turns, places, count, place);
             let next = opened(places, at, place);
             places = next;
             count += 1;
         }
-        place += 1;
     }
-    Finished {
-        places: places,
-        count: count,
-    }
+    Finished { places, count }
 }

@@ -1,7 +1,7 @@
 -- `finished::listed` meets its contract: the places found so far, in their order. Assumes nothing.
 use mathlib.Core.Path.{◌≡◌, sym, ap, ◌∙◌, subst}
 use mathlib.Core.List.{List}
-use Prim.Native.Nat.{ℕ, ◌≤◌}
+use Prim.Native.Nat.{ℕ, ◌≤◌, ◌<◌}
 use native.Mathlib.Omega.{arith}
 use Rattle.finished.specs.Inserted.{turns_in, position_from, opened_at}
 use Rattle.finished.specs.Gathered.{Gathered, gathered_none, gathered-less, gathered-more, gathered-all}
@@ -12,35 +12,33 @@ four : (k : ℕ) → k ≤ 4 → 4 ≤ k → k ≡ 4
 four k h l = omega arith
 
 pub loop-place-init : goal.loop-place-init
-loop-place-init c = (omega arith, gathered_none _)
+loop-place-init c = gathered_none _
 
 pub position-at-requires : goal.position-at-requires
-position-at-requires c = omega (arith, c.loop-place.invariant.0, c.loop-place.invariant.1.few)
+position-at-requires c = omega (arith, c.loop-place.invariant.few)
 
 pub overflow_add-count : goal.overflow_add-count
 overflow_add-count c =
-    omega (arith, c.loop-place.invariant.0, c.loop-place.invariant.1.few)
+    omega (arith, c.loop-place.invariant.few)
 
 pub loop-place-preserved : goal.loop-place-preserved
 loop-place-preserved c =
-    let g = c.loop-place.invariant.1 in
-    let below = c.loop-place-test.true in
+    let g = c.loop-place.invariant in
+    let below : c.loop-place.place < 4 = omega arith in
     let asked = c.is_listed.ensures in
     let turns = c.turns_of-turns.ensures in
-    let now = c.loop-place in (
-      omega (arith, below),
-      elim c.if-is_listed.branch [
-        | then-is_listed w ↦
-            gathered-more _ below g (sym asked ∙ w.if-is_listed.true)
-            (w.places-is ∙ w.opened-next.ensures ∙ ap (λ (n : ℕ). opened_at n now.place now.places)
-            (w.position-at.ensures ∙ ap (λ (l : List ℕ). position_from (turns_in l) now.place now.places 0 now.count) turns))
-            w.count-is
-        | else-is_listed w ↦ gathered-less _ below g (sym asked ∙ w.if-is_listed.false) w.places-is w.count-is
-      ],
-    )
+    let now = c.loop-place in
+    elim c.if-is_listed.branch [
+      | then-is_listed w ↦
+          gathered-more _ below g (sym asked ∙ w.if-is_listed.true)
+          (w.places-is ∙ w.opened-next.ensures ∙ ap (λ (n : ℕ). opened_at n now.place now.places)
+          (w.position-at.ensures ∙ ap (λ (l : List ℕ). position_from (turns_in l) now.place now.places 0 now.count) turns))
+          w.count-is
+      | else-is_listed w ↦ gathered-less _ below g (sym asked ∙ w.if-is_listed.false) w.places-is w.count-is
+    ]
 
 pub returns : goal.returns
 returns c =
     gathered-all _ _ _
     (subst (λ (k : ℕ). Gathered c.args.bench k c.loop-place.places c.loop-place.count)
-    (four _ c.loop-place.invariant.0 c.loop-place-test.false) c.loop-place.invariant.1)
+    (four _ (omega arith) (omega arith)) c.loop-place.invariant)

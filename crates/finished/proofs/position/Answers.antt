@@ -16,15 +16,15 @@ none : (n at : ℕ) → n ≤ at → n - at ≡ 0
 none n at h = omega arith
 
 pub loop-at-init : goal.loop-at-init
-loop-at-init c = (omega arith, ap (position_from (turns_in c.args.turns) c.args.place c.args.places 0) (all c.args.count))
+loop-at-init c = ap (position_from (turns_in c.args.turns) c.args.place c.args.places 0) (all c.args.count)
 
 pub returns-then-turns_at : goal.returns-then-turns_at
 returns-then-turns_at c =
     let a = c.args in
     let at = c.loop-at.at in
     sym
-    (c.loop-at.invariant.1
-    ∙ ap (position_from (turns_in a.turns) a.place a.places at) (left a.count at c.loop-at-test.true)
+    (c.loop-at.invariant
+    ∙ ap (position_from (turns_in a.turns) a.place a.places at) (left a.count at (omega arith))
     ∙ position_here (turns_in a.turns) a.place a.places at (a.count - suc at)
     (rw (c.turns_at.ensures, c.turns_at-in-loop-at.ensures) at c.if-turns_at.true))
 
@@ -32,17 +32,15 @@ pub loop-at-preserved : goal.loop-at-preserved
 loop-at-preserved c =
     let a = c.args in
     let at = c.loop-at.at in
-    let below = c.loop-at-test.true in (
-      omega (arith, below),
-      c.loop-at.invariant.1
-          ∙ ap (position_from (turns_in a.turns) a.place a.places at) (left a.count at below)
-          ∙ position-next (turns_in a.turns) a.place a.places at (a.count - suc at)
-          (rw (c.turns_at.ensures, c.turns_at-in-loop-at.ensures) at c.if-turns_at.false)
-          ∙ sym (ap (λ (n : ℕ). position_from (turns_in a.turns) a.place a.places n (a.count - n)) (add-one at)),
-    )
+    c.loop-at.invariant
+    ∙ ap (position_from (turns_in a.turns) a.place a.places at) (left a.count at (omega arith))
+    ∙ position-next (turns_in a.turns) a.place a.places at (a.count - suc at)
+    (rw (c.turns_at.ensures, c.turns_at-in-loop-at.ensures) at c.if-turns_at.false)
+    ∙ sym (ap (λ (n : ℕ). position_from (turns_in a.turns) a.place a.places n (a.count - n)) (add-one at))
 
 pub returns : goal.returns
 returns c =
     let a = c.args in
     let at = c.loop-at.at in
-    sym (c.loop-at.invariant.1 ∙ ap (position_from (turns_in a.turns) a.place a.places at) (none a.count at c.loop-at-test.false))
+    let e : a.count ≡ at = omega arith in
+    e ∙ sym (c.loop-at.invariant ∙ ap (position_from (turns_in a.turns) a.place a.places at) (none a.count at (omega arith)))
