@@ -35,12 +35,12 @@ fn put_evaluated(
 ) -> Waiting {
     let e = lending::evaluate_over(prescription, function, marks::marked_evaluation());
     let evaluation = e.evaluation;
-    if e.number > 0 {
+    if let Err(refusal) = e.answer {
         return answers::put_refused(
             console,
             out,
             waiting,
-            e.number,
+            refusal.number(),
             marks::is_marked(evaluation),
         );
     }

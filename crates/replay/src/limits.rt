@@ -34,10 +34,10 @@ fn put_limits(
     known: ThicknessLimits,
     slot: usize,
 ) -> Waiting {
-    let t = intervalcalls::limits_traced(prescription, known, slot);
-    if t.number > 0 {
-        return answers::put_refused(console, out, waiting, t.number, true);
+    match intervalcalls::limits_traced(prescription, known, slot) {
+        Ok(traced) => {
+            lensanswers::put_limits(console, out, waiting, traced, prescription.surface_count)
+        }
+        Err(refusal) => answers::put_refused(console, out, waiting, refusal.number(), true),
     }
-    let traced = t.traced;
-    lensanswers::put_limits(console, out, waiting, traced, prescription.surface_count)
 }

@@ -36,23 +36,22 @@ fn put_trace(
 ) -> Waiting {
     let count = prescription.surface_count;
     let t = lending::trace_over(prescription, slot, marks::marked_rays(), count);
-    let answer = t.answer;
     let rays = t.rays;
-    match answer {
-        Traced::Refused(n) => answers::put_refused(
+    match t.answer {
+        Err(refusal) => answers::put_refused(
             console,
             out,
             waiting,
-            n,
+            refusal.number(),
             marks::are_marked(rays, 0),
         ),
-        Traced::Failed => lensanswers::put_failed(
+        Ok(Traced::Failed) => lensanswers::put_failed(
             console,
             out,
             waiting,
             marks::are_marked(rays, 0),
         ),
-        Traced::Done => put_done(console, out, waiting, prescription, slot, rays),
+        Ok(Traced::Done) => put_done(console, out, waiting, prescription, slot, rays),
     }
 }
 
@@ -91,12 +90,10 @@ fn lengths_refused(prescription: OpticalPrescription, slot: usize) -> bool {
 
 fn is_refused(prescription: OpticalPrescription, slot: usize, length: usize) -> bool {
     let t = lending::trace_over(prescription, slot, marks::marked_rays(), length);
-    let answer = t.answer;
-    let rays = t.rays;
-    let Traced::Refused(n) = answer else {
+    let Err(refusal) = t.answer else {
         return false;
     };
-    n == 1 && marks::are_marked(rays, 0)
+    refusal.number() == 1 && marks::are_marked(t.rays, 0)
 }
 
 // The lens in one slot, where both are within the limits.
