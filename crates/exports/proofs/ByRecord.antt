@@ -1,5 +1,5 @@
 -- A lens by itself, asked by the record of a job: each call is the call by value on the job's lens and operands, whatever the job. Assumes nothing.
-use Rattle.std.specs.Prelude.{◌≡◌, Bool, List, ℕ, ◌<◌, ◌≤◌, get_or}
+use Rattle.std.specs.Prelude.{◌≡◌, Bool, List, ℕ, ◌<◌, ◌≤◌, get_or, Ok, Err}
 use Rattle.std.proofs.Math.Path.{refl, sym, ap}
 use Rattle.std.proofs.Common.{◌∙◌, arith}
 use Rattle.std.proofs.Math.Bool.{true, false}
@@ -12,7 +12,7 @@ use Rattle.lists.specs.All.{all_below}
 use Rattle.optics.specs.declared.types.ParaxialRay.{ParaxialRay}
 use Rattle.merit.specs.declared.types.MeritEvaluation.{MeritEvaluation}
 use Rattle.merit.specs.declared.types.MeritOperand.{MeritOperand}
-use Rattle.merit.specs.declared.types.Traced.TheVariants.{Done, Failed, Refused}
+use Rattle.merit.specs.declared.types.Traced.TheVariants.{Done, Failed}
 use Rattle.merit.specs.Calls.{evaluate_number, evaluated_as, trace_answer, traced_rays}
 use Rattle.merit.specs.OperandTable.{no_operand, operand_at}
 use Rattle.merit.proofs.UsedLaws.{SameLens, SameOperands, evaluate-same, evaluated-same}
@@ -41,9 +41,9 @@ pub record ByRecord (j : Job) : Type 0 where
   pub evaluate : evaluate_record_number (record_of j) ≡ evaluate_number j.prescription j.merit_function
   pub evaluated : (old : MeritEvaluation) → evaluated_record old (record_of j) ≡ evaluated_as old j.prescription j.merit_function
   -- `lens_trace` answers 0 where `trace` is done, 100 where it fails, its number where it refuses, and leaves its rays
-  pub trace_done : (slot rows : ℕ) → trace_answer j.prescription slot rows ≡ Done → trace_record_number (record_of j) slot rows ≡ 0
-  pub trace_failed : (slot rows : ℕ) → trace_answer j.prescription slot rows ≡ Failed → trace_record_number (record_of j) slot rows ≡ 100
-  pub trace_refused : (slot rows n : ℕ) → trace_answer j.prescription slot rows ≡ Refused n → trace_record_number (record_of j) slot rows ≡ n
+  pub trace_done : (slot rows : ℕ) → trace_answer j.prescription slot rows ≡ Ok Done → trace_record_number (record_of j) slot rows ≡ 0
+  pub trace_failed : (slot rows : ℕ) → trace_answer j.prescription slot rows ≡ Ok Failed → trace_record_number (record_of j) slot rows ≡ 100
+  pub trace_refused : (slot rows n : ℕ) → trace_answer j.prescription slot rows ≡ Err n → trace_record_number (record_of j) slot rows ≡ n
   pub traced : (slot : ℕ) (old : List ParaxialRay) → traced_rays (lens_of (record_of j)) slot old ≡ traced_rays j.prescription slot old
   -- `lens_trace_limits` answers as `trace_limits`, and leaves what it leaves
   pub limits : (l : ThicknessLimits) (slot : ℕ) → limits_number (lens_of (record_of j)) l slot ≡ limits_number j.prescription l slot

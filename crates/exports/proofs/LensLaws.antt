@@ -1,42 +1,22 @@
--- The evaluation of a record by value, and what the lent call keeps or stores of it. Assumes nothing.
-use Rattle.std.specs.Prelude.{◌≡◌, refl, true, false, ℕ, ◌<◌, ◌≤◌}
+-- The evaluation of a record: what the call keeps or stores of it. Assumes nothing.
+use Rattle.std.specs.Prelude.{◌≡◌, true, false, ℕ}
 use Rattle.std.proofs.Math.Path.{sym, ap}
-use Rattle.std.proofs.Common.{◌∙◌}
-use Rattle.merit.specs.declared.types.Evaluated.{Evaluated}
 use Rattle.merit.specs.declared.types.MeritEvaluation.{MeritEvaluation}
-use Rattle.merit.specs.OperandTable.{zero_evaluation}
-use Rattle.merit.specs.Calls.{unless_refused, evaluate_number, lens_evaluation}
-use Rattle.merit.proofs.CallLaws.{none, stays}
-use Rattle.lending.specs.Over.{evaluated_over}
+use Rattle.merit.specs.Calls.{unless_refused, evaluate_number, lens_evaluation, evaluated_as}
 use Rattle.jobs.specs.declared.types.JobRecord.{JobRecord}
-use Rattle.exports.specs.Lenses.{lens_of, function_of, are_operands, evaluate_record_number, evaluated_record, record_evaluated}
+use Rattle.exports.specs.Lenses.{lens_of, function_of, are_operands, evaluate_record_number, evaluated_record}
 
--- ---- by value
-module _ (j : JobRecord) where
-  with_number : (n : ℕ) → evaluate_record_number j ≡ n →
-      ◌≡◌ {A = Evaluated} (record { evaluation = unless_refused n (lens_evaluation (lens_of j) (function_of j)) zero_evaluation; number = n })
-      (record_evaluated j)
-  unfolding record_evaluated
-  with_number n e = λ i. record { evaluation = unless_refused (sym e i) (lens_evaluation (lens_of j) (function_of j)) zero_evaluation; number = sym e i }
+module _ (j : JobRecord) (old : MeritEvaluation) where
+  with_number : (n : ℕ) → evaluate_record_number j ≡ n
+      → (n ≡ evaluate_record_number j) × (unless_refused n (lens_evaluation (lens_of j) (function_of j)) old ≡ evaluated_record old j)
+  with_number n e = (sym e, ap (λ (k : ℕ). unless_refused k (lens_evaluation (lens_of j) (function_of j)) old) (sym e))
 
-  pub no-operands : are_operands j ≡ false → ◌≡◌ {A = Evaluated} (record { evaluation = zero_evaluation; number = 1 }) (record_evaluated j)
+  pub no-operands : are_operands j ≡ false → (1 ≡ evaluate_record_number j) × (old ≡ evaluated_record old j)
   unfolding evaluate_record_number
   no-operands e = with_number 1 (rw e)
 
-  pub operands : are_operands j ≡ true → evaluated_over (lens_of j) (function_of j) zero_evaluation ≡ record_evaluated j
+  pub operands : are_operands j ≡ true
+      → (evaluate_number (lens_of j) (function_of j) ≡ evaluate_record_number j)
+      × (evaluated_as old (lens_of j) (function_of j) ≡ evaluated_record old j)
   unfolding evaluate_record_number
   operands e = with_number (evaluate_number (lens_of j) (function_of j)) (rw e)
-
--- ---- lent
-module _ (j : JobRecord) (old : MeritEvaluation) where
-  pub record-kept : 0 < (record_evaluated j).number → ((record_evaluated j).number ≡ evaluate_record_number j) × (old ≡ evaluated_record old j)
-  unfolding record_evaluated
-  record-kept h = (refl, sym (stays (evaluate_record_number j) (lens_evaluation (lens_of j) (function_of j)) old h))
-
-  pub record-stored : (record_evaluated j).number ≤ 0 →
-      ((record_evaluated j).number ≡ evaluate_record_number j) × ((record_evaluated j).evaluation ≡ evaluated_record old j)
-  unfolding record_evaluated
-  record-stored h =
-      let z = none (evaluate_record_number j) h in
-      let new = lens_evaluation (lens_of j) (function_of j) in
-      (refl, ap (λ (k : ℕ). unless_refused k new zero_evaluation) z ∙ sym (ap (λ (k : ℕ). unless_refused k new old) z))

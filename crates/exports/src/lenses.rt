@@ -1,12 +1,12 @@
-// A lens by itself in numbers alone, by value.
+// A lens by itself in numbers alone.
 ghost use Rattle.std.specs.Prelude.{◌≡◌};
-ghost use Rattle.intervals.specs.Calls.{limits_traced};
-ghost use Rattle.exports.specs.Lenses.{lens_of, are_operands, record_evaluated, number_of};
+ghost use Rattle.refusals.specs.Numbers.{answered, numbered};
+ghost use Rattle.exports.specs.Lenses.{lens_of, are_operands, evaluate_record_number, evaluated_record, number_of};
 
-use intervals::{ThicknessLimits, TracedLimits};
 use jobs::JobRecord;
-use merit::{Evaluated, Traced};
+use merit::{MeritEvaluation, Traced};
 use optics::OpticalPrescription;
+use refusals::Refusal;
 
 pub(crate) fn lens_of(held: JobRecord) -> OpticalPrescription
     ensures { result ≡ lens_of held }
@@ -28,38 +28,25 @@ fn are_operands(held: JobRecord) -> bool
     jobs::known_kinds(alone)
 }
 
-// The evaluation of the record's lens under its operands.
-pub(crate) fn evaluated(held: JobRecord) -> Evaluated
-    ensures { result ≡ record_evaluated held }
+// The evaluation of the record's lens under its operands. Where it is refused, what is lent stays as it was.
+pub(crate) fn evaluate(held: JobRecord, evaluation: &mut MeritEvaluation) -> Result<(), Refusal>
+    ensures { (answered result ≡ evaluate_record_number held) × (evaluation.new ≡ evaluated_record evaluation.old held) }
 {
-    let none = meritcalls::zero_evaluation();
     if !are_operands(held) {
-        return Evaluated {
-            evaluation: none,
-            number: 1,
-        };
+        return Err(Refusal::BadCount);
     }
     let job = jobs::job_of(1, held);
-    let prescription = job.prescription;
-    let function = job.merit_function;
-    lending::evaluate_over(prescription, function, none)
-}
-
-// The record's lens traced within limits.
-pub(crate) fn limits_traced(held: JobRecord, limits: ThicknessLimits, slot: usize) -> TracedLimits
-    ensures { result ≡ limits_traced (lens_of held) limits slot }
-{
-    let prescription = lens_of(held);
-    intervalcalls::limits_traced(prescription, limits, slot)
+    meritcalls::evaluate(job.prescription, job.merit_function, evaluation)
 }
 
 // The number of a trace's answer.
-pub(crate) fn number_of(answer: Traced) -> u32
-    ensures { result ≡ number_of answer }
+#[tactic(auto, unfolding(crate::specs::Lenses::number_of))]
+pub(crate) fn number_of(answer: Result<Traced, Refusal>) -> u32
+    ensures { result ≡ number_of (numbered answer) }
 {
     match answer {
-        Traced::Done => 0,
-        Traced::Failed => 100,
-        Traced::Refused(n) => n,
+        Ok(Traced::Done) => 0,
+        Ok(Traced::Failed) => 100,
+        Err(refusal) => refusal.number(),
     }
 }

@@ -15,13 +15,7 @@ use optics::ParaxialRay;
 pub extern "C" fn lens_evaluate(asked: &JobRecord, evaluation: &mut MeritEvaluation) -> u32
     ensures { (result ≡ evaluate_record_number asked.now) × (evaluation.new ≡ evaluated_record evaluation.old asked.now) }
 {
-    let held = *asked;
-    let e = lenses::evaluated(held);
-    if e.number > 0 {
-        return e.number;
-    }
-    *evaluation = e.evaluation;
-    e.number
+    refusals::answered(lenses::evaluate(*asked, evaluation))
 }
 
 // The paraxial rays of the record's lens in a slot, one per surface. 1, 3 and 5, and 100 where there are fewer than two surfaces.
@@ -30,10 +24,8 @@ pub extern "C" fn lens_trace(asked: &JobRecord, slot: usize, rays: &mut [Paraxia
     ensures { (result ≡ trace_record_number asked.now slot (length rays.old))
         × (rays.new ≡ traced_rays (lens_of asked.now) slot rays.old) }
 {
-    let held = *asked;
-    let prescription = lenses::lens_of(held);
-    let answer = meritcalls::trace(prescription, slot, rays);
-    lenses::number_of(answer)
+    let prescription = lenses::lens_of(*asked);
+    lenses::number_of(meritcalls::trace(prescription, slot, rays))
 }
 
 // The track, heights and slopes of the record's lens in a slot, with each thickness within its limits: least and greatest. 1, 3, 5 and 19.
@@ -47,12 +39,6 @@ pub extern "C" fn lens_trace_limits(
     ensures { (result ≡ limits_number (lens_of asked.now) limits.now slot)
         × (traced.new ≡ limits_as traced.old (lens_of asked.now) limits.now slot) }
 {
-    let held = *asked;
-    let known = *limits;
-    let t = lenses::limits_traced(held, known, slot);
-    if t.number > 0 {
-        return t.number;
-    }
-    *traced = t.traced;
-    t.number
+    let prescription = lenses::lens_of(*asked);
+    refusals::answered(intervalcalls::trace_limits(prescription, *limits, slot, traced))
 }

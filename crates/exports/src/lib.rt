@@ -1,5 +1,5 @@
 // Functions for callers in C or Rust, through `exports_c`: a lens by itself, and thin ones, each with its callee's contract.
-// Stands on `lending`, `intervals` and `jobs`; called by `exports_c` alone.
+// Stands on `meritcalls`, `intervalcalls` and `jobs`; called by `exports_c` alone.
 #![tactic(auto)]
 
 ghost use Rattle.std.specs.Prelude.{◌≡◌};

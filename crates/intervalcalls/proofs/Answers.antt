@@ -1,43 +1,51 @@
 -- What the call makes of its parts. Assumes nothing.
 use mathlib.Core.Path.{◌≡◌, refl, sym, ap, ◌∙◌}
 use mathlib.Core.Bool.{Bool, true, false, not, cond}
-use Prim.Native.Nat.{ℕ, ◌≤◌, ◌<◌}
+use Prim.Native.Nat.{ℕ, zero, suc, ◌≤◌, ◌<◌}
 use native.Mathlib.Omega.{arith}
 use borrow.Author.Tests.{le-leb, lt-leb}
+use Rattle.std.specs.Prelude.{Option, Some, None, Ok, Err}
+use Rattle.std.specs.Option.{ok_or}
 use Rattle.lists.specs.All.{all_below}
+use Rattle.refusals.specs.Numbers.{number_of, numbered}
+use Rattle.refusals.proofs.Laws.{number-distinct}
+use Rattle.refusals.specs.declared.Refusal.{Refusal}
+use Rattle.refusals.specs.declared.Refusal.TheVariants.{BadLimits}
 use Rattle.optics.specs.declared.types.OpticalPrescription.{OpticalPrescription}
-use Rattle.merit.proofs.CallLaws.{none, stays}
 use Rattle.merit.specs.Calls.{unless_refused, trace_number}
-use Rattle.intervals.specs.Calls.{all_given, finite_at, lens_limits, limits_taken, limits_number, limits_as, limits_traced, refused_as, zero_limits}
+use Rattle.intervals.specs.Calls.{all_given, finite_at, lens_limits, limits_taken, limits_number, limits_as, limited_by, limits_traced}
 use Rattle.intervals.proofs.CallLaws.{number_is}
 use Rattle.intervals.specs.declared.types.ThicknessLimits.{ThicknessLimits}
 use Rattle.intervals.specs.declared.types.TraceLimits.{TraceLimits}
-use Rattle.intervals.specs.declared.types.TracedLimits.{TracedLimits}
+
+by-number : (n : ℕ) (new : TraceLimits) → 0 < n → limited_by n new ≡ Err n
+by-number zero new h = absurd (no h)
+  where
+    no : 0 < 0 → ⊥
+    no h = omega arith
+by-number (suc n) new h = refl
+
+-- the limits decide
+by-taken : (b : Bool) (o : Option TraceLimits) (new : TraceLimits) → o ≡ cond b (Some new) None
+    → numbered (ok_or o BadLimits) ≡ limited_by (cond (not b) 19 0) new
+by-taken true o new e = ap (λ (p : Option TraceLimits). numbered (ok_or p BadLimits)) e
+by-taken false o new e = ap (λ (p : Option TraceLimits). numbered (ok_or p BadLimits)) e
 
 module _ (p : OpticalPrescription) (l : ThicknessLimits) (slot : ℕ) where
   abbrev new : TraceLimits
   new = lens_limits p l slot
 
   -- ---- by value
-  becomes : (n : ℕ) → limits_number p l slot ≡ n → ◌≡◌ {A = TracedLimits} (record { traced = unless_refused n new zero_limits; number = n })
-      (limits_traced p l slot)
+  pub by-trace : (r : Refusal) → number_of r ≡ trace_number p slot p.surface_count → Err (number_of r) ≡ limits_traced p l slot
   unfolding limits_traced
-  becomes n e = λ i. record { traced = unless_refused (sym e i) new zero_limits; number = sym e i }
+  by-trace r e =
+      let h = (number-distinct r).0 in
+      sym (by-number (number_of r) new h) ∙ sym (ap (λ (n : ℕ). limited_by n new) ((number_is p l slot (number_of r) (sym e)).0 h))
 
-  pub refused-with : (n : ℕ) → 0 < n → limits_number p l slot ≡ n → refused_as n ≡ limits_traced p l slot
-  refused-with n h e = (λ i. record { traced = sym (stays n new zero_limits h) i; number = n }) ∙ becomes n e
-
-  pub by-trace : (n : ℕ) → n ≡ trace_number p slot p.surface_count → 0 < n → refused_as n ≡ limits_traced p l slot
-  by-trace n e h = refused-with n h ((number_is p l slot n (sym e)).0 h)
-
-  module _ (n : ℕ) (e : n ≡ trace_number p slot p.surface_count) (h : n ≤ 0) where
-    pub by-limits : limits_taken p l slot ≡ false → refused_as 19 ≡ limits_traced p l slot
-    by-limits t = refused-with 19 (omega arith) ((number_is p l slot n (sym e)).1 (none n h) ∙ ap (λ (b : Bool). cond (not b) 19 0) t)
-
-    pub done : limits_taken p l slot ≡ true → (traced : TraceLimits) → traced ≡ new
-        → ◌≡◌ {A = TracedLimits} (record { traced = traced; number = 0 }) (limits_traced p l slot)
-    done t traced q =
-        (λ i. record { traced = q i; number = 0 }) ∙ becomes 0 ((number_is p l slot n (sym e)).1 (none n h) ∙ ap (λ (b : Bool). cond (not b) 19 0) t)
+  pub by-limits : 0 ≡ trace_number p slot p.surface_count → (o : Option TraceLimits) → o ≡ cond (limits_taken p l slot) (Some new) None
+      → numbered (ok_or o BadLimits) ≡ limits_traced p l slot
+  unfolding limits_traced
+  by-limits e o q = by-taken (limits_taken p l slot) o new q ∙ sym (ap (λ (n : ℕ). limited_by n new) ((number_is p l slot 0 (sym e)).1 refl))
 
   -- ---- what the tests make of `limits_taken`
   pub too_few : p.surface_count < 2 → limits_taken p l slot ≡ false
@@ -49,20 +57,24 @@ module _ (p : OpticalPrescription) (l : ThicknessLimits) (slot : ℕ) where
     unfolding limits_taken
     not-given g = simp (le-leb 2 p.surface_count two, g)
 
-    module _ (g : all_given l p.surface_count ≡ true) where
-      pub taken_as : (b : Bool) → all_below (finite_at p l slot) p.surface_count ≡ b → limits_taken p l slot ≡ b
-      unfolding limits_taken
-      taken_as b f = simp (le-leb 2 p.surface_count two, g, f)
+    pub taken_as : all_given l p.surface_count ≡ true → limits_taken p l slot ≡ all_below (finite_at p l slot) p.surface_count
+    unfolding limits_taken
+    taken_as g = simp (le-leb 2 p.surface_count two, g)
 
   -- ---- what the lent call keeps or stores
   module _ (old : TraceLimits) where
-    pub limits-kept : 0 < (limits_traced p l slot).number → ((limits_traced p l slot).number ≡ limits_number p l slot) × (old ≡ limits_as old p l slot)
+    pub limits-kept : (r : Refusal) → Err (number_of r) ≡ limits_traced p l slot → (number_of r ≡ limits_number p l slot) × (old ≡ limits_as old p l slot)
     unfolding limits_traced
-    limits-kept h = (refl, sym (stays (limits_number p l slot) new old h))
+    limits-kept r e = go (limits_number p l slot) refl e
+      where
+        go : (n : ℕ) → limits_number p l slot ≡ n → Err (number_of r) ≡ limited_by n new → (number_of r ≡ limits_number p l slot) × (old ≡ limits_as old p l slot)
+        go zero q f = absurd (cc)
+        go (suc n) q f = (cc, sym (ap (λ (k : ℕ). unless_refused k new old) q))
 
-    pub limits-stored : (limits_traced p l slot).number ≤ 0 → ((limits_traced p l slot).number ≡ limits_number p l slot)
-        × ((limits_traced p l slot).traced ≡ limits_as old p l slot)
+    pub limits-stored : (new' : TraceLimits) → Ok new' ≡ limits_traced p l slot → (0 ≡ limits_number p l slot) × (new' ≡ limits_as old p l slot)
     unfolding limits_traced
-    limits-stored h =
-        let z = none (limits_number p l slot) h in
-        (refl, ap (λ (k : ℕ). unless_refused k new zero_limits) z ∙ sym (ap (λ (k : ℕ). unless_refused k new old) z))
+    limits-stored new' e = go (limits_number p l slot) refl e
+      where
+        go : (n : ℕ) → limits_number p l slot ≡ n → Ok new' ≡ limited_by n new → (0 ≡ limits_number p l slot) × (new' ≡ limits_as old p l slot)
+        go zero q f = (sym q, (cc) ∙ sym (ap (λ (k : ℕ). unless_refused k new old) q))
+        go (suc n) q f = absurd (cc)

@@ -1,28 +1,29 @@
 // A lens traced within limits. First by value, then lent.
-ghost use Rattle.std.specs.Prelude.{◌≡◌};
-ghost use Rattle.intervals.specs.Calls.{limits_number, limits_as, limits_traced, refused_as};
+ghost use Rattle.std.specs.Prelude.{◌≡◌, cond, ◌<◌, ◌≤◌, Some, None};
+ghost use Rattle.refusals.specs.Numbers.{answered, numbered};
+ghost use Rattle.intervals.specs.Calls.{lens_limits, limits_taken, limits_number, limits_as, limits_traced};
 
-use crate::ends::exact;
 use crate::surfaces::{all_given, worked};
-use intervals::{ThicknessLimits, TraceLimits, TracedLimits};
+use intervals::{ThicknessLimits, TraceLimits};
 use optics::OpticalPrescription;
+use refusals::Refusal;
 
-// An answer without limits.
-fn refused(number: u32) -> TracedLimits
-    ensures { result ≡ refused_as number }
+// What a lens whose trace is not refused comes to, where the limits are taken.
+fn limits_of(
+    prescription: OpticalPrescription,
+    limits: ThicknessLimits,
+    slot: usize,
+) -> Option<TraceLimits>
+    requires { (prescription.surface_count ≤ 16) × (slot < 4) }
+    ensures { result ≡ cond (limits_taken prescription limits slot) (Some (lens_limits prescription limits slot)) None }
 {
-    let zero = exact(0.0);
-    let heights = [zero; 16];
-    let slopes = [zero; 16];
-    let none = TraceLimits {
-        track: zero,
-        heights: heights,
-        slopes: slopes,
-    };
-    TracedLimits {
-        traced: none,
-        number: number,
+    if prescription.surface_count < 2 {
+        return None;
     }
+    if !all_given(limits, prescription.surface_count) {
+        return None;
+    }
+    worked(prescription, limits, slot)
 }
 
 // Least and greatest track, and height and slope for each surface, by value.
@@ -30,28 +31,11 @@ pub fn limits_traced(
     prescription: OpticalPrescription,
     limits: ThicknessLimits,
     slot: usize,
-) -> TracedLimits
-    ensures { result ≡ limits_traced prescription limits slot }
+) -> Result<TraceLimits, Refusal>
+    ensures { numbered result ≡ limits_traced prescription limits slot }
 {
-    let number = meritcalls::trace_number(prescription, slot, prescription.surface_count);
-    if number > 0 {
-        return refused(number);
-    }
-    if prescription.surface_count < 2 {
-        return refused(19);
-    }
-    if !all_given(limits, prescription.surface_count) {
-        return refused(19);
-    }
-    let w = worked(prescription, limits, slot);
-    if !w.finite {
-        return refused(19);
-    }
-    let traced = w.traced;
-    TracedLimits {
-        traced: traced,
-        number: 0,
-    }
+    meritcalls::trace_refusal(prescription, slot, prescription.surface_count)?;
+    limits_of(prescription, limits, slot).ok_or(Refusal::BadLimits)
 }
 
 // The same, lent: where it is refused the limits stay as they were.
@@ -60,13 +44,9 @@ pub fn trace_limits(
     limits: ThicknessLimits,
     slot: usize,
     traced: &mut TraceLimits,
-) -> u32
-    ensures { (result ≡ limits_number prescription limits slot) × (traced.new ≡ limits_as traced.old prescription limits slot) }
+) -> Result<(), Refusal>
+    ensures { (answered result ≡ limits_number prescription limits slot) × (traced.new ≡ limits_as traced.old prescription limits slot) }
 {
-    let t = limits_traced(prescription, limits, slot);
-    if t.number > 0 {
-        return t.number;
-    }
-    *traced = t.traced;
-    t.number
+    *traced = limits_traced(prescription, limits, slot)?;
+    Ok(())
 }

@@ -1,5 +1,5 @@
 // The trace's operations on interval ends.
-ghost use Rattle.std.specs.Prelude.{◌≡◌, ◌&&◌};
+ghost use Rattle.std.specs.Prelude.{◌≡◌};
 ghost use Rattle.intervals.specs.Interval.{exactly, lesser, greater, times, plus, minus, over, ends_finite, crossed};
 
 use intervals::Interval;
@@ -38,10 +38,7 @@ pub(crate) fn product(a: Interval, b: Interval) -> Interval
     let s = a.high * b.high;
     let low = lesser_of(lesser_of(lesser_of(p, q), r), s);
     let high = greater_of(greater_of(greater_of(p, q), r), s);
-    Interval {
-        low: low,
-        high: high,
-    }
+    Interval { low, high }
 }
 
 pub(crate) fn sum(a: Interval, b: Interval) -> Interval
@@ -81,10 +78,4 @@ pub(crate) fn is_crossed(a: Interval) -> bool
     ensures { result ≡ crossed a }
 {
     a.high < a.low
-}
-
-pub(crate) fn both(a: bool, b: bool) -> bool
-    ensures { result ≡ a && b }
-{
-    a && b
 }

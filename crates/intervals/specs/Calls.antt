@@ -1,5 +1,5 @@
 -- The call: what refuses it and what it answers. Definitions only.
-use Rattle.std.specs.Prelude.{ℕ, ◌-◌, Bool, not, ◌&&◌, List, [], ◌∷◌, ◌++◌, leb, get_or, replicate}
+use Rattle.std.specs.Prelude.{ℕ, zero, suc, ◌-◌, Bool, cond, not, ◌&&◌, List, [], ◌∷◌, ◌++◌, leb, get_or, replicate, Option, Some, None, Result, Ok, Err}
 use Rattle.lists.specs.All.{all_below}
 use Rattle.lists.specs.Refusals.{Refusal, refusal, first_refusal}
 use Rattle.lists.specs.Tab.{tab}
@@ -11,8 +11,6 @@ use Rattle.intervals.specs.Limits.{track_limits, height_limits, slope_limits, su
 use Rattle.intervals.specs.declared.types.Interval.{Interval}
 use Rattle.intervals.specs.declared.types.ThicknessLimits.{ThicknessLimits}
 use Rattle.intervals.specs.declared.types.TraceLimits.{TraceLimits}
-use Rattle.intervals.specs.declared.types.TracedLimits.{TracedLimits}
-use Rattle.intervals.specs.declared.types.WorkedLimits.{WorkedLimits}
 
 -- "states each thickness as a least and a greatest value": those behind surface k
 abbrev pub thickness_at : ThicknessLimits → ℕ → Interval
@@ -48,8 +46,9 @@ module _ (p : OpticalPrescription) (l : ThicknessLimits) (slot : ℕ) where
     slopes = sixteen slope_at p.surface_count;
   }
 
-  abbrev pub worked_as : WorkedLimits
-  worked_as = record { traced = lens_limits; finite = all_below finite_at p.surface_count }
+  -- where every interval worked out is finite
+  abbrev pub worked_as : Option TraceLimits
+  worked_as = cond (all_below finite_at p.surface_count) (Some lens_limits) None
 
   -- what "Fewer than two surfaces, crossed limits, or an interval end, given or worked out, that is not finite" does not refuse
   unfoldable pub limits_taken : Bool
@@ -66,12 +65,10 @@ module _ (p : OpticalPrescription) (l : ThicknessLimits) (slot : ℕ) where
 abbrev pub limits_as : (old : TraceLimits) → OpticalPrescription → ThicknessLimits → (slot : ℕ) → TraceLimits
 limits_as old p l slot = unless_refused (limits_number p l slot) (lens_limits p l slot) old
 
--- by value: where it is refused the limits are zero
-abbrev pub zero_limits : TraceLimits
-zero_limits = record { track = zero_interval; heights = replicate 16 zero_interval; slopes = replicate 16 zero_interval }
+-- by value: the limits, or the number where it is refused
+abbrev pub limited_by : (number : ℕ) → TraceLimits → Result TraceLimits ℕ
+limited_by zero new = Ok new
+limited_by (suc n) new = Err (suc n)
 
-abbrev pub refused_as : ℕ → TracedLimits
-refused_as n = record { traced = zero_limits; number = n }
-
-unfoldable pub limits_traced : OpticalPrescription → ThicknessLimits → (slot : ℕ) → TracedLimits
-limits_traced p l slot = record { traced = limits_as zero_limits p l slot; number = limits_number p l slot }
+unfoldable pub limits_traced : OpticalPrescription → ThicknessLimits → (slot : ℕ) → Result TraceLimits ℕ
+limits_traced p l slot = limited_by (limits_number p l slot) (lens_limits p l slot)

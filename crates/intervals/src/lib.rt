@@ -5,7 +5,4 @@
 
 mod types;
 
-pub use types::{
-    ArrivingLimits, Interval, PassedLimits, ThicknessLimits, TraceLimits, TracedLimits,
-    WorkedLimits,
-};
+pub use types::{ArrivingLimits, Interval, PassedLimits, ThicknessLimits, TraceLimits};

@@ -39,17 +39,3 @@ pub struct PassedLimits {
     pub refracted: bool,
     pub transferred: bool,
 }
-
-// What a lens comes to within limits, and whether every interval on the way has finite ends.
-#[derive(Clone, Copy)]
-pub struct WorkedLimits {
-    pub traced: TraceLimits,
-    pub finite: bool,
-}
-
-// The same with the refusal's number, 0 where there is none; zero where it is refused.
-#[derive(Clone, Copy)]
-pub struct TracedLimits {
-    pub traced: TraceLimits,
-    pub number: u32,
-}

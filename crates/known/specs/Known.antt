@@ -1,6 +1,6 @@
 -- The known values of document 01 that are marked to be proved, and that drawings are admitted, as one table of the definitions under one lemma. Assumes
 -- nothing.
-use Rattle.std.specs.Prelude.{◌≡◌, refl, true, false, List, [], ◌∷◌, Float, replicate}
+use Rattle.std.specs.Prelude.{◌≡◌, refl, true, false, List, [], ◌∷◌, Float, replicate, Ok}
 use Rattle.std.specs.Float.{inf}
 use Rattle.std.specs.Float.Ieee.{neg, lt, le, add, sub, mul, div, is_nan, of_bits}
 use Rattle.floats.specs.Basic.{magnitude, finite_of}
@@ -102,7 +102,7 @@ pub record Known : Type 0 where
   pub alone : (u : Unused) → Evaluates (first_alone u) (kinds u) (λ e. e.values ≡ ten_thousand ∷ ten_thousand ∷ hundred ∷ n16 ∷ zero64 ∷ past_five)
   -- the heights and slopes of the lens, whatever the row held: height 4, 3.5 behind 16 of a glass of index 2, on to a focus 56 behind
   pub traced : (u : Unused) (r s : ParaxialRay)
-      → (trace_answer (lens u n64 n16) 0 2 ≡ Done)
+      → (trace_answer (lens u n64 n16) 0 2 ≡ Ok Done)
       × (traced_rays (lens u n64 n16) 0 (r ∷ s ∷ []) ≡ ray_of n4 (neg thirty_second) ∷ ray_of three_and_half (neg sixteenth) ∷ [])
   -- "Seed 1 draws first hexadecimal 40822041."
   pub first_draw : step_times 1 (seeded 1) ≡ 0x40822041

@@ -2,14 +2,16 @@
 // Stands on `meritcalls`; called by `exports` and `replay`.
 #![tactic(auto)]
 
-ghost use Rattle.std.specs.Prelude.{◌≡◌};
-ghost use Rattle.lending.specs.Over.{evaluated_over, traced_over};
+ghost use Rattle.std.specs.Prelude.{◌≡◌, min};
+ghost use Rattle.refusals.specs.Numbers.{answered, numbered};
+ghost use Rattle.merit.specs.Calls.{evaluate_number, evaluated_as, trace_answer};
+ghost use Rattle.lending.specs.Over.{rays_over};
 
 mod types;
 
-use merit::{Evaluated, MeritEvaluation, MeritFunction};
+use merit::{MeritEvaluation, MeritFunction};
 use optics::{OpticalPrescription, ParaxialRay};
-pub use types::TracedRow;
+pub use types::{Evaluated, TracedRow};
 
 // `old` is what a refused evaluation leaves.
 pub fn evaluate_over(
@@ -17,14 +19,12 @@ pub fn evaluate_over(
     function: MeritFunction,
     old: MeritEvaluation,
 ) -> Evaluated
-    ensures { result ≡ evaluated_over prescription function old }
+    ensures evaluation { result.evaluation ≡ evaluated_as old prescription function }
+    ensures answer { answered result.answer ≡ evaluate_number prescription function }
 {
     let mut evaluation = old;
-    let number = meritcalls::evaluate(prescription, function, &mut evaluation);
-    Evaluated {
-        evaluation: evaluation,
-        number: number,
-    }
+    let answer = meritcalls::evaluate(prescription, function, &mut evaluation);
+    Evaluated { evaluation, answer }
 }
 
 // A trace into the first `length` records of `old`, or into all of them.
@@ -34,13 +34,11 @@ pub fn trace_over(
     old: [ParaxialRay; 16],
     length: usize,
 ) -> TracedRow
-    ensures { result ≡ traced_over prescription slot old length }
+    ensures rays { result.rays ≡ rays_over prescription slot old length }
+    ensures answer { numbered result.answer ≡ trace_answer prescription slot (min length 16) }
 {
     let mut rays = old;
     let n = if length < 16 { length } else { 16 };
     let answer = meritcalls::trace(prescription, slot, &mut rays[..n]);
-    TracedRow {
-        rays: rays,
-        answer: answer,
-    }
+    TracedRow { rays, answer }
 }

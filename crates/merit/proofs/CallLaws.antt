@@ -1,5 +1,5 @@
 -- What callers may use of the calls' refusals: each number is answered exactly when its cause holds and no cause in front of it does. Assumes nothing.
-use Rattle.std.specs.Prelude.{◌≡◌, Bool, true, false, not, ◌&&◌, ◌↔◌, T, leb, ltb, eqb}
+use Rattle.std.specs.Prelude.{◌≡◌, Bool, true, false, not, ◌&&◌, ◌↔◌, T, leb, ltb, eqb, Result, Ok, Err}
 use Rattle.std.proofs.Math.Path.{refl}
 use Rattle.std.proofs.Common.{sym, ◌∙◌, subst, arith, leb→le, ltb→lt, eqb→eq}
 use Prim.Native.Nat.{ℕ, zero, suc, ◌≤◌, ◌<◌}
@@ -16,7 +16,7 @@ use Rattle.merit.specs.Passing.{Evaluable, Traceable}
 use Rattle.merit.specs.declared.types.MeritEvaluation.{MeritEvaluation}
 use Rattle.merit.specs.declared.types.MeritFunction.{MeritFunction}
 use Rattle.merit.specs.declared.types.Traced.{Traced}
-use Rattle.merit.specs.declared.types.Traced.TheVariants.{Done, Failed, Refused}
+use Rattle.merit.specs.declared.types.Traced.TheVariants.{Done, Failed}
 
 counts-parts : (surfaces slots : ℕ) → T (lens_counts_taken surfaces slots) → (surfaces ≤ 16) × (1 ≤ slots) × (slots ≤ 4)
 counts-parts surfaces slots t =
@@ -84,19 +84,18 @@ module _ (p : OpticalPrescription) (f : MeritFunction) where
       }
 
 -- ---- trace
-abbrev Refusing : Traced → Type 0
-Refusing Done = ⊥
-Refusing Failed = ⊥
-Refusing (Refused n) = Unit {0}
+abbrev Refusing : Result Traced ℕ → Type 0
+Refusing (Ok a) = ⊥
+Refusing (Err n) = Unit {0}
 
 not-suc : (n : ℕ) → suc n ≡ 0 → ⊥
 not-suc n e = omega arith
 
-answer-done : (n count : ℕ) → (answer_of n count ≡ Done) ↔ ((n ≡ 0) × (2 ≤ count))
+answer-done : (n count : ℕ) → (answer_of n count ≡ Ok Done) ↔ ((n ≡ 0) × (2 ≤ count))
 answer-done zero count = let by = (unrefused count (ltb count 2) refl).0 in (λ e. (refl, by.0 e), λ h. by.1 h.1)
 answer-done (suc n) count = (λ e. absurd (subst Refusing e tt), λ h. absurd (not-suc n h.0))
 
-answer-failed : (n count : ℕ) → (answer_of n count ≡ Failed) ↔ ((n ≡ 0) × (count < 2))
+answer-failed : (n count : ℕ) → (answer_of n count ≡ Ok Failed) ↔ ((n ≡ 0) × (count < 2))
 answer-failed zero count = let by = (unrefused count (ltb count 2) refl).1 in (λ e. (refl, by.0 e), λ h. by.1 h.1)
 answer-failed (suc n) count = (λ e. absurd (subst Refusing e tt), λ h. absurd (not-suc n h.0))
 
@@ -131,13 +130,13 @@ module _ (p : OpticalPrescription) (slot rows : ℕ) where
   none-refuses = (λ e. trace-0.0 (traced-number ∙ e), λ h. sym traced-number ∙ trace-0.1 h)
 
   -- "Fewer than two surfaces is a failed trace"; else it is done, unless it is refused
-  pub trace-done : (trace_answer p slot rows ≡ Done) ↔ (NoneOf (trace_refusals p slot rows) × (2 ≤ p.surface_count))
+  pub trace-done : (trace_answer p slot rows ≡ Ok Done) ↔ (NoneOf (trace_refusals p slot rows) × (2 ≤ p.surface_count))
   unfolding trace_answer
   trace-done =
       let by = answer-done (trace_number p slot rows) p.surface_count in
       (λ e. (none-refuses.0 (by.0 e).0, (by.0 e).1), λ h. by.1 (none-refuses.1 h.0, h.1))
 
-  pub trace-failed : (trace_answer p slot rows ≡ Failed) ↔ (NoneOf (trace_refusals p slot rows) × (p.surface_count < 2))
+  pub trace-failed : (trace_answer p slot rows ≡ Ok Failed) ↔ (NoneOf (trace_refusals p slot rows) × (p.surface_count < 2))
   unfolding trace_answer
   trace-failed =
       let by = answer-failed (trace_number p slot rows) p.surface_count in
@@ -159,10 +158,10 @@ module _ (p : OpticalPrescription) (slot rows : ℕ) where
       }
 
   -- a trace that is done was not refused
-  pub done-traceable : trace_answer p slot rows ≡ Done → Traceable p slot rows
+  pub done-traceable : trace_answer p slot rows ≡ Ok Done → Traceable p slot rows
   unfolding trace_answer
   done-traceable e = traceable (go (trace_number p slot rows) e)
     where
-      go : (n : ℕ) → answer_of n p.surface_count ≡ Done → n ≡ 0
+      go : (n : ℕ) → answer_of n p.surface_count ≡ Ok Done → n ≡ 0
       go zero e = refl
       go (suc n) e = absurd (subst Refusing e tt)

@@ -1,5 +1,5 @@
 -- Entries past the counts change nothing: neither call's answer, nor what it leaves of what is lent. Assumes nothing.
-use Rattle.std.specs.Prelude.{◌≡◌, refl, Bool, not, ◌&&◌, List, [], ◌∷◌, ℕ, zero, suc, ◌<◌, ltb, length}
+use Rattle.std.specs.Prelude.{◌≡◌, refl, Bool, not, ◌&&◌, List, [], ◌∷◌, ℕ, zero, suc, ◌<◌, ltb, length, Result, Ok, Err}
 use Rattle.std.proofs.Math.Path.{ap}
 use Rattle.std.proofs.Common.{◌∙◌}
 use Rattle.std.proofs.Math.Dec.{leb, eqb}
@@ -23,7 +23,7 @@ use Rattle.merit.proofs.CallLaws.{evaluable, done-traceable}
 use Rattle.merit.specs.declared.types.MeritEvaluation.{MeritEvaluation}
 use Rattle.merit.specs.declared.types.MeritFunction.{MeritFunction}
 use Rattle.merit.specs.declared.types.Traced.{Traced}
-use Rattle.merit.specs.declared.types.Traced.TheVariants.{Done, Failed, Refused}
+use Rattle.merit.specs.declared.types.Traced.TheVariants.{Done, Failed}
 
 -- two lenses with the same entries in use
 pub record SameLens (p q : OpticalPrescription) : Type 0 where
@@ -91,13 +91,13 @@ module _ (p q : OpticalPrescription) (s : SameLens p q) where
     trace-answers-same rows = λ i. answer_of (number-agrees rows i) (s.count i)
 
     pub traced-same : (old : List ParaxialRay) → traced_rays p slot old ≡ traced_rays q slot old
-    traced-same old = go (trace_answer p slot (length old)) refl ∙ ap (λ (a : Traced). traced_row a (lens_trace q slot) old) (trace-answers-same (length old))
+    traced-same old = go (trace_answer p slot (length old)) refl ∙ ap (λ (a : Result Traced ℕ). traced_row a (lens_trace q slot) old) (trace-answers-same (length old))
       where
-        go : (a : Traced) → trace_answer p slot (length old) ≡ a → traced_row a (lens_trace p slot) old ≡ traced_row a (lens_trace q slot) old
-        go Done e =
+        go : (a : Result Traced ℕ) → trace_answer p slot (length old) ≡ a → traced_row a (lens_trace p slot) old ≡ traced_row a (lens_trace q slot) old
+        go (Ok Done) e =
             let there = (done-traceable p slot (length old) e).there in
             trace-same (surface_at p.surfaces) (surface_at q.surfaces) (slot_index p.indices slot) (slot_index q.indices slot)
             p.entrance_pupil_diameter_mm p.surface_count s.surfaces (λ i h. s.indices i slot h there)
             ∙ λ i. trace_of (surface_at q.surfaces) (slot_index q.indices slot) (s.pupil i) (s.count i)
-        go Failed e = refl
-        go (Refused n) e = refl
+        go (Ok Failed) e = refl
+        go (Err n) e = refl

@@ -1,8 +1,6 @@
 -- The two calls that stand alone: what refuses them and what they answer. Definitions only.
-use Rattle.std.specs.Prelude.{ℕ, zero, suc, ◌-◌, true, false, not, cond, ◌&&◌, List, [], ◌∷◌, ◌++◌, leb, ltb, eqb, Float, length, replicate}
-use Rattle.floats.specs.Constants.{zero64}
+use Rattle.std.specs.Prelude.{ℕ, zero, suc, not, cond, ◌&&◌, List, [], ◌∷◌, leb, ltb, eqb, length, Result, Ok, Err}
 use Rattle.lists.specs.Refusals.{Refusal, refusal, first_refusal}
-use Rattle.lists.specs.Tab.{tab}
 use Rattle.optics.specs.Kept.{lens_counts_taken}
 use Rattle.optics.specs.Check.{lens_taken}
 use Rattle.optics.specs.Trace.{ray_at, trace_of}
@@ -10,14 +8,11 @@ use Rattle.optics.specs.Types.{surface_at, slot_index}
 use Rattle.optics.specs.declared.types.OpticalPrescription.{OpticalPrescription}
 use Rattle.optics.specs.declared.types.ParaxialRay.{ParaxialRay}
 use Rattle.merit.specs.Check.{operands_taken}
-use Rattle.merit.specs.OperandTable.{zero_evaluation}
 use Rattle.merit.specs.Evaluation.{evaluation_of}
-use Rattle.merit.specs.declared.types.Evaluated.{Evaluated}
 use Rattle.merit.specs.declared.types.MeritEvaluation.{MeritEvaluation}
 use Rattle.merit.specs.declared.types.MeritFunction.{MeritFunction}
 use Rattle.merit.specs.declared.types.Traced.{Traced}
-use Rattle.merit.specs.declared.types.Traced.TheVariants.{Done, Failed, Refused}
-use Rattle.merit.specs.declared.types.TracedHeights.{TracedHeights}
+use Rattle.merit.specs.declared.types.Traced.TheVariants.{Done, Failed}
 
 -- what a number refuses stays as it was: "nothing lent changes"
 abbrev pub unless_refused : {A : Type 0} → ℕ → (new old : A) → A
@@ -45,10 +40,6 @@ module _ (p : OpticalPrescription) (f : MeritFunction) where
 abbrev pub evaluated_as : (old : MeritEvaluation) → OpticalPrescription → MeritFunction → MeritEvaluation
 evaluated_as old p f = unless_refused (evaluate_number p f) (lens_evaluation p f) old
 
--- by value: where it is refused the evaluation is zero
-unfoldable pub evaluated_of : OpticalPrescription → MeritFunction → Evaluated
-evaluated_of p f = record { evaluation = evaluated_as zero_evaluation p f; number = evaluate_number p f }
-
 -- ---- trace: "1, 3 and, for its slot, 5, over a row of one record per surface"
 module _ (p : OpticalPrescription) (slot : ℕ) where
   abbrev pub trace_refusals : (rows : ℕ) → List Refusal
@@ -70,45 +61,25 @@ module _ (p : OpticalPrescription) (slot : ℕ) where
   lens_trace = trace_of (surface_at p.surfaces) (slot_index p.indices slot) p.entrance_pupil_diameter_mm p.surface_count
 
 -- the answer, out of the number; "Fewer than two surfaces is a failed trace."
-abbrev pub answer_of : (number count : ℕ) → Traced
-answer_of zero count = cond (ltb count 2) Failed Done
-answer_of (suc n) count = Refused (suc n)
+abbrev pub answer_of : (number count : ℕ) → Result Traced ℕ
+answer_of zero count = cond (ltb count 2) (Ok Failed) (Ok Done)
+answer_of (suc n) count = Err (suc n)
 
 -- the number of an answer: a failed trace is not refused
-abbrev pub traced_number : Traced → ℕ
-traced_number Done = 0
-traced_number Failed = 0
-traced_number (Refused n) = n
+abbrev pub traced_number : Result Traced ℕ → ℕ
+traced_number (Ok Done) = 0
+traced_number (Ok Failed) = 0
+traced_number (Err n) = n
 
 -- the row of an answer: "unchanged when the trace fails"
-abbrev pub traced_row : Traced → (new old : List ParaxialRay) → List ParaxialRay
-traced_row Done new old = new
-traced_row Failed new old = old
-traced_row (Refused n) new old = old
+abbrev pub traced_row : Result Traced ℕ → (new old : List ParaxialRay) → List ParaxialRay
+traced_row (Ok Done) new old = new
+traced_row (Ok Failed) new old = old
+traced_row (Err n) new old = old
 
-unfoldable pub trace_answer : OpticalPrescription → (slot rows : ℕ) → Traced
+unfoldable pub trace_answer : OpticalPrescription → (slot rows : ℕ) → Result Traced ℕ
 trace_answer p slot rows = answer_of (trace_number p slot rows) p.surface_count
 
 -- what is lent, at exit
 abbrev pub traced_rays : OpticalPrescription → (slot : ℕ) → (old : List ParaxialRay) → List ParaxialRay
 traced_rays p slot old = traced_row (trace_answer p slot (length old)) (lens_trace p slot) old
-
--- by value: heights and slopes apart, zero past the surfaces and where nothing is traced
-abbrev pub sixteen : (ℕ → Float) → ℕ → List Float
-sixteen f n = tab f n ++ replicate (16 - n) zero64
-
-abbrev pub nothing_traced : Traced → TracedHeights
-nothing_traced a = record { heights = replicate 16 zero64; slopes = replicate 16 zero64; done = false; answer = a }
-
-abbrev pub heights_of : Traced → OpticalPrescription → (slot : ℕ) → TracedHeights
-heights_of Done p slot = record {
-  heights = sixteen (λ (k : ℕ). (lens_ray p slot k).y) p.surface_count;
-  slopes = sixteen (λ (k : ℕ). (lens_ray p slot k).u) p.surface_count;
-  done = true;
-  answer = Done;
-}
-heights_of Failed p slot = nothing_traced Failed
-heights_of (Refused n) p slot = nothing_traced (Refused n)
-
-unfoldable pub traced_heights : OpticalPrescription → (slot rows : ℕ) → TracedHeights
-traced_heights p slot rows = heights_of (trace_answer p slot rows) p slot

@@ -5,7 +5,4 @@
 
 mod types;
 
-pub use types::{
-    Evaluated, MeritEvaluation, MeritFunction, MeritOperand, OperandType, Traced, TracedHeights,
-    WeightRoot,
-};
+pub use types::{MeritEvaluation, MeritFunction, MeritOperand, OperandType, Traced, WeightRoot};

@@ -51,26 +51,9 @@ pub struct WeightRoot {
     pub root: f64,
 }
 
-// An evaluation and the refusal's number, 0 where there is none. Where it is refused, the function that answers it says what the evaluation is.
-#[derive(Clone, Copy)]
-pub struct Evaluated {
-    pub evaluation: MeritEvaluation,
-    pub number: u32,
-}
-
-// What tracing answers. Fewer than two surfaces are a failed trace, which is not refused.
+// What a trace that is not refused answers. Fewer than two surfaces are a failed trace.
 #[derive(Clone, Copy)]
 pub enum Traced {
     Done,
     Failed,
-    Refused(u32),
-}
-
-// A trace by value: heights and slopes, zero past the surfaces and where nothing was traced, whether they were, and the answer.
-#[derive(Clone, Copy)]
-pub struct TracedHeights {
-    pub heights: [f64; 16],
-    pub slopes: [f64; 16],
-    pub done: bool,
-    pub answer: Traced,
 }

@@ -1,35 +1,37 @@
-// The two calls that stand alone: evaluating a lens and tracing it. First by value, then lent.
-ghost use Rattle.std.specs.Prelude.{◌≡◌, ◌++◌, ◌-◌, ◌*◌, ◌<◌, ◌≤◌, length, replicate};
+// The two calls that stand alone: evaluating a lens and tracing it. Each fills what it is lent.
+ghost use Rattle.std.specs.Prelude.{◌≡◌, ◌++◌, ◌-◌, ◌*◌, ◌≤◌, ◌&&◌, leb, eqb, length, replicate};
 ghost use Rattle.floats.specs.Constants.{zero64};
+ghost use Rattle.refusals.specs.Numbers.{answered, numbered};
 ghost use Rattle.optics.specs.Flat.{laid_flat};
-ghost use Rattle.merit.specs.Passing.{Evaluable};
+ghost use Rattle.optics.specs.Kept.{lens_counts_taken};
+ghost use Rattle.merit.specs.Passing.{Evaluable, Traceable};
 ghost use Rattle.merit.specs.OperandTable.{zero_evaluation};
-ghost use Rattle.merit.specs.Calls.{evaluate_number, lens_evaluation, evaluated_as, evaluated_of, trace_number, trace_answer, traced_rays, nothing_traced};
-ghost use Rattle.merit.specs.Calls.{heights_of, traced_heights};
-ghost use Rattle.merit.specs.declared.types.Traced.TheVariants.{Done};
+ghost use Rattle.merit.specs.Calls.{evaluate_number, lens_evaluation, evaluated_as, trace_number, lens_trace, trace_answer, traced_rays};
 
 use crate::checks::operands_taken;
 use crate::evaluation::evaluate_flat;
-use merit::{Evaluated, MeritEvaluation, MeritFunction, Traced, TracedHeights};
+use merit::{MeritEvaluation, MeritFunction, Traced};
 use optics::{OpticalPrescription, OpticalSurface, ParaxialRay};
+use refusals::Refusal;
 
-// What an evaluation is refused with, 0 where it is not.
-fn evaluate_number(prescription: OpticalPrescription, function: MeritFunction) -> u32
-    ensures { result ≡ evaluate_number prescription function }
+fn counts_taken(prescription: OpticalPrescription, function: MeritFunction) -> bool
+    ensures { result ≡ lens_counts_taken prescription.surface_count prescription.slot_count && leb function.operand_count 12 }
 {
-    if !optics::lens_counts_taken(prescription.surface_count, prescription.slot_count) {
-        return 1;
-    }
-    if function.operand_count > 12 {
-        return 1;
-    }
-    if !optics::lens_taken(prescription) {
-        return 3;
-    }
-    if !operands_taken(prescription.slot_count, function) {
-        return 5;
-    }
-    0
+    optics::lens_counts_taken(prescription.surface_count, prescription.slot_count)
+        && function.operand_count <= 12
+}
+
+// Whether an evaluation is refused.
+#[tactic(auto, unfolding(merit::specs::Calls::evaluate_number))]
+fn evaluation_refusal(
+    prescription: OpticalPrescription,
+    function: MeritFunction,
+) -> Result<(), Refusal>
+    ensures { answered result ≡ evaluate_number prescription function }
+{
+    Refusal::BadCount.unless(counts_taken(prescription, function))?;
+    Refusal::BadLens.unless(optics::lens_taken(prescription))?;
+    Refusal::BadOperand.unless(operands_taken(prescription.slot_count, function))
 }
 
 // The surfaces in use laid flat, zero past them.
@@ -47,20 +49,17 @@ fn lens_evaluation(prescription: OpticalPrescription, function: MeritFunction) -
     requires { Evaluable prescription function }
     ensures { result ≡ lens_evaluation prescription function }
 {
-    let surfaces = prescription.surfaces;
-    let indices = prescription.indices;
-    let count = prescription.surface_count;
-    let flat = laid(surfaces, count);
+    let flat = laid(prescription.surfaces, prescription.surface_count);
     evaluate_flat(
         &flat,
-        &indices,
-        count,
+        &prescription.indices,
+        prescription.surface_count,
         prescription.entrance_pupil_diameter_mm,
         function,
     )
 }
 
-// What a refused evaluation by value is, and that of a run before its first merit.
+// The evaluation of a run before its first merit.
 pub fn zero_evaluation() -> MeritEvaluation
     ensures { result ≡ zero_evaluation }
 {
@@ -71,126 +70,73 @@ pub fn zero_evaluation() -> MeritEvaluation
     }
 }
 
-// The evaluation of a lens under its operands, by value.
-fn evaluated(prescription: OpticalPrescription, function: MeritFunction) -> Evaluated
-    ensures { result ≡ evaluated_of prescription function }
-{
-    let number = evaluate_number(prescription, function);
-    if number > 0 {
-        let zero = zero_evaluation();
-        return Evaluated {
-            evaluation: zero,
-            number: number,
-        };
-    }
-    let evaluation = lens_evaluation(prescription, function);
-    Evaluated {
-        evaluation: evaluation,
-        number: 0,
-    }
-}
-
-// The same, lent: where it is refused the evaluation stays as it was.
+// The evaluation of a lens under its operands. Where it is refused, what is lent stays as it was.
 pub fn evaluate(
     prescription: OpticalPrescription,
     function: MeritFunction,
     evaluation: &mut MeritEvaluation,
-) -> u32
-    ensures { (result ≡ evaluate_number prescription function) × (evaluation.new ≡ evaluated_as evaluation.old prescription function) }
+) -> Result<(), Refusal>
+    ensures { (answered result ≡ evaluate_number prescription function) × (evaluation.new ≡ evaluated_as evaluation.old prescription function) }
 {
-    let e = evaluated(prescription, function);
-    if e.number > 0 {
-        return e.number;
-    }
-    *evaluation = e.evaluation;
-    e.number
+    evaluation_refusal(prescription, function)?;
+    *evaluation = lens_evaluation(prescription, function);
+    Ok(())
 }
 
-// What a trace is refused with, 0 where it is not.
-pub fn trace_number(prescription: OpticalPrescription, slot: usize, length: usize) -> u32
-    ensures { result ≡ trace_number prescription slot length }
+fn row_taken(prescription: OpticalPrescription, length: usize) -> bool
+    ensures { result ≡ lens_counts_taken prescription.surface_count prescription.slot_count && eqb length prescription.surface_count }
 {
-    if !optics::lens_counts_taken(prescription.surface_count, prescription.slot_count) {
-        return 1;
-    }
-    if length != prescription.surface_count {
-        return 1;
-    }
-    if !optics::lens_taken(prescription) {
-        return 3;
-    }
-    if slot < prescription.slot_count {
-        return 0;
-    }
-    5
+    optics::lens_counts_taken(prescription.surface_count, prescription.slot_count)
+        && length == prescription.surface_count
 }
 
-// The heights and slopes of a lens whose trace is neither refused nor failed.
-fn lens_heights(prescription: OpticalPrescription, slot: usize) -> TracedHeights
-    requires { (prescription.surface_count ≤ 16) × (slot < 4) }
-    ensures { result ≡ heights_of Done prescription slot }
+// Whether a trace into a row of so many records is refused.
+#[tactic(auto, unfolding(merit::specs::Calls::trace_number))]
+pub fn trace_refusal(
+    prescription: OpticalPrescription,
+    slot: usize,
+    length: usize,
+) -> Result<(), Refusal>
+    ensures { answered result ≡ trace_number prescription slot length }
 {
-    let surfaces = prescription.surfaces;
-    let indices = prescription.indices;
+    Refusal::BadCount.unless(row_taken(prescription, length))?;
+    Refusal::BadLens.unless(optics::lens_taken(prescription))?;
+    Refusal::BadOperand.unless(slot < prescription.slot_count)
+}
+
+// The trace of a slot that is neither refused nor failed.
+fn fill_trace(prescription: OpticalPrescription, slot: usize, rays: &mut [ParaxialRay])
+    requires { Traceable prescription slot (length rays.old) }
+    ensures { rays.new ≡ lens_trace prescription slot }
+{
     let count = prescription.surface_count;
-    let flat = laid(surfaces, count);
+    let flat = laid(prescription.surfaces, count);
     let mut heights = [0.0; 16];
     let mut slopes = [0.0; 16];
     optics::trace_heights(
         &flat,
-        &indices,
+        &prescription.indices,
         slot,
         count,
         prescription.entrance_pupil_diameter_mm,
         &mut heights,
         &mut slopes,
     );
-    TracedHeights {
-        heights: heights,
-        slopes: slopes,
-        done: true,
-        answer: Traced::Done,
-    }
-}
-
-// An answer without a trace.
-fn nothing_traced(answer: Traced) -> TracedHeights
-    ensures { result ≡ nothing_traced answer }
-{
-    let heights = [0.0; 16];
-    let slopes = [0.0; 16];
-    TracedHeights {
-        heights: heights,
-        slopes: slopes,
-        done: false,
-        answer: answer,
-    }
-}
-
-// The trace of a slot into a row of so many records, by value.
-fn traced_heights(prescription: OpticalPrescription, slot: usize, length: usize) -> TracedHeights
-    ensures { result ≡ traced_heights prescription slot length }
-{
-    let number = trace_number(prescription, slot, length);
-    if number > 0 {
-        return nothing_traced(Traced::Refused(number));
-    }
-    if prescription.surface_count < 2 {
-        return nothing_traced(Traced::Failed);
-    }
-    lens_heights(prescription, slot)
-}
-
-// The same, lent, as a row of one record per surface: unless it is done the row stays as it was.
-pub fn trace(prescription: OpticalPrescription, slot: usize, rays: &mut [ParaxialRay]) -> Traced
-    ensures { (result ≡ trace_answer prescription slot (length rays.old)) × (rays.new ≡ traced_rays prescription slot rays.old) }
-{
-    let traced = traced_heights(prescription, slot, rays.len());
-    if !traced.done {
-        return traced.answer;
-    }
-    let heights = traced.heights;
-    let slopes = traced.slopes;
     optics::fill_rays(rays, &heights, &slopes);
-    traced.answer
+}
+
+// The trace of a slot, as a row of one record per surface: unless it is done the row stays as it was.
+pub fn trace(
+    prescription: OpticalPrescription,
+    slot: usize,
+    rays: &mut [ParaxialRay],
+) -> Result<Traced, Refusal>
+    ensures { (numbered result ≡ trace_answer prescription slot (length rays.old)) × (rays.new ≡ traced_rays prescription slot rays.old) }
+{
+    trace_refusal(prescription, slot, rays.len())?;
+    if prescription.surface_count < 2 {
+        return Ok(Traced::Failed);
+    }
+    fill_trace(prescription, slot, rays);
+    Ok(Traced::Done)
 }

@@ -36,17 +36,11 @@ fn weight_taken(x: f64) -> bool
     floats::is_finite(x) && !(x < 0.0)
 }
 
+#[tactic(auto, unfolding(merit::specs::Check::operand_taken))]
 pub fn operand_taken(slots: usize, o: MeritOperand) -> bool
     ensures { result ≡ operand_taken slots o }
 {
-    let kind = o.operand_type;
-    if !kind_taken(slots, kind) {
-        return false;
-    }
-    if !is_within(o.target) {
-        return false;
-    }
-    weight_taken(o.weight)
+    kind_taken(slots, o.operand_type) && is_within(o.target) && weight_taken(o.weight)
 }
 
 // Check 5 on the operands in use.
@@ -54,15 +48,9 @@ pub fn operands_taken(slots: usize, function: MeritFunction) -> bool
     requires { function.operand_count ≤ 12 }
     ensures { result ≡ operands_taken slots function }
 {
-    let operands = function.operands;
-    let many = function.operand_count;
-    let mut n = 0;
-    while n < many {
-        let o = operands[n];
-        if !operand_taken(slots, o) {
-            return false;
-        }
-        n += 1;
-    }
-    true
+    function
+        .operands
+        .iter()
+        .take(function.operand_count)
+        .all(|o| operand_taken(slots, *o))
 }

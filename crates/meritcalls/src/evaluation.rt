@@ -30,13 +30,11 @@ pub fn root_of(known: WeightRoot, weight: f64) -> WeightRoot
     requires { RootKnown known }
     ensures { (result.root ≡ sqrt_of weight) × RootKnown result }
 {
-    if weight > 0.0 {
-        if weight == known.weight {
-            return known;
-        }
+    if weight > 0.0 && weight == known.weight {
+        return known;
     }
     WeightRoot {
-        weight: weight,
+        weight,
         root: roots::sqrt(weight),
     }
 }
@@ -53,8 +51,6 @@ pub(crate) fn evaluate_flat(
     ensures { result ≡ evaluation_of (flat_surface flat.now) (slot_index indices.now) pupil count function }
 {
     let slots = optics::paraxial_slots(flat, indices, count, pupil);
-    let operands = function.operands;
-    let many = function.operand_count;
     let mut values = [0.0; 12];
     let mut residuals = [0.0; 12];
     let mut total = 0.0;
@@ -62,21 +58,18 @@ pub(crate) fn evaluate_flat(
         weight: 1.0,
         root: 1.0,
     };
-    let mut n = 0;
-    while n < many {
-        let o = operands[n];
-        let kind = o.operand_type;
-        let value = value_of(kind, slots, flat, count, values);
+    for n in 0..function.operand_count {
+        let o = function.operands[n];
+        let value = value_of(o.operand_type, slots, flat, count, values);
         let d = difference_of(o, value);
         values[n] = value;
         known = root_of(known, o.weight);
         residuals[n] = known.root * d;
         total = total + o.weight * d * d;
-        n += 1;
     }
     MeritEvaluation {
-        values: values,
-        residuals: residuals,
+        values,
+        residuals,
         total_merit: counted_total(total),
     }
 }

@@ -7,7 +7,7 @@ mod checks;
 mod evaluation;
 mod operands;
 
-pub use calls::{evaluate, trace, trace_number, zero_evaluation};
+pub use calls::{evaluate, trace, trace_refusal, zero_evaluation};
 pub use checks::{operand_taken, operands_taken};
 pub use evaluation::{counted_total, difference_of, root_of};
 pub use operands::value_of;

@@ -91,10 +91,8 @@ fn total_track(flat: &[f64], count: usize) -> f64
     ensures { result ≡ track (flat_surface flat.now) count }
 {
     let mut sum = 0.0;
-    let mut k = 0;
-    while k < count {
+    for k in 0..count {
         sum = sum + flat[4 * k + 2];
-        k += 1;
     }
     sum
 }
@@ -127,10 +125,7 @@ fn counted_value(x: f64) -> f64
 fn slot_of(slots: [Option<ParaxialProperties>; 4], w: usize) -> Option<ParaxialProperties>
     ensures { result ≡ get_or slots w None }
 {
-    if w < 4 {
-        return slots[w];
-    }
-    None
+    *slots.get(w)?
 }
 
 // The thickness behind surface i, where there is such a surface.

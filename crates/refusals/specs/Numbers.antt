@@ -29,3 +29,8 @@ answered (Err refusal) = number_of refusal
 -- none has 0, and no other has the number of this one
 abbrev pub Distinct : Refusal → Type 0
 Distinct refusal = (0 < number_of refusal) × ((other : Refusal) → number_of other ≡ number_of refusal → other ≡ refusal)
+
+-- the same answer with the refusal's number in its place
+abbrev pub numbered : {A : Type 0} → Result A Refusal → Result A ℕ
+numbered (Ok done) = Ok done
+numbered (Err refusal) = Err (number_of refusal)

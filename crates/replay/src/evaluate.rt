@@ -22,9 +22,9 @@ fn put_evaluated(console: Console, out: &mut [u8], waiting: Waiting, job: JobLin
     let prescription = job.prescription;
     let function = job.merit_function;
     let e = lending::evaluate_over(prescription, function, marks::marked_evaluation());
-    if e.number > 0 {
+    if let Err(refusal) = e.answer {
         let is_kept = marks::is_marked(e.evaluation);
-        return answers::put_refused(console, out, waiting, e.number, is_kept);
+        return answers::put_refused(console, out, waiting, refusal.number(), is_kept);
     }
     let hash = answers::with_surfaces(
         answers::START,

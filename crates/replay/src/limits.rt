@@ -17,9 +17,10 @@ pub(crate) fn answer(
     let read = joblines::read_limits(line, job.next, count);
     answers::end(line, read.next)?;
     let waiting = answers::put_head(console, out, waiting, line, 6);
-    let t = intervalcalls::limits_traced(prescription, read.limits, read.slot);
-    if t.number > 0 {
-        return Ok(answers::put_refused(console, out, waiting, t.number, true));
-    }
-    Ok(lensanswers::put_limits(console, out, waiting, t.traced, count))
+    Ok(
+        match intervalcalls::limits_traced(prescription, read.limits, read.slot) {
+            Ok(traced) => lensanswers::put_limits(console, out, waiting, traced, count),
+            Err(refusal) => answers::put_refused(console, out, waiting, refusal.number(), true),
+        },
+    )
 }

@@ -3,6 +3,7 @@ use crate::marks;
 use joblines::JobLine;
 use merit::Traced;
 use optics::{OpticalPrescription, ParaxialProperties, ParaxialRay};
+use refusals::Refusal;
 use streams::console::Console;
 use streams::output;
 use streams::output::Waiting;
@@ -35,9 +36,9 @@ fn put_trace(
     let t = lending::trace_over(prescription, slot, marks::marked_rays(), count);
     let is_kept = marks::are_marked(&t.rays);
     match t.answer {
-        Traced::Refused(n) => answers::put_refused(console, out, waiting, n, is_kept),
-        Traced::Failed => lensanswers::put_failed(console, out, waiting, is_kept),
-        Traced::Done => put_done(console, out, waiting, prescription, slot, t.rays),
+        Err(refusal) => answers::put_refused(console, out, waiting, refusal.number(), is_kept),
+        Ok(Traced::Failed) => lensanswers::put_failed(console, out, waiting, is_kept),
+        Ok(Traced::Done) => put_done(console, out, waiting, prescription, slot, t.rays),
     }
 }
 
@@ -69,7 +70,7 @@ fn are_others_refused(prescription: OpticalPrescription, slot: usize) -> bool {
 
 fn is_refused(prescription: OpticalPrescription, slot: usize, length: usize) -> bool {
     let t = lending::trace_over(prescription, slot, marks::marked_rays(), length);
-    matches!(t.answer, Traced::Refused(1)) && marks::are_marked(&t.rays)
+    matches!(t.answer, Err(Refusal::BadCount)) && marks::are_marked(&t.rays)
 }
 
 // The lens in one slot, where both are within the limits.

@@ -1,39 +1,16 @@
 -- `intervalcalls::surfaces::all_given` meets its contract. Assumes nothing.
-use mathlib.Core.Path.{◌≡◌, sym, ◌∙◌}
-use Prim.Native.Nat.{ℕ}
-use mathlib.Core.Bool.{Bool}
-use native.Mathlib.Omega.{arith}
-use Rattle.lists.specs.All.{all_below, all_more, not-all}
-use Rattle.intervals.specs.Calls.{thickness_at, given_taken}
-use Rattle.std.proofs.Common.{rules}
+use Rattle.std.proofs.Common.{sym, ◌∙◌, ◌≤◌, length, rules, tests}
+use Rattle.std.proofs.lemmas.Iterator.{YieldsList-from_slice, YieldsList-from_take}
+use Rattle.std.proofs.lemmas.Iterator.Search.{all_from_yields_List}
+use Rattle.lists.specs.All.{all-listed}
+use Rattle.intervals.specs.Interval.{no_interval}
+use Rattle.intervals.specs.Calls.{given_taken}
 use Rattle.intervalcalls.proofs.surfaces.all_given.Goals as goal
-
-pub loop-k-init : goal.loop-k-init
-unfolding all_below
-loop-k-init c = search rules
-
-pub returns-then-is_crossed : goal.returns-then-is_crossed
-returns-then-is_crossed c =
-    let taken : ℕ → Bool = λ k. given_taken (thickness_at c.args.limits k) in
-    sym (not-all taken _ c.loop-k.k (omega arith) (rw (sym c.is_crossed.ensures ∙ c.if-is_crossed.true)))
-
-pub returns-then-not-ends_finite : goal.returns-then-not-ends_finite
-returns-then-not-ends_finite c =
-    let taken : ℕ → Bool = λ k. given_taken (thickness_at c.args.limits k) in
-    let apart = sym c.is_crossed.ensures ∙ c.if-is_crossed.false in
-    sym (not-all taken _ c.loop-k.k (omega arith)
-    (rw (apart, sym c.ends_finite.ensures ∙ c.if-not-ends_finite.true)))
-
-pub loop-k-preserved : goal.loop-k-preserved
-loop-k-preserved c =
-    let taken : ℕ → Bool = λ k. given_taken (thickness_at c.args.limits k) in
-    let apart = sym c.is_crossed.ensures ∙ c.if-is_crossed.false in (
-      search rules,
-      all_more taken _ c.loop-k.invariant.1
-          (rw (apart, sym c.ends_finite.ensures ∙ c.if-not-ends_finite.false)),
-    )
 
 pub returns : goal.returns
 returns c =
-    let e : c.loop-k.k ≡ c.args.count = omega arith in
-    sym (rw e at c.loop-k.invariant.1)
+    let l = c.args.limits.thicknesses in
+    let long : c.args.count ≤ length l = search rules in
+    all_from_yields_List given_taken _ _ _ c.all.ensures.ran
+    (YieldsList-from_take c.args.count (YieldsList-from_slice l cc) c.take.ensures.count) (λ x b q k. search (rules, tests))
+    ∙ sym (all-listed given_taken l no_interval c.args.count long)

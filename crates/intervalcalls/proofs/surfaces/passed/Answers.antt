@@ -1,5 +1,4 @@
 -- `intervalcalls::surfaces::passed` meets its contract. Assumes nothing.
-use mathlib.Core.Path.{◌∙◌}
 use mathlib.Core.Bool.{◌&&◌}
 use Rattle.intervalcalls.proofs.Passing.{passed_is}
 use Rattle.intervalcalls.proofs.surfaces.passed.Goals as goal
@@ -17,11 +16,5 @@ returns c =
     c.quotient-slope.ensures
     c.product-transfer.ensures
     c.sum-height.ensures
-    (c.both-refracted.ensures
-    ∙ (λ i. (c.both.ensures
-    ∙ (λ j. c.ends_finite.ensures j
-    && c.ends_finite-2.ensures j)) i
-    && (c.both-2.ensures
-    ∙ (λ j. c.ends_finite-3.ensures j
-    && c.ends_finite-4.ensures j)) i))
-    (c.both-transferred.ensures ∙ (λ j. c.ends_finite-5.ensures j && c.ends_finite-6.ensures j))
+    (λ i. (c.ends_finite.ensures i && c.ends_finite-2.ensures i) && (c.ends_finite-3.ensures i && c.ends_finite-4.ensures i))
+    (λ i. c.ends_finite-5.ensures i && c.ends_finite-6.ensures i)

@@ -2,4 +2,4 @@
 use Rattle.intervalcalls.proofs.surfaces.start_of.Goals as goal
 
 pub returns : goal.returns
-returns c = rw (c.exact-y.ensures, c.exact-u.ensures)
+returns c = rw (c.exact.ensures, c.exact-2.ensures)

@@ -1,27 +1,22 @@
 -- `meritcalls::calls::trace` meets its contract. Assumes nothing.
-use mathlib.Core.Path.{◌≡◌, ◌∙◌, sym, subst}
-use mathlib.Core.Bool.{Bool, not}
-use lib.Dec.{T}
-use lib.ListN.{length}
-use Rattle.std.proofs.Common.{rules}
-use Rattle.meritcalls.proofs.Answers.{row_kept, row-short, row-filled}
+use mathlib.Core.Path.{sym, ◌∙◌}
+use Rattle.std.proofs.lemmas.Result.{err_from_is_err_and}
+use Rattle.merit.proofs.CallLaws.{traceable}
+use Rattle.meritcalls.proofs.Answers.{trace-refused, trace-failed, trace-done}
 use Rattle.meritcalls.proofs.calls.trace.Goals as goal
 
-pub returns-then-not-traced : goal.returns-then-not-traced
-returns-then-not-traced c =
-    let e = c.traced_heights-traced.ensures in
-    rw e (row_kept _ _ _ (subst T (sym (rw e at c.if-not-traced.true)) tt))
+pub returns-in_err-trace_refusal : goal.returns-in_err-trace_refusal
+returns-in_err-trace_refusal c =
+    let p = err_from_is_err_and c.from_residual.result c.from_residual.ensures.1 in
+    rw (p.1, p.2) (trace-refused _ _ _ _ c.in_err-trace_refusal.ensures)
 
-pub fill_rays-requires : goal.fill_rays-requires
-fill_rays-requires c =
-    let e = c.traced_heights-traced.ensures in
-    let p : length c.traced_heights-traced.result.heights ≡ 16 = search rules in
-    let q : length c.traced_heights-traced.result.slopes ≡ 16 = search rules in
-    rw e (row-short _ _ _ (subst (λ (b : Bool). T (not b)) (sym (rw e at c.if-not-traced.false)) tt) (rw e at p) (rw e at q))
+pub returns-then-prescription-lt2 : goal.returns-then-prescription-lt2
+returns-then-prescription-lt2 c = trace-failed _ _ _ (sym c.in_ok-trace_refusal.ensures) c.if-prescription-lt2.true
+
+pub fill_trace-requires : goal.fill_trace-requires
+fill_trace-requires c = traceable _ _ _ (sym c.in_ok-trace_refusal.ensures)
 
 pub returns : goal.returns
 returns c =
-    let e = c.traced_heights-traced.ensures in
-    let f = rw e at c.fill_rays.ensures in
-    let filled = row-filled _ _ _ (subst (λ (b : Bool). T (not b)) (sym (rw e at c.if-not-traced.false)) tt) in
-    rw e (filled.0, f ∙ filled.1)
+    let done = trace-done c.args.prescription c.args.slot c.args.rays.now (sym c.in_ok-trace_refusal.ensures) c.if-prescription-lt2.false in
+    (done.0, c.fill_trace.ensures ∙ done.1)

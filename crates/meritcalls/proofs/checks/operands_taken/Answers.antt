@@ -1,39 +1,16 @@
--- `meritcalls::checks::operands_taken` meets its contract. The loop's invariant: every operand passed is taken. Assumes nothing.
-use mathlib.Core.Path.{◌≡◌, sym, ◌∙◌}
-use Prim.Native.Nat.{ℕ}
-use mathlib.Core.Bool.{Bool}
-use lib.ListN.{get_or}
-use Rattle.lists.specs.All.{all_below, all_more, not-all}
+-- `meritcalls::checks::operands_taken` meets its contract. Assumes nothing.
+use Rattle.std.proofs.Common.{sym, ◌∙◌, ◌≤◌, length, rules, tests}
+use Rattle.std.proofs.lemmas.Iterator.{YieldsList-from_slice, YieldsList-from_take}
+use Rattle.std.proofs.lemmas.Iterator.Search.{all_from_yields_List}
+use Rattle.lists.specs.All.{all-listed}
 use Rattle.merit.specs.OperandTable.{no_operand}
 use Rattle.merit.specs.Check.{operand_taken}
-use Rattle.merit.specs.declared.types.MeritOperand.{MeritOperand}
-use mathlib.Core.List.{List}
-use native.Mathlib.Omega.{arith}
-use Rattle.std.proofs.Common.{rules}
 use Rattle.meritcalls.proofs.checks.operands_taken.Goals as goal
-
-abbrev taken : ℕ → List MeritOperand → ℕ → Bool
-taken slots operands n = operand_taken slots (get_or operands n no_operand)
-
-pub loop-n-init : goal.loop-n-init
-unfolding all_below
-loop-n-init c = search rules
-
-pub returns-then-not-operand_taken : goal.returns-then-not-operand_taken
-returns-then-not-operand_taken c =
-    let a = c.args in
-    sym (not-all (taken a.slots a.function.operands) _ c.loop-n.n (omega arith)
-    (sym c.operand_taken.ensures ∙ c.if-not-operand_taken.true))
-
-pub loop-n-preserved : goal.loop-n-preserved
-loop-n-preserved c =
-    let a = c.args in (
-      search rules,
-      all_more (taken a.slots a.function.operands) _ c.loop-n.invariant.1
-          (sym c.operand_taken.ensures ∙ c.if-not-operand_taken.false),
-    )
 
 pub returns : goal.returns
 returns c =
-    let e : c.loop-n.n ≡ c.args.function.operand_count = omega arith in
-    sym (rw e at c.loop-n.invariant.1)
+    let f = c.args.function in
+    let long : f.operand_count ≤ length f.operands = search rules in
+    all_from_yields_List (operand_taken c.args.slots) _ _ _ c.all.ensures.ran
+    (YieldsList-from_take f.operand_count (YieldsList-from_slice f.operands cc) c.take.ensures.count) (λ x b q k. search (rules, tests))
+    ∙ sym (all-listed (operand_taken c.args.slots) f.operands no_operand f.operand_count long)

