@@ -4,6 +4,7 @@ ghost use Rattle.std.specs.Prelude.{◌<◌};
 use crate::pieces;
 use crate::types::Answered;
 use bench::Bench;
+use held::HeldJob;
 use runs::OptimizationResult;
 use streams::console::Console;
 use streams::output::Waiting;
@@ -31,16 +32,14 @@ fn put_fetched(
         return pieces::end_line(console, out, waiting);
     }
     let found = fetched.result;
-    put_found(console, out, waiting, found, counts_at(bench, place % 4))
+    put_found(console, out, waiting, found, job_at(bench, place % 4))
 }
 
-// The counts of the job at a place.
-fn counts_at(bench: Bench, place: usize) -> [u64; 73]
+// The job at a place.
+fn job_at(bench: Bench, place: usize) -> HeldJob
     requires { place < 4 }
 {
-    let row = bench.rows[place];
-    let counts = row.counts;
-    counts
+    bench.rows[place].job
 }
 
 fn put_found(
@@ -48,10 +47,10 @@ fn put_found(
     out: &mut [u8],
     waiting: Waiting,
     found: OptimizationResult,
-    counts: [u64; 73],
+    job: HeldJob,
 ) -> Waiting {
-    let surfaces = held::surface_count(&counts);
-    let operands = held::operand_count(&counts);
+    let surfaces = job.surface_count();
+    let operands = job.operand_count();
     put_result(console, out, waiting, found, surfaces, operands)
 }
 

@@ -111,12 +111,12 @@ fn with_word(row: HeldRow, at: usize, x: u64) -> HeldRow {
 
 fn with_count(row: HeldRow, at: usize, x: u64) -> HeldRow {
     let mut r = row;
-    r.counts[at % 73] = x;
+    r.job.counts[at % 73] = x;
     r
 }
 
 fn with_whole(row: HeldRow, e: usize, at: usize, v: usize) -> HeldRow {
-    let counts = row.counts;
+    let counts = row.job.counts;
     let x = number::damage(row.words[places::KIND], counts, e, v);
     if e < 9 {
         return with_word(row, at, x);
@@ -140,7 +140,7 @@ fn with_real(row: HeldRow, e: usize, at: usize, v: usize) -> HeldRow {
             r.best_surfaces[at % 64] = x;
         }
         _ => {
-            r.numbers[at % 195] = x;
+            r.job.numbers[at % 195] = x;
         }
     }
     r
@@ -159,15 +159,15 @@ fn changed_else(row: HeldRow, e: usize, at: usize, v: usize) -> HeldRow {
 
 // A greatest value below the least.
 fn crossed(row: HeldRow, at: usize) -> HeldRow {
-    let least = row.numbers[at % 194];
+    let least = row.job.numbers[at % 194];
     let mut r = row;
-    r.numbers[at % 194 + 1] = least - 0.001 - floats::abs(least) / 1000.0;
+    r.job.numbers[at % 194 + 1] = least - 0.001 - floats::abs(least) / 1000.0;
     r
 }
 
 // A number that is no sign; plus and a surface that there is not; minus. And what is no damage: any surface beside no sign.
 fn with_follower(row: HeldRow, e: usize, at: usize, v: usize) -> HeldRow {
-    let count = row.counts[places::SURFACE_COUNT];
+    let count = row.job.counts[places::SURFACE_COUNT];
     let least = if e == 52 { 3 } else { count };
     let none = number::from_least(least, v, u64::MAX - 1);
     let signs = [none, 1, 2, 0];

@@ -69,6 +69,6 @@ fn bears(counts: [u64; 73], e: usize, i: usize) -> bool {
 
 pub(crate) fn is_tried(row: HeldRow, e: usize, i: usize) -> bool {
     let words = row.words;
-    let counts = row.counts;
+    let counts = row.job.counts;
     (i < places_of(words, counts, e)) & bears(counts, e, i)
 }

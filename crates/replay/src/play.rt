@@ -20,8 +20,8 @@ fn with_pending(hash: u64, bench: Bench, place: usize) -> u64
     let row = bench.rows[place];
     let pending = rowturns::pending_of(row);
     let surfaces = pending.surfaces;
-    let counts = row.counts;
-    let h = answers::with_surfaces(hash, surfaces, held::surface_count(&counts));
+    let job = row.job;
+    let h = answers::with_surfaces(hash, surfaces, job.surface_count());
     answers::with_float(h, pending.merit)
 }
 

@@ -16,8 +16,8 @@ pub attempt_step-solved-requires : goal.attempt_step-solved-requires
 attempt_step-solved-requires c =
     omega (
       arith,
-      active-le (variables_from c.args.counts.now
-          c.args.numbers.now),
+      active-le (variables_from c.args.job.now.counts
+          c.args.job.now.numbers),
       (c.loop-k.invariant [] [] []).kept.long,
     )
 
@@ -26,11 +26,11 @@ loop-k-preserved c = λ s v r.
     let a = c.attempt_step-solved in
     let no : a.result ≡ No = cc in
     trying-on (c.loop-k.invariant s v r)
-    c.requires.fact_4 (omega arith) a.ensures
+    c.requires.fact_3 (omega arith) a.ensures
     (omega (
       arith,
-      active-le (variables_from c.args.counts.now
-          c.args.numbers.now),
+      active-le (variables_from c.args.job.now.counts
+          c.args.job.now.numbers),
     )) no c.raise-raised.ensures
 
 pub candidate_params-found-requires : goal.candidate_params-found-requires
@@ -50,7 +50,7 @@ returns-in-loop-k c = λ s v r.
     let a = c.attempt_step-solved in
     let yes : a.result ≡ Yes = cc in
     trying-found (c.loop-k.invariant s v r)
-    c.requires.fact_4
+    c.requires.fact_3
     (omega arith) a.ensures yes c.candidate_params-found.ensures
     (c.at_candidate.ensures s
     c.args.jacobian.now
