@@ -24,7 +24,7 @@ AllFit l = (i : ℕ) → Fits (get_or l i nan)
 
 pub record RowFits (r : HeldRow) : Type 0 where
   pub scalars : AllFit r.scalars
-  pub numbers : AllFit r.numbers
+  pub numbers : AllFit r.job.numbers
   pub surfaces : AllFit r.surfaces
   pub jacobian : AllFit r.jacobian
   pub values : AllFit r.values
@@ -87,8 +87,8 @@ one-words a b = one-long a b 0 _ (λ i. eqb-true (get_or a i 0) (get_or b i 0))
 
 -- ---- held rows and benches
 module _ (a b : HeldRow) (f : RowFits a) (g : RowFits b) where
-  one-job : same_job a b ≡ true → (a.counts ≡ b.counts) × (a.numbers ≡ b.numbers)
-  one-job = both _ _ (one-words a.counts b.counts) (one-array a.numbers b.numbers f.numbers g.numbers)
+  one-job : same_job a b ≡ true → (a.job.counts ≡ b.job.counts) × (a.job.numbers ≡ b.job.numbers)
+  one-job = both _ _ (one-words a.job.counts b.job.counts) (one-array a.job.numbers b.job.numbers f.numbers g.numbers)
 
   one-head : same_head a b ≡ true → (a.words ≡ b.words) × (a.scalars ≡ b.scalars)
   one-head = both _ _ (one-words a.words b.words) (one-array a.scalars b.scalars f.scalars g.scalars)
@@ -115,8 +115,7 @@ module _ (a b : HeldRow) (f : RowFits a) (g : RowFits b) where
       λ i. record {
         words = parts.1.0.0 i;
         scalars = parts.1.0.1 i;
-        counts = parts.0.0 i;
-        numbers = parts.0.1 i;
+        job = record { counts = parts.0.0 i; numbers = parts.0.1 i };
         surfaces = parts.1.1.0.0 i;
         jacobian = parts.1.1.1.0.0 i;
         values = parts.1.1.0.1.0 i;

@@ -29,7 +29,7 @@ words a = all_alike (length a) (length a) _ refl (all _ (length a) (λ i. eq-eqb
 
 row : (a : HeldRow) → same_row a a ≡ true
 row a =
-    and _ _ (and _ _ (words a.counts) (floats a.numbers)) (and _ _ (and _ _ (words a.words) (floats a.scalars))
+    and _ _ (and _ _ (words a.job.counts) (floats a.job.numbers)) (and _ _ (and _ _ (words a.words) (floats a.scalars))
     (and _ _ (and _ _ (floats a.surfaces) (and _ _ (floats a.values) (floats a.residuals)))
     (and _ _ (and _ _ (floats a.jacobian) (and _ _ (floats a.plus_residuals) (and _ _ (floats a.params) (floats a.candidate))))
     (and _ _ (floats a.best_surfaces) (and _ _ (floats a.best_values) (floats a.best_residuals))))))

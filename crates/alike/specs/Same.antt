@@ -22,7 +22,7 @@ same_words a b = eqb (length a) (length b) && all_below (λ (i : ℕ). eqb (get_
 
 -- ---- held rows and benches
 abbrev pub same_job : HeldRow → HeldRow → Bool
-same_job a b = same_words a.counts b.counts && same_floats a.numbers b.numbers
+same_job a b = same_words a.job.counts b.job.counts && same_floats a.job.numbers b.job.numbers
 
 abbrev pub same_head : HeldRow → HeldRow → Bool
 same_head a b = same_words a.words b.words && same_floats a.scalars b.scalars

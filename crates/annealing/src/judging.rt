@@ -5,6 +5,7 @@ ghost use Rattle.held.specs.JobFrom.{standing, variable_count_from, variables_fr
 ghost use Rattle.draws.specs.Parts.{ForAnnealer, ForAnnealerBy};
 ghost use Rattle.annealing.specs.WalkFrom.{walk_from};
 
+use held::HeldJob;
 use jobs::SimulatedAnnealingConfig;
 use merit::MeritEvaluation;
 
@@ -22,19 +23,17 @@ pub(crate) struct WalkHead {
 pub(crate) fn started(
     config: SimulatedAnnealingConfig,
     merit: f64,
-    counts: &[u64; 73],
-    numbers: &[f64],
+    job: &HeldJob,
     surfaces: &[f64; 64],
     params: &mut [f64; 8],
     best_surfaces: &mut [f64; 64],
 ) -> WalkHead
-    requires fact_1 { variable_count_from counts.now ≤ 8 }
-    requires fact_2 { 195 ≤ length numbers.now }
-    ensures { ForAnnealerBy config (variables_from counts.now numbers.now) (λ a. (e : MeritEvaluation) → e.total_merit ≡ merit →
+    requires { variable_count_from job.now.counts ≤ 8 }
+    ensures { ForAnnealerBy config (variables_from job.now.counts job.now.numbers) (λ a. (e : MeritEvaluation) → e.total_merit ≡ merit →
         let after = walk_from result surfaces.now params.new best_surfaces.new in
         after ≡ Run.started a (standing surfaces.now) e) }
 {
-    let x = held::extract_values(counts, numbers, surfaces);
+    let x = held::extract_values(job, surfaces);
     *params = x;
     let flat = *surfaces;
     *best_surfaces = flat;
@@ -58,22 +57,20 @@ fn prob(delta_merit: f64, temp: f64) -> f64
 fn accepted(
     w: WalkHead,
     merit: f64,
-    counts: &[u64; 73],
-    numbers: &[f64],
+    job: &HeldJob,
     surfaces: &mut [f64; 64],
     params: &mut [f64; 8],
     candidate: &[f64; 8],
     best_surfaces: &mut [f64; 64],
 ) -> WalkHead
-    requires fact_1 { variable_count_from counts.now ≤ 8 }
-    requires fact_2 { 195 ≤ length numbers.now }
-    ensures { ForAnnealer (variables_from counts.now numbers.now) (λ a.
+    requires { variable_count_from job.now.counts ≤ 8 }
+    ensures { ForAnnealer (variables_from job.now.counts job.now.numbers) (λ a.
         let walking = walk_from w surfaces.old params.old best_surfaces.old in
         let after = walk_from result surfaces.new params.new best_surfaces.new in
         after ≡ Run.accepted a candidate.now merit walking) }
 {
     let x = *candidate;
-    held::apply_values(counts, numbers, x, surfaces);
+    held::apply_values(job, x, surfaces);
     *params = x;
     let mut next = w;
     next.current_merit = merit;
@@ -91,32 +88,21 @@ fn accepted(
 pub(crate) fn judged(
     w: WalkHead,
     merit: f64,
-    counts: &[u64; 73],
-    numbers: &[f64],
+    job: &HeldJob,
     surfaces: &mut [f64; 64],
     params: &mut [f64; 8],
     candidate: &[f64; 8],
     best_surfaces: &mut [f64; 64],
 ) -> WalkHead
-    requires fact_1 { variable_count_from counts.now ≤ 8 }
-    requires fact_2 { 195 ≤ length numbers.now }
-    ensures { ForAnnealer (variables_from counts.now numbers.now) (λ a. (e : MeritEvaluation) → e.total_merit ≡ merit →
+    requires { variable_count_from job.now.counts ≤ 8 }
+    ensures { ForAnnealer (variables_from job.now.counts job.now.numbers) (λ a. (e : MeritEvaluation) → e.total_merit ≡ merit →
         let walking = walk_from w surfaces.old params.old best_surfaces.old in
         let after = walk_from result surfaces.new params.new best_surfaces.new in
         after ≡ Run.judged a candidate.now e walking) }
 {
     let delta_merit = merit - w.current_merit;
     if delta_merit <= 0.0 {
-        return accepted(
-            w,
-            merit,
-            counts,
-            numbers,
-            surfaces,
-            params,
-            candidate,
-            best_surfaces,
-        );
+        return accepted(w, merit, job, surfaces, params, candidate, best_surfaces);
     }
     let draw = xorshift::drawn(w.rng);
     let mut drawn = w;
@@ -125,8 +111,7 @@ pub(crate) fn judged(
         return accepted(
             drawn,
             merit,
-            counts,
-            numbers,
+            job,
             surfaces,
             params,
             candidate,

@@ -8,7 +8,7 @@ ghost use Rattle.draws.specs.Parts.{ForAnnealer};
 ghost use Rattle.annealing.specs.WalkFrom.{walk_from};
 
 use crate::judging::WalkHead;
-use held::{BestHead, RowHead};
+use held::{BestHead, HeldJob, RowHead};
 
 // Step k of cycle c, with its draws made.
 // global.rs: `trial_params`
@@ -17,8 +17,7 @@ pub(crate) fn at_step(
     initial_merit: f64,
     c: u64,
     k: u64,
-    counts: &[u64; 73],
-    numbers: &[f64],
+    job: &HeldJob,
     jacobian: &mut [f64; 96],
     values: &mut [f64; 12],
     residuals: &mut [f64; 12],
@@ -28,16 +27,15 @@ pub(crate) fn at_step(
     best_values: &mut [f64; 12],
     best_residuals: &mut [f64; 12],
 ) -> RowHead
-    requires fact_1 { variable_count_from counts.now ≤ 8 }
-    requires fact_2 { 195 ≤ length numbers.now }
-    ensures { ForAnnealer (variables_from counts.now numbers.now) (λ a. (surfaces bs : List Float) →
+    requires { variable_count_from job.now.counts ≤ 8 }
+    ensures { ForAnnealer (variables_from job.now.counts job.now.numbers) (λ a. (surfaces bs : List Float) →
         let walking = walk_from w surfaces params.now bs in
         let after = state_from result surfaces jacobian.new values.new residuals.new plus_residuals.new
         params.now candidate.new bs best_values.new best_residuals.new in
         after ≡ at_step a initial_merit walking c k) }
 {
     let x = *params;
-    let drawn = draws::trial_params(w.rng, counts, numbers, x);
+    let drawn = draws::trial_params(w.rng, job, x);
     let trial = drawn.params;
     *candidate = trial;
     let damped = dls::holding(6, jacobian, values, residuals, plus_residuals);

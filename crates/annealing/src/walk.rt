@@ -9,7 +9,7 @@ ghost use Rattle.annealing.specs.WalkFrom.{walk_from};
 use crate::judging::WalkHead;
 use crate::steps::{at_polish, at_step};
 use crate::{cycles, judging};
-use held::RowHead;
+use held::{HeldJob, RowHead};
 use jobs::SimulatedAnnealingConfig;
 use merit::MeritEvaluation;
 
@@ -20,8 +20,7 @@ fn next_cycle(
     config: SimulatedAnnealingConfig,
     initial_merit: f64,
     c: u64,
-    counts: &[u64; 73],
-    numbers: &[f64],
+    job: &HeldJob,
     surfaces: &mut [f64; 64],
     jacobian: &mut [f64; 96],
     values: &mut [f64; 12],
@@ -33,9 +32,8 @@ fn next_cycle(
     best_values: &mut [f64; 12],
     best_residuals: &mut [f64; 12],
 ) -> RowHead
-    requires fact_1 { variable_count_from counts.now ≤ 8 }
-    requires fact_2 { 195 ≤ length numbers.now }
-    ensures { ForAnnealerBy config (variables_from counts.now numbers.now) (λ a. (k : ℕ) →
+    requires { variable_count_from job.now.counts ≤ 8 }
+    ensures { ForAnnealerBy config (variables_from job.now.counts job.now.numbers) (λ a. (k : ℕ) →
         let walking = walk_from w surfaces.old params.old best_surfaces.old in
         let after = state_from result surfaces.new jacobian.new values.new residuals.new plus_residuals.new
         params.new candidate.new best_surfaces.new best_values.new best_residuals.new in
@@ -49,8 +47,7 @@ fn next_cycle(
             initial_merit,
             c + 1,
             0,
-            counts,
-            numbers,
+            job,
             jacobian,
             values,
             residuals,
@@ -80,8 +77,7 @@ fn next_cycle(
 pub fn advance_walk_first(
     config: SimulatedAnnealingConfig,
     merit: f64,
-    counts: &[u64; 73],
-    numbers: &[f64],
+    job: &HeldJob,
     surfaces: &mut [f64; 64],
     jacobian: &mut [f64; 96],
     values: &mut [f64; 12],
@@ -93,9 +89,8 @@ pub fn advance_walk_first(
     best_values: &mut [f64; 12],
     best_residuals: &mut [f64; 12],
 ) -> RowHead
-    requires fact_1 { variable_count_from counts.now ≤ 8 }
-    requires fact_2 { 195 ≤ length numbers.now }
-    ensures { ForAnnealerBy config (variables_from counts.now numbers.now)
+    requires { variable_count_from job.now.counts ≤ 8 }
+    ensures { ForAnnealerBy config (variables_from job.now.counts job.now.numbers)
         (λ a. (h : RowHead) (e : MeritEvaluation) → e.total_merit ≡ merit →
         let before = state_from h surfaces.old jacobian.old values.old residuals.old
         plus_residuals.old params.old candidate.old best_surfaces.old best_values.old
@@ -104,23 +99,14 @@ pub fn advance_walk_first(
         params.new candidate.new best_surfaces.new best_values.new best_residuals.new in
         after ≡ advance_at a walk_first before e) }
 {
-    let w = judging::started(
-        config,
-        merit,
-        counts,
-        numbers,
-        surfaces,
-        params,
-        best_surfaces,
-    );
+    let w = judging::started(config, merit, job, surfaces, params, best_surfaces);
     if cycles::is_first_cycle(config) {
         return at_step(
             w,
             merit,
             0,
             0,
-            counts,
-            numbers,
+            job,
             jacobian,
             values,
             residuals,
@@ -152,8 +138,7 @@ pub fn advance_walk(
     h: RowHead,
     config: SimulatedAnnealingConfig,
     merit: f64,
-    counts: &[u64; 73],
-    numbers: &[f64],
+    job: &HeldJob,
     surfaces: &mut [f64; 64],
     jacobian: &mut [f64; 96],
     values: &mut [f64; 12],
@@ -165,9 +150,8 @@ pub fn advance_walk(
     best_values: &mut [f64; 12],
     best_residuals: &mut [f64; 12],
 ) -> RowHead
-    requires fact_1 { variable_count_from counts.now ≤ 8 }
-    requires fact_2 { 195 ≤ length numbers.now }
-    ensures { ForAnnealerBy config (variables_from counts.now numbers.now) (λ a. (e : MeritEvaluation) → e.total_merit ≡ merit →
+    requires { variable_count_from job.now.counts ≤ 8 }
+    ensures { ForAnnealerBy config (variables_from job.now.counts job.now.numbers) (λ a. (e : MeritEvaluation) → e.total_merit ≡ merit →
         let before = state_from h surfaces.old jacobian.old values.old residuals.old
         plus_residuals.old params.old candidate.old best_surfaces.old best_values.old
         best_residuals.old in
@@ -181,16 +165,7 @@ pub fn advance_walk(
         rng: h.generator,
         temp: h.temperature,
     };
-    let next = judging::judged(
-        w,
-        merit,
-        counts,
-        numbers,
-        surfaces,
-        params,
-        candidate,
-        best_surfaces,
-    );
+    let next = judging::judged(w, merit, job, surfaces, params, candidate, best_surfaces);
     let initial_merit = h.best.initial_merit;
     if cycles::has_next(h.step, config.steps_per_temperature) {
         return at_step(
@@ -198,8 +173,7 @@ pub fn advance_walk(
             initial_merit,
             h.cycle,
             h.step + 1,
-            counts,
-            numbers,
+            job,
             jacobian,
             values,
             residuals,
@@ -215,8 +189,7 @@ pub fn advance_walk(
         config,
         initial_merit,
         h.cycle,
-        counts,
-        numbers,
+        job,
         surfaces,
         jacobian,
         values,

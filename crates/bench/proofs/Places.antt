@@ -80,8 +80,7 @@ zero-turns = refl
 pub zero_held : held_from zero_row ≡ record {
   words = replicate 13 0;
   scalars = replicate 7 zero64;
-  counts = replicate 73 0;
-  numbers = replicate 195 zero64;
+  job = record { counts = replicate 73 0; numbers = replicate 195 zero64 };
   surfaces = replicate 64 zero64;
   jacobian = replicate 96 zero64;
   values = replicate 12 zero64;

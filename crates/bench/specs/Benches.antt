@@ -61,8 +61,7 @@ abbrev pub no_row : HeldRow
 no_row = record {
   words = [];
   scalars = [];
-  counts = [];
-  numbers = [];
+  job = record { counts = []; numbers = [] };
   surfaces = [];
   jacobian = [];
   values = [];

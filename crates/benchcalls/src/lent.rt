@@ -8,7 +8,7 @@ ghost use Rattle.rowturns.specs.Parts.{held_of};
 
 use crate::admission;
 use bench::{Bench, Finished};
-use held::HeldRow;
+use held::{HeldJob, HeldRow};
 use jobs::JobRequest;
 use records::RequestRecord;
 use runs::OptimizationResult;
@@ -46,8 +46,7 @@ pub extern "C" fn admit_record(bench: &mut Bench, place: usize, asked: &RequestR
 fn arrays_long(
     words: &[u64; 13],
     scalars: &[f64; 7],
-    counts: &[u64; 73],
-    numbers: &[f64; 195],
+    job: &HeldJob,
     surfaces: &[f64; 64],
     jacobian: &[f64; 96],
     values: &[f64; 12],
@@ -59,9 +58,11 @@ fn arrays_long(
     best_values: &[f64; 12],
     best_residuals: &[f64; 12],
 )
-    ensures { Long (held_of words.now scalars.now counts.now numbers.now surfaces.now jacobian.now values.now residuals.now
+    ensures { Long (held_of words.now scalars.now job.now surfaces.now jacobian.now values.now residuals.now
         plus_residuals.now params.now candidate.now best_surfaces.now best_values.now best_residuals.now) }
-{}
+{
+    job.lengths();
+}
 
 fn row_long(row: &HeldRow)
     ensures { Long row.now }
@@ -69,8 +70,7 @@ fn row_long(row: &HeldRow)
     arrays_long(
         &row.words,
         &row.scalars,
-        &row.counts,
-        &row.numbers,
+        &row.job,
         &row.surfaces,
         &row.jacobian,
         &row.values,
@@ -99,8 +99,7 @@ pub extern "C" fn turn(bench: &mut Bench, place: usize, scratch: &mut [f64]) -> 
     let number = rowturns::turn_parts(
         &mut row.words,
         &mut row.scalars,
-        &row.counts,
-        &row.numbers,
+        &row.job,
         &mut row.surfaces,
         &mut row.jacobian,
         &mut row.values,

@@ -63,9 +63,9 @@ fn put_fetched(
         return pieces::end_line(console, out, waiting);
     }
     let waiting = answers::put_outcome(console, out, waiting, found);
-    let counts = bench.rows[place % 4].counts;
-    let surfaces = held::surface_count(&counts);
-    let operands = held::operand_count(&counts);
+    let job = &bench.rows[place % 4].job;
+    let surfaces = job.surface_count();
+    let operands = job.operand_count();
     let waiting = answers::put_lens(console, out, waiting, found, surfaces, operands);
     pieces::end_line(console, out, waiting)
 }

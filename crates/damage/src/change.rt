@@ -43,14 +43,14 @@ impl Change {
         match self {
             Change::Word(at, limit) => set(&mut r.words, at, whole(limit, row, v)),
             Change::Count(at, step, limit) => {
-                set(&mut r.counts, place(at, step, i), whole(limit, row, v));
+                set(&mut r.job.counts, place(at, step, i), whole(limit, row, v));
             }
             Change::Positive(at, limit) => {
                 let values = limits::values(limit.least(row), 0);
-                set(&mut r.counts, at, values[v]);
+                set(&mut r.job.counts, at, values[v]);
             }
             Change::Number(at, step, range) => {
-                set(&mut r.numbers, place(at, step, i), range.values()[v]);
+                set(&mut r.job.numbers, place(at, step, i), range.values()[v]);
             }
             Change::Surface(at, range) => {
                 set(&mut r.surfaces, place(at, 4, i), range.values()[v]);
@@ -58,16 +58,16 @@ impl Change {
             Change::BestSurface(at, range) => {
                 set(&mut r.best_surfaces, place(at, 4, i), range.values()[v]);
             }
-            Change::Crossed => cross(&mut r.numbers, place(places::VARIABLE_NUMBERS, 3, i)),
-            Change::Sign => follow(&mut r.counts, i, absent(3, v), 0),
+            Change::Crossed => cross(&mut r.job.numbers, place(places::VARIABLE_NUMBERS, 3, i)),
+            Change::Sign => follow(&mut r.job.counts, i, absent(3, v), 0),
             Change::Plus => {
-                let surface = absent(row.counts[places::SURFACE_COUNT], v);
-                follow(&mut r.counts, i, 1, surface);
+                let surface = absent(row.job.counts[places::SURFACE_COUNT], v);
+                follow(&mut r.job.counts, i, 1, surface);
             }
-            Change::Minus => follow(&mut r.counts, i, 2, 0),
+            Change::Minus => follow(&mut r.job.counts, i, 2, 0),
             Change::NoFollower => {
-                let surface = absent(row.counts[places::SURFACE_COUNT], v);
-                follow(&mut r.counts, i, 0, surface);
+                let surface = absent(row.job.counts[places::SURFACE_COUNT], v);
+                follow(&mut r.job.counts, i, 0, surface);
             }
             Change::Taken => leave_taken(&mut r, v),
             Change::Emptied => set(&mut r.words, places::KIND, 0),

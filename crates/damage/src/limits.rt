@@ -23,8 +23,8 @@ impl Limit {
         let kind = row.words[places::KIND];
         match self {
             Limit::Is(least) => least,
-            Limit::Surfaces => row.counts[places::SURFACE_COUNT],
-            Limit::Slots => row.counts[places::SLOT_COUNT],
+            Limit::Surfaces => row.job.counts[places::SURFACE_COUNT],
+            Limit::Slots => row.job.counts[places::SLOT_COUNT],
             Limit::Enabled => enabled(row),
             Limit::Phase => match kind {
                 3 => 7,
@@ -33,18 +33,18 @@ impl Limit {
             Limit::Turns => turns(row, kind),
             Limit::Iteration => match kind {
                 3 => 26,
-                _ => one_more(row.counts[places::MAX_ITERATIONS]),
+                _ => one_more(row.job.counts[places::MAX_ITERATIONS]),
             },
             Limit::Trial => match kind {
-                2 => one_more(row.counts[places::NUM_TRIALS]),
+                2 => one_more(row.job.counts[places::NUM_TRIALS]),
                 _ => 1,
             },
             Limit::Cycle => match kind {
-                3 => row.counts[places::MAX_COOLING_CYCLES].max(1),
+                3 => row.job.counts[places::MAX_COOLING_CYCLES].max(1),
                 _ => 1,
             },
             Limit::Step => match kind {
-                3 => row.counts[places::STEPS_PER_TEMPERATURE].max(1),
+                3 => row.job.counts[places::STEPS_PER_TEMPERATURE].max(1),
                 _ => 1,
             },
         }
@@ -57,10 +57,10 @@ fn one_more(x: u64) -> u64 {
 
 // How many of the variables that there are are enabled.
 fn enabled(row: &HeldRow) -> u64 {
-    let count = row.counts[places::VARIABLE_COUNT];
+    let count = row.job.counts[places::VARIABLE_COUNT];
     let mut n: u64 = 0;
     for i in 0..8 {
-        if (i as u64) < count && row.counts[places::VARIABLE_COUNTS + 5 * i + 2] == 1 {
+        if (i as u64) < count && row.job.counts[places::VARIABLE_COUNTS + 5 * i + 2] == 1 {
             n = one_more(n);
         }
     }
@@ -69,7 +69,7 @@ fn enabled(row: &HeldRow) -> u64 {
 
 // The job's bound on turns (01): of a damped run, multi-start, annealing.
 fn turns(row: &HeldRow, kind: u64) -> u64 {
-    let counts = &row.counts;
+    let counts = &row.job.counts;
     let a_step = enabled(row).wrapping_mul(2).wrapping_add(10);
     let damped = one_more(counts[places::MAX_ITERATIONS].wrapping_mul(a_step));
     match kind {

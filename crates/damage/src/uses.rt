@@ -65,27 +65,27 @@ fn has_slot(operand: u64) -> bool {
 }
 
 fn is_surface(row: &HeldRow, i: usize) -> bool {
-    (i as u64) < row.counts[places::SURFACE_COUNT]
+    (i as u64) < row.job.counts[places::SURFACE_COUNT]
 }
 
 fn is_slot(row: &HeldRow, i: usize) -> bool {
-    (i as u64) < row.counts[places::SLOT_COUNT]
+    (i as u64) < row.job.counts[places::SLOT_COUNT]
 }
 
 fn is_variable(row: &HeldRow, i: usize) -> bool {
-    (i as u64) < row.counts[places::VARIABLE_COUNT]
+    (i as u64) < row.job.counts[places::VARIABLE_COUNT]
 }
 
 fn is_operand(row: &HeldRow, i: usize) -> bool {
-    (i as u64) < row.counts[places::OPERAND_COUNT]
+    (i as u64) < row.job.counts[places::OPERAND_COUNT]
 }
 
 // The kind of a variable, of which there are eight at most.
 fn variable(row: &HeldRow, i: usize) -> u64 {
-    row.counts[places::VARIABLE_COUNTS + 5 * (i % 8)]
+    row.job.counts[places::VARIABLE_COUNTS + 5 * (i % 8)]
 }
 
 // The kind of an operand, of which there are twelve at most.
 fn operand(row: &HeldRow, i: usize) -> u64 {
-    row.counts[places::OPERAND_COUNTS + 2 * (i % 12)]
+    row.job.counts[places::OPERAND_COUNTS + 2 * (i % 12)]
 }

@@ -16,7 +16,7 @@ ghost use Rattle.dls.specs.Found.{ForFound};
 use crate::attempts::resume_rejected;
 use crate::states::{at_plus, ended};
 use floats::{is_finite, max};
-use held::{Head, apply_values};
+use held::{Head, HeldJob, apply_values};
 use heldmerit::{merit_of, residuals_of};
 use jobs::DlsConfig;
 use normal::Damping;
@@ -67,8 +67,7 @@ pub(crate) fn resume_iterations(
 fn moved(
     h: Head,
     merit: f64,
-    counts: &[u64; 73],
-    numbers: &[f64],
+    job: &HeldJob,
     found: &[f64; 12],
     surfaces: &mut [f64; 64],
     values: &mut [f64; 12],
@@ -76,12 +75,11 @@ fn moved(
     params: &mut [f64; 8],
     candidate: &[f64; 8],
 ) -> Head
-    requires fact_1 { variable_count_from counts.now ≤ most_variables }
-    requires fact_2 { 195 ≤ length numbers.now }
-    requires fact_3 { operand_count_from counts.now ≤ most_operands }
-    ensures { ForFound counts.now numbers.now found.now
+    requires fact_1 { variable_count_from job.now.counts ≤ most_variables }
+    requires fact_2 { operand_count_from job.now.counts ≤ most_operands }
+    ensures { ForFound job.now.counts job.now.numbers found.now
         (λ e. e.total_merit ≡ merit → (config : DlsConfig) (m : ℕ) (jacobian plus : List Float) →
-        let o = optimizer config (variables_from counts.now numbers.now) m in
+        let o = optimizer config (variables_from job.now.counts job.now.numbers) m in
         let before = damped_from h surfaces.old jacobian values.old residuals.old plus params.old
         candidate.now in
         let after = damped_from result surfaces.new jacobian values.new residuals.new plus params.new
@@ -89,11 +87,11 @@ fn moved(
         after ≡ with_current before (moved o candidate.now e (current_of before))) }
 {
     let x = *candidate;
-    apply_values(counts, numbers, x, surfaces);
+    apply_values(job, x, surfaces);
     *params = x;
     let v = *found;
     *values = v;
-    let r = residuals_of(found, counts, numbers);
+    let r = residuals_of(found, job);
     *residuals = r;
     let damping = Damping { value: h.damping };
     let eased = damping.ease();
@@ -108,8 +106,7 @@ fn advance_accepted(
     h: Head,
     config: DlsConfig,
     merit: f64,
-    counts: &[u64; 73],
-    numbers: &[f64],
+    job: &HeldJob,
     found: &[f64; 12],
     surfaces: &mut [f64; 64],
     jacobian: &mut [f64; 96],
@@ -119,12 +116,11 @@ fn advance_accepted(
     params: &mut [f64; 8],
     candidate: &mut [f64; 8],
 ) -> Head
-    requires fact_1 { variable_count_from counts.now ≤ most_variables }
-    requires fact_2 { 195 ≤ length numbers.now }
-    requires fact_3 { operand_count_from counts.now ≤ most_operands }
-    requires fact_4 { 0 < num_active (variables_from counts.now numbers.now) }
-    ensures { ForFound counts.now numbers.now found.now (λ e. e.total_merit ≡ merit → (m : ℕ) →
-        let o = optimizer config (variables_from counts.now numbers.now) m in
+    requires fact_1 { variable_count_from job.now.counts ≤ most_variables }
+    requires fact_2 { operand_count_from job.now.counts ≤ most_operands }
+    requires fact_3 { 0 < num_active (variables_from job.now.counts job.now.numbers) }
+    ensures { ForFound job.now.counts job.now.numbers found.now (λ e. e.total_merit ≡ merit → (m : ℕ) →
+        let o = optimizer config (variables_from job.now.counts job.now.numbers) m in
         let before = damped_from h surfaces.old jacobian.old values.old residuals.old
         plus_residuals.old params.old candidate.old in
         let after = damped_from result surfaces.new jacobian.new values.new residuals.new plus_residuals.new
@@ -133,7 +129,7 @@ fn advance_accepted(
 {
     let gain = rel_improvement(merit, h.total_merit);
     let next = moved(
-        h, merit, counts, numbers, found, surfaces, values, residuals, params, candidate,
+        h, merit, job, found, surfaces, values, residuals, params, candidate,
     );
     if gain < config.relative_merit_tolerance {
         return ended(next, true, jacobian, plus_residuals, params, candidate);
@@ -152,8 +148,7 @@ fn advance_accepted(
 pub(crate) fn advance_candidate(
     h: Head,
     config: DlsConfig,
-    counts: &[u64; 73],
-    numbers: &[f64],
+    job: &HeldJob,
     found: &[f64; 12],
     surfaces: &mut [f64; 64],
     jacobian: &mut [f64; 96],
@@ -165,12 +160,11 @@ pub(crate) fn advance_candidate(
     scratch: &mut [f64],
 ) -> Head
     requires fact_1 { scratch_length ≤ length scratch.old }
-    requires fact_2 { variable_count_from counts.now ≤ most_variables }
-    requires fact_3 { 195 ≤ length numbers.now }
-    requires fact_4 { operand_count_from counts.now ≤ most_operands }
-    requires fact_5 { 0 < num_active (variables_from counts.now numbers.now) }
-    ensures fact_1 { ForFound counts.now numbers.now found.now (λ e.
-        let o = optimizer config (variables_from counts.now numbers.now) (operand_count_from counts.now) in
+    requires fact_2 { variable_count_from job.now.counts ≤ most_variables }
+    requires fact_3 { operand_count_from job.now.counts ≤ most_operands }
+    requires fact_4 { 0 < num_active (variables_from job.now.counts job.now.numbers) }
+    ensures fact_1 { ForFound job.now.counts job.now.numbers found.now (λ e.
+        let o = optimizer config (variables_from job.now.counts job.now.numbers) (operand_count_from job.now.counts) in
         let before = damped_from h surfaces.old jacobian.old values.old residuals.old
         plus_residuals.old params.old candidate.old in
         let after = damped_from result surfaces.new jacobian.new values.new residuals.new plus_residuals.new
@@ -178,14 +172,13 @@ pub(crate) fn advance_candidate(
         after ≡ advance_at o Damped.candidate before e) }
     ensures fact_2 { ScratchKept scratch.old scratch.new }
 {
-    let merit = merit_of(found, counts, numbers);
+    let merit = merit_of(found, job);
     if is_reduction(merit, h.total_merit) {
         return advance_accepted(
             h,
             config,
             merit,
-            counts,
-            numbers,
+            job,
             found,
             surfaces,
             jacobian,
@@ -198,8 +191,7 @@ pub(crate) fn advance_candidate(
     }
     resume_rejected(
         h,
-        counts,
-        numbers,
+        job,
         jacobian,
         residuals,
         plus_residuals,

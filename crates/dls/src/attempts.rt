@@ -14,7 +14,7 @@ ghost use Rattle.held.specs.RowFrom.{damped_from};
 
 use crate::states::{at_candidate, ended};
 use floats::is_finite;
-use held::{Head, clamp_values, num_active, operand_count};
+use held::{Head, HeldJob, clamp_values};
 use jobs::DlsConfig;
 use normal::{Damping, STEP, attempt_step, normal_equations};
 
@@ -26,30 +26,21 @@ fn stepped(params: [f64; 8], p: usize, scratch: &[f64]) -> [f64; 8]
     ensures { result ≡ stepped_in params p scratch.now }
 {
     let mut x = params;
-    let mut q: usize = 0;
-    while q < p {
+    for q in 0..p {
         x[q] = params[q] + scratch[STEP + q];
-        q += 1;
     }
     x
 }
 
 // The candidate: each parameter after its step, within its bounds.
-fn candidate_params(
-    p: usize,
-    counts: &[u64; 73],
-    numbers: &[f64],
-    params: [f64; 8],
-    scratch: &[f64],
-) -> [f64; 8]
+fn candidate_params(p: usize, job: &HeldJob, params: [f64; 8], scratch: &[f64]) -> [f64; 8]
     requires fact_1 { scratch_length ≤ length scratch.now }
-    requires fact_2 { variable_count_from counts.now ≤ most_variables }
-    requires fact_3 { 195 ≤ length numbers.now }
-    requires fact_4 { p ≡ num_active (variables_from counts.now numbers.now) }
-    ensures { result ≡ candidate_in (variables_from counts.now numbers.now) params scratch.now }
+    requires fact_2 { variable_count_from job.now.counts ≤ most_variables }
+    requires fact_3 { p ≡ num_active (variables_from job.now.counts job.now.numbers) }
+    ensures { result ≡ candidate_in (variables_from job.now.counts job.now.numbers) params scratch.now }
 {
     let moved = stepped(params, p, scratch);
-    clamp_values(counts, numbers, moved)
+    clamp_values(job, moved)
 }
 
 // The attempts from number `first` on, under a damping: the next candidate, or the end where none of the ten has a step.
@@ -59,8 +50,7 @@ fn resume_attempts(
     p: usize,
     damping: Damping,
     first: u64,
-    counts: &[u64; 73],
-    numbers: &[f64],
+    job: &HeldJob,
     jacobian: &mut [f64; 96],
     plus_residuals: &mut [f64; 12],
     params: &mut [f64; 8],
@@ -68,27 +58,24 @@ fn resume_attempts(
     scratch: &mut [f64],
 ) -> Head
     requires fact_1 { scratch_length ≤ length scratch.old }
-    requires fact_2 { variable_count_from counts.now ≤ most_variables }
-    requires fact_3 { 195 ≤ length numbers.now }
-    requires fact_4 { p ≡ num_active (variables_from counts.now numbers.now) }
+    requires fact_2 { variable_count_from job.now.counts ≤ most_variables }
+    requires fact_3 { p ≡ num_active (variables_from job.now.counts job.now.numbers) }
     ensures { (surfaces values residuals : List Float) →
         let before = damped_from h surfaces jacobian.old values residuals plus_residuals.old params.old
         candidate.old in
         let after = damped_from result surfaces jacobian.new values residuals plus_residuals.new params.new
         candidate.new in
-        AttemptsMade (variables_from counts.now numbers.now) before damping first scratch.old scratch.new after }
+        AttemptsMade (variables_from job.now.counts job.now.numbers) before damping first scratch.old scratch.new after }
 {
     let mut now = damping;
-    let mut k = first;
-    while k < 10 {
+    for k in first..10 {
         if !attempt_step(scratch, p, now) {
             let raised = now.raise();
             now = raised;
-            k += 1;
             continue;
         }
         let x = *params;
-        let found = candidate_params(p, counts, numbers, x, scratch);
+        let found = candidate_params(p, job, x, scratch);
         return at_candidate(h, now.value, k + 1, found, plus_residuals, candidate);
     }
     ended(h, false, jacobian, plus_residuals, params, candidate)
@@ -109,8 +96,7 @@ fn is_stationary(norm: f64, tolerance: f64) -> bool
 pub(crate) fn resume_stationary(
     h: Head,
     config: DlsConfig,
-    counts: &[u64; 73],
-    numbers: &[f64],
+    job: &HeldJob,
     jacobian: &mut [f64; 96],
     residuals: &[f64; 12],
     plus_residuals: &mut [f64; 12],
@@ -119,11 +105,10 @@ pub(crate) fn resume_stationary(
     scratch: &mut [f64],
 ) -> Head
     requires fact_1 { scratch_length ≤ length scratch.old }
-    requires fact_2 { variable_count_from counts.now ≤ most_variables }
-    requires fact_3 { 195 ≤ length numbers.now }
-    requires fact_4 { operand_count_from counts.now ≤ most_operands }
+    requires fact_2 { variable_count_from job.now.counts ≤ most_variables }
+    requires fact_3 { operand_count_from job.now.counts ≤ most_operands }
     ensures fact_1 { ((surfaces values : List Float) →
-        let o = optimizer config (variables_from counts.now numbers.now) (operand_count_from counts.now) in
+        let o = optimizer config (variables_from job.now.counts job.now.numbers) (operand_count_from job.now.counts) in
         let before = damped_from h surfaces jacobian.old values residuals.now plus_residuals.old params.old
         candidate.old in
         let after = damped_from result surfaces jacobian.new values residuals.now plus_residuals.new params.new
@@ -131,8 +116,8 @@ pub(crate) fn resume_stationary(
         after ≡ resume_stationary o (is_stationary o jacobian.old (current_of before)) jacobian.old (current_of before)) }
     ensures fact_2 { ScratchKept scratch.old scratch.new }
 {
-    let p = num_active(counts, numbers);
-    let m = operand_count(counts);
+    let p = job.num_active();
+    let m = job.operand_count();
     let norm = normal_equations(scratch, jacobian, residuals, m, p);
     if is_stationary(norm, config.gradient_tolerance) {
         return ended(h, true, jacobian, plus_residuals, params, candidate);
@@ -143,8 +128,7 @@ pub(crate) fn resume_stationary(
         p,
         damping,
         0,
-        counts,
-        numbers,
+        job,
         jacobian,
         plus_residuals,
         params,
@@ -157,8 +141,7 @@ pub(crate) fn resume_stationary(
 // dls.rs: "step rejected .. increase damping"
 pub(crate) fn resume_rejected(
     h: Head,
-    counts: &[u64; 73],
-    numbers: &[f64],
+    job: &HeldJob,
     jacobian: &mut [f64; 96],
     residuals: &[f64; 12],
     plus_residuals: &mut [f64; 12],
@@ -167,11 +150,10 @@ pub(crate) fn resume_rejected(
     scratch: &mut [f64],
 ) -> Head
     requires fact_1 { scratch_length ≤ length scratch.old }
-    requires fact_2 { variable_count_from counts.now ≤ most_variables }
-    requires fact_3 { 195 ≤ length numbers.now }
-    requires fact_4 { operand_count_from counts.now ≤ most_operands }
+    requires fact_2 { variable_count_from job.now.counts ≤ most_variables }
+    requires fact_3 { operand_count_from job.now.counts ≤ most_operands }
     ensures fact_1 { ((config : DlsConfig) (surfaces values : List Float) →
-        let o = optimizer config (variables_from counts.now numbers.now) (operand_count_from counts.now) in
+        let o = optimizer config (variables_from job.now.counts job.now.numbers) (operand_count_from job.now.counts) in
         let before = damped_from h surfaces jacobian.old values residuals.now plus_residuals.old params.old
         candidate.old in
         let after = damped_from result surfaces jacobian.new values residuals.now plus_residuals.new params.new
@@ -179,8 +161,8 @@ pub(crate) fn resume_rejected(
         after ≡ resume_attempts o (10 - h.attempt) jacobian.old (raised (current_of before)) h.attempt) }
     ensures fact_2 { ScratchKept scratch.old scratch.new }
 {
-    let p = num_active(counts, numbers);
-    let m = operand_count(counts);
+    let p = job.num_active();
+    let m = job.operand_count();
     let norm = normal_equations(scratch, jacobian, residuals, m, p);
     let damping = Damping { value: h.damping };
     let attempt = h.attempt;
@@ -189,8 +171,7 @@ pub(crate) fn resume_rejected(
         p,
         damping.raise(),
         attempt,
-        counts,
-        numbers,
+        job,
         jacobian,
         plus_residuals,
         params,

@@ -10,7 +10,7 @@ ghost use Rattle.held.specs.JobFrom.{standing, variable_count_from, operand_coun
 ghost use Rattle.held.specs.RowFrom.{damped_from};
 ghost use Rattle.held.specs.Standing.{Behind};
 
-use held::{Head, active_at, lay_applied, operand_count};
+use held::{Head, HeldJob, lay_applied};
 use jobs::DlsConfig;
 use normal::{delta, denominator, jacobian_column, minus_value, plus_value};
 use variables::VariableDef;
@@ -37,98 +37,85 @@ fn moved_down(x0: f64, relative: f64, variable: VariableDef) -> f64
 fn perturbed(
     q: usize,
     x: f64,
-    counts: &[u64; 73],
-    numbers: &[f64],
+    job: &HeldJob,
     surfaces: &[f64; 64],
     params: &[f64; 8],
     flat: &mut [f64],
 )
-    requires fact_1 { variable_count_from counts.now ≤ most_variables }
-    requires fact_2 { 195 ≤ length numbers.now }
-    requires fact_3 { q < most_variables }
-    requires fact_4 { 64 ≤ length flat.old }
-    ensures fact_1 { standing flat.new ≡ applied (variables_from counts.now numbers.now) (set params.now q x)
+    requires fact_1 { variable_count_from job.now.counts ≤ most_variables }
+    requires fact_2 { q < most_variables }
+    requires fact_3 { 64 ≤ length flat.old }
+    ensures fact_1 { standing flat.new ≡ applied (variables_from job.now.counts job.now.numbers) (set params.now q x)
         (standing surfaces.now) }
     ensures fact_2 { Behind flat.old flat.new }
 {
     let mut moved = *params;
     moved[q] = x;
-    lay_applied(counts, numbers, moved, surfaces, flat);
+    lay_applied(job, moved, surfaces, flat);
 }
 
 // The surfaces with the parameter of this column moved up, laid where their merit is worked out.
 pub(crate) fn presc_plus(
     h: Head,
     config: DlsConfig,
-    counts: &[u64; 73],
-    numbers: &[f64],
+    job: &HeldJob,
     surfaces: &[f64; 64],
     params: &[f64; 8],
     flat: &mut [f64],
 )
-    requires fact_1 { variable_count_from counts.now ≤ most_variables }
-    requires fact_2 { 195 ≤ length numbers.now }
-    requires fact_3 { h.column < most_variables }
-    requires fact_4 { 64 ≤ length flat.old }
+    requires fact_1 { variable_count_from job.now.counts ≤ most_variables }
+    requires fact_2 { h.column < most_variables }
+    requires fact_3 { 64 ≤ length flat.old }
     ensures fact_1 { ((m : ℕ) (jacobian values residuals plus candidate : List Float) →
-        let o = optimizer config (variables_from counts.now numbers.now) m in
+        let o = optimizer config (variables_from job.now.counts job.now.numbers) m in
         let state = damped_from h surfaces.now jacobian values residuals plus params.now candidate in
         standing flat.new ≡ presc_plus o (current_of state) h.column) }
     ensures fact_2 { Behind flat.old flat.new }
 {
     let q = h.column as usize;
-    let variable = active_at(counts, numbers, q);
+    let variable = job.active_at(q);
     let x0 = params[q];
     let x = moved_up(x0, config.finite_difference_relative_step, variable);
-    perturbed(q, x, counts, numbers, surfaces, params, flat);
+    perturbed(q, x, job, surfaces, params, flat);
 }
 
 // The surfaces with it moved down.
 pub(crate) fn presc_minus(
     h: Head,
     config: DlsConfig,
-    counts: &[u64; 73],
-    numbers: &[f64],
+    job: &HeldJob,
     surfaces: &[f64; 64],
     params: &[f64; 8],
     flat: &mut [f64],
 )
-    requires fact_1 { variable_count_from counts.now ≤ most_variables }
-    requires fact_2 { 195 ≤ length numbers.now }
-    requires fact_3 { h.column < most_variables }
-    requires fact_4 { 64 ≤ length flat.old }
+    requires fact_1 { variable_count_from job.now.counts ≤ most_variables }
+    requires fact_2 { h.column < most_variables }
+    requires fact_3 { 64 ≤ length flat.old }
     ensures fact_1 { ((m : ℕ) (jacobian values residuals plus candidate : List Float) →
-        let o = optimizer config (variables_from counts.now numbers.now) m in
+        let o = optimizer config (variables_from job.now.counts job.now.numbers) m in
         let state = damped_from h surfaces.now jacobian values residuals plus params.now candidate in
         standing flat.new ≡ presc_minus o (current_of state) h.column) }
     ensures fact_2 { Behind flat.old flat.new }
 {
     let q = h.column as usize;
-    let variable = active_at(counts, numbers, q);
+    let variable = job.active_at(q);
     let x0 = params[q];
     let x = moved_down(x0, config.finite_difference_relative_step, variable);
-    perturbed(q, x, counts, numbers, surfaces, params, flat);
+    perturbed(q, x, job, surfaces, params, flat);
 }
 
 // What lies between the parameter moved up and moved down.
 // dls.rs: `denom`
-fn between(
-    h: Head,
-    config: DlsConfig,
-    counts: &[u64; 73],
-    numbers: &[f64],
-    params: &[f64; 8],
-) -> f64
-    requires fact_1 { variable_count_from counts.now ≤ most_variables }
-    requires fact_2 { 195 ≤ length numbers.now }
-    requires fact_3 { h.column < most_variables }
+fn between(h: Head, config: DlsConfig, job: &HeldJob, params: &[f64; 8]) -> f64
+    requires fact_1 { variable_count_from job.now.counts ≤ most_variables }
+    requires fact_2 { h.column < most_variables }
     ensures { (m : ℕ) (surfaces jacobian values residuals plus candidate : List Float) →
-        let o = optimizer config (variables_from counts.now numbers.now) m in
+        let o = optimizer config (variables_from job.now.counts job.now.numbers) m in
         let state = damped_from h surfaces jacobian values residuals plus params.now candidate in
         result ≡ denom o (current_of state) h.column }
 {
     let q = h.column as usize;
-    let variable = active_at(counts, numbers, q);
+    let variable = job.active_at(q);
     let x0 = params[q];
     let relative = config.finite_difference_relative_step;
     let plus = moved_up(x0, relative, variable);
@@ -141,25 +128,23 @@ fn between(
 pub(crate) fn with_differences(
     h: Head,
     config: DlsConfig,
-    counts: &[u64; 73],
-    numbers: &[f64],
+    job: &HeldJob,
     minus: [f64; 12],
     jacobian: &mut [f64; 96],
     plus_residuals: &[f64; 12],
     params: &[f64; 8],
 )
-    requires fact_1 { variable_count_from counts.now ≤ most_variables }
-    requires fact_2 { 195 ≤ length numbers.now }
-    requires fact_3 { operand_count_from counts.now ≤ most_operands }
-    requires fact_4 { h.column < most_variables }
+    requires fact_1 { variable_count_from job.now.counts ≤ most_variables }
+    requires fact_2 { operand_count_from job.now.counts ≤ most_operands }
+    requires fact_3 { h.column < most_variables }
     ensures { (surfaces values residuals candidate : List Float) →
-        let o = optimizer config (variables_from counts.now numbers.now) (operand_count_from counts.now) in
+        let o = optimizer config (variables_from job.now.counts job.now.numbers) (operand_count_from job.now.counts) in
         let before = damped_from h surfaces jacobian.old values residuals plus_residuals.now params.now candidate in
         let after = damped_from h surfaces jacobian.new values residuals plus_residuals.now params.now candidate in
         after ≡ with_jacobian before (with_differences o (current_of before) h.column jacobian.old plus_residuals.now minus) }
 {
-    let d = between(h, config, counts, numbers, params);
+    let d = between(h, config, job, params);
     let q = h.column as usize;
-    let m = operand_count(counts);
+    let m = job.operand_count();
     jacobian_column(jacobian, q, plus_residuals, &minus, m, d);
 }

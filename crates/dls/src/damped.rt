@@ -14,7 +14,7 @@ use crate::accepting::{advance_candidate, resume_iterations};
 use crate::attempts::resume_stationary;
 use crate::columns::{presc_minus, presc_plus, with_differences};
 use crate::states::{at_minus, at_plus};
-use held::{Head, copy, extract_values, lay_applied, num_active};
+use held::{Head, HeldJob, copy, extract_values, lay_applied};
 use heldmerit::{merit_of, residuals_of};
 use jobs::DlsConfig;
 
@@ -22,38 +22,27 @@ use jobs::DlsConfig;
 pub fn pending_damped(
     h: Head,
     config: DlsConfig,
-    counts: &[u64; 73],
-    numbers: &[f64],
+    job: &HeldJob,
     surfaces: &[f64; 64],
     params: &[f64; 8],
     candidate: &[f64; 8],
     flat: &mut [f64],
 )
-    requires fact_1 { variable_count_from counts.now ≤ most_variables }
-    requires fact_2 { 195 ≤ length numbers.now }
-    requires fact_3 { h.column < num_active (variables_from counts.now numbers.now) }
-    requires fact_4 { 64 ≤ length flat.old }
+    requires fact_1 { variable_count_from job.now.counts ≤ most_variables }
+    requires fact_2 { h.column < num_active (variables_from job.now.counts job.now.numbers) }
+    requires fact_3 { 64 ≤ length flat.old }
     ensures fact_1 { ((m : ℕ) (jacobian values residuals plus : List Float) →
-        let o = optimizer config (variables_from counts.now numbers.now) m in
+        let o = optimizer config (variables_from job.now.counts job.now.numbers) m in
         let state = damped_from h surfaces.now jacobian values residuals plus params.now candidate.now in
         standing flat.new ≡ pending o state) }
     ensures fact_2 { Behind flat.old flat.new }
 {
-    let phase = h.phase;
-    if phase == 1 {
-        presc_plus(h, config, counts, numbers, surfaces, params, flat);
-        return;
+    match h.phase {
+        1 => presc_plus(h, config, job, surfaces, params, flat),
+        2 => presc_minus(h, config, job, surfaces, params, flat),
+        3 => lay_applied(job, *candidate, surfaces, flat),
+        _ => copy(surfaces, flat),
     }
-    if phase == 2 {
-        presc_minus(h, config, counts, numbers, surfaces, params, flat);
-        return;
-    }
-    if phase == 3 {
-        let x = *candidate;
-        lay_applied(counts, numbers, x, surfaces, flat);
-        return;
-    }
-    copy(surfaces, flat);
 }
 
 // The first merit is of the surfaces as they are; the parameters are read from them.
@@ -61,8 +50,7 @@ pub fn pending_damped(
 fn advance_first(
     h: Head,
     config: DlsConfig,
-    counts: &[u64; 73],
-    numbers: &[f64],
+    job: &HeldJob,
     found: &[f64; 12],
     surfaces: &[f64; 64],
     jacobian: &mut [f64; 96],
@@ -72,25 +60,24 @@ fn advance_first(
     params: &mut [f64; 8],
     candidate: &mut [f64; 8],
 ) -> Head
-    requires fact_1 { variable_count_from counts.now ≤ most_variables }
-    requires fact_2 { 195 ≤ length numbers.now }
-    requires fact_3 { operand_count_from counts.now ≤ most_operands }
-    requires fact_4 { 0 < num_active (variables_from counts.now numbers.now) }
-    ensures { ForFound counts.now numbers.now found.now (λ e. (m : ℕ) →
-        let o = optimizer config (variables_from counts.now numbers.now) m in
+    requires fact_1 { variable_count_from job.now.counts ≤ most_variables }
+    requires fact_2 { operand_count_from job.now.counts ≤ most_operands }
+    requires fact_3 { 0 < num_active (variables_from job.now.counts job.now.numbers) }
+    ensures { ForFound job.now.counts job.now.numbers found.now (λ e. (m : ℕ) →
+        let o = optimizer config (variables_from job.now.counts job.now.numbers) m in
         let before = damped_from h surfaces.now jacobian.old values.old residuals.old
         plus_residuals.old params.old candidate.old in
         let after = damped_from result surfaces.now jacobian.new values.new residuals.new plus_residuals.new
         params.new candidate.new in
         after ≡ advance_at o Damped.first before e) }
 {
-    let x = extract_values(counts, numbers, surfaces);
+    let x = extract_values(job, surfaces);
     *params = x;
     let v = *found;
     *values = v;
-    let r = residuals_of(found, counts, numbers);
+    let r = residuals_of(found, job);
     *residuals = r;
-    let merit = merit_of(found, counts, numbers);
+    let merit = merit_of(found, job);
     let mut next = h;
     next.total_merit = merit;
     next.initial_merit = merit;
@@ -110,8 +97,7 @@ fn advance_first(
 fn advance_minus(
     h: Head,
     config: DlsConfig,
-    counts: &[u64; 73],
-    numbers: &[f64],
+    job: &HeldJob,
     found: &[f64; 12],
     jacobian: &mut [f64; 96],
     residuals: &[f64; 12],
@@ -121,12 +107,11 @@ fn advance_minus(
     scratch: &mut [f64],
 ) -> Head
     requires fact_1 { scratch_length ≤ length scratch.old }
-    requires fact_2 { variable_count_from counts.now ≤ most_variables }
-    requires fact_3 { 195 ≤ length numbers.now }
-    requires fact_4 { operand_count_from counts.now ≤ most_operands }
-    requires fact_5 { h.column < num_active (variables_from counts.now numbers.now) }
-    ensures fact_1 { ForFound counts.now numbers.now found.now (λ e. (surfaces values : List Float) →
-        let o = optimizer config (variables_from counts.now numbers.now) (operand_count_from counts.now) in
+    requires fact_2 { variable_count_from job.now.counts ≤ most_variables }
+    requires fact_3 { operand_count_from job.now.counts ≤ most_operands }
+    requires fact_4 { h.column < num_active (variables_from job.now.counts job.now.numbers) }
+    ensures fact_1 { ForFound job.now.counts job.now.numbers found.now (λ e. (surfaces values : List Float) →
+        let o = optimizer config (variables_from job.now.counts job.now.numbers) (operand_count_from job.now.counts) in
         let before = damped_from h surfaces jacobian.old values residuals.now plus_residuals.old params.old
         candidate.old in
         let after = damped_from result surfaces jacobian.new values residuals.now plus_residuals.new params.new
@@ -134,27 +119,17 @@ fn advance_minus(
         after ≡ advance_at o Damped.minus before e) }
     ensures fact_2 { ScratchKept scratch.old scratch.new }
 {
-    let below = residuals_of(found, counts, numbers);
-    with_differences(
-        h,
-        config,
-        counts,
-        numbers,
-        below,
-        jacobian,
-        plus_residuals,
-        params,
-    );
+    let below = residuals_of(found, job);
+    with_differences(h, config, job, below, jacobian, plus_residuals, params);
     let column = h.column + 1;
-    let p = num_active(counts, numbers);
+    let p = job.num_active();
     if (column as usize) < p {
         return at_plus(h, column, plus_residuals, candidate);
     }
     resume_stationary(
         h,
         config,
-        counts,
-        numbers,
+        job,
         jacobian,
         residuals,
         plus_residuals,
@@ -169,8 +144,7 @@ fn advance_minus(
 pub fn advance_damped(
     h: Head,
     config: DlsConfig,
-    counts: &[u64; 73],
-    numbers: &[f64],
+    job: &HeldJob,
     found: &[f64; 12],
     surfaces: &mut [f64; 64],
     jacobian: &mut [f64; 96],
@@ -182,12 +156,11 @@ pub fn advance_damped(
     scratch: &mut [f64],
 ) -> Head
     requires fact_1 { scratch_length ≤ length scratch.old }
-    requires fact_2 { variable_count_from counts.now ≤ most_variables }
-    requires fact_3 { 195 ≤ length numbers.now }
-    requires fact_4 { operand_count_from counts.now ≤ most_operands }
-    requires fact_5 { h.column < num_active (variables_from counts.now numbers.now) }
-    ensures fact_1 { ForFound counts.now numbers.now found.now (λ e.
-        let o = optimizer config (variables_from counts.now numbers.now) (operand_count_from counts.now) in
+    requires fact_2 { variable_count_from job.now.counts ≤ most_variables }
+    requires fact_3 { operand_count_from job.now.counts ≤ most_operands }
+    requires fact_4 { h.column < num_active (variables_from job.now.counts job.now.numbers) }
+    ensures fact_1 { ForFound job.now.counts job.now.numbers found.now (λ e.
+        let o = optimizer config (variables_from job.now.counts job.now.numbers) (operand_count_from job.now.counts) in
         let before = damped_from h surfaces.old jacobian.old values.old residuals.old
         plus_residuals.old params.old candidate.old in
         let after = damped_from result surfaces.new jacobian.new values.new residuals.new plus_residuals.new
@@ -195,13 +168,12 @@ pub fn advance_damped(
         after ≡ advance o before e) }
     ensures fact_2 { ScratchKept scratch.old scratch.new }
 {
-    let phase = h.phase;
-    if phase == 0 {
-        return advance_first(
+    // A phase stays a number: a row may hold any.
+    match h.phase {
+        0 => advance_first(
             h,
             config,
-            counts,
-            numbers,
+            job,
             found,
             surfaces,
             jacobian,
@@ -210,18 +182,15 @@ pub fn advance_damped(
             plus_residuals,
             params,
             candidate,
-        );
-    }
-    if phase == 1 {
-        let above = residuals_of(found, counts, numbers);
-        return at_minus(h, above, plus_residuals, candidate);
-    }
-    if phase == 2 {
-        return advance_minus(
+        ),
+        1 => {
+            let above = residuals_of(found, job);
+            at_minus(h, above, plus_residuals, candidate)
+        }
+        2 => advance_minus(
             h,
             config,
-            counts,
-            numbers,
+            job,
             found,
             jacobian,
             residuals,
@@ -229,14 +198,11 @@ pub fn advance_damped(
             params,
             candidate,
             scratch,
-        );
-    }
-    if phase == 3 {
-        return advance_candidate(
+        ),
+        3 => advance_candidate(
             h,
             config,
-            counts,
-            numbers,
+            job,
             found,
             surfaces,
             jacobian,
@@ -246,7 +212,7 @@ pub fn advance_damped(
             params,
             candidate,
             scratch,
-        );
+        ),
+        _ => h,
     }
-    h
 }

@@ -6,7 +6,7 @@ ghost use Rattle.runs.specs.MultiStartRun.{random_params, after_draws};
 ghost use Rattle.held.specs.JobFrom.{variable_count_from, variables_from};
 ghost use Rattle.draws.specs.Parts.{TriedBy};
 
-use held::{variable_at, variable_count};
+use held::HeldJob;
 
 // What was drawn, and the generator after it.
 #[derive(Clone, Copy)]
@@ -16,26 +16,23 @@ pub struct Drawn {
 }
 
 // `rng.uniform(var.min_value, var.max_value)` for each, and +0.0 after them.
-pub fn random_params(generator: u64, counts: &[u64; 73], numbers: &[f64]) -> Drawn
-    requires fact_1 { variable_count_from counts.now ≤ 8 }
-    requires fact_2 { 195 ≤ length numbers.now }
-    ensures { (result.params ≡ random_params (variables_from counts.now numbers.now) generator)
-        × (result.generator ≡ after_draws (variables_from counts.now numbers.now) generator) }
+pub fn random_params(generator: u64, job: &HeldJob) -> Drawn
+    requires { variable_count_from job.now.counts ≤ 8 }
+    ensures { (result.params ≡ random_params (variables_from job.now.counts job.now.numbers) generator)
+        × (result.generator ≡ after_draws (variables_from job.now.counts job.now.numbers) generator) }
 {
-    let count = variable_count(counts);
+    let count = job.variable_count();
     let mut x = [0.0; 8];
     let mut rng = generator;
     let mut q: usize = 0;
-    let mut i: usize = 0;
-    while i < count {
-        let d = variable_at(counts, numbers, i);
+    for i in 0..count {
+        let d = job.variable_at(i);
         if d.enabled {
             let draw = xorshift::drawn(rng);
             rng = draw.state;
             x[q] = xorshift::uniform(draw.unit, d.min_value, d.max_value);
             q += 1;
         }
-        i += 1;
     }
     Drawn {
         params: x,
@@ -44,19 +41,17 @@ pub fn random_params(generator: u64, counts: &[u64; 73], numbers: &[f64]) -> Dra
 }
 
 // Each param moved by up to a twentieth of its range either way, and clamped; what stands after them is kept.
-pub fn trial_params(generator: u64, counts: &[u64; 73], numbers: &[f64], params: [f64; 8]) -> Drawn
-    requires fact_1 { variable_count_from counts.now ≤ 8 }
-    requires fact_2 { 195 ≤ length numbers.now }
-    ensures { TriedBy (variables_from counts.now numbers.now) params generator result.params
-        × (result.generator ≡ step_times (num_active (variables_from counts.now numbers.now)) generator) }
+pub fn trial_params(generator: u64, job: &HeldJob, params: [f64; 8]) -> Drawn
+    requires { variable_count_from job.now.counts ≤ 8 }
+    ensures { TriedBy (variables_from job.now.counts job.now.numbers) params generator result.params
+        × (result.generator ≡ step_times (num_active (variables_from job.now.counts job.now.numbers)) generator) }
 {
-    let count = variable_count(counts);
+    let count = job.variable_count();
     let mut x = params;
     let mut rng = generator;
     let mut q: usize = 0;
-    let mut i: usize = 0;
-    while i < count {
-        let d = variable_at(counts, numbers, i);
+    for i in 0..count {
+        let d = job.variable_at(i);
         if d.enabled {
             let draw = xorshift::drawn(rng);
             rng = draw.state;
@@ -64,7 +59,6 @@ pub fn trial_params(generator: u64, counts: &[u64; 73], numbers: &[f64], params:
             x[q] = floats::clamp(params[q] + perturb, d.min_value, d.max_value);
             q += 1;
         }
-        i += 1;
     }
     Drawn {
         params: x,

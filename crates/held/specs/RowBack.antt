@@ -63,8 +63,7 @@ pub held_back : (h : HeldRow) → Long h → held_from (row_from h) ≡ h
 held_back h l = λ i. record {
   words = words_back h.words h.scalars l.words i;
   scalars = scalars-back h.words h.scalars l.scalars i;
-  counts = counts-back h.counts h.numbers l.counts i;
-  numbers = numbers-back h.counts h.numbers l.numbers i;
+  job = record { counts = counts-back h.job.counts h.job.numbers l.counts i; numbers = numbers-back h.job.counts h.job.numbers l.numbers i };
   surfaces = laid-standing h.surfaces l.surfaces i;
   jacobian = h.jacobian;
   values = h.values;
@@ -158,7 +157,7 @@ row_back r f = λ i. record {
 pub read-full : (h : HeldRow) → Full (row_from h)
 unfolding variable_records_from operand_records_from
 read-full h = record {
-  job = record { surfaces = standing-long h.numbers; indices = indices-long h.numbers; variables = length-tab _ 8; operands = length-tab _ 12 };
+  job = record { surfaces = standing-long h.job.numbers; indices = indices-long h.job.numbers; variables = length-tab _ 8; operands = length-tab _ 12 };
   surfaces = standing-long h.surfaces;
   best_surfaces = standing-long h.best_surfaces;
 }

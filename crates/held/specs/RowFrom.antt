@@ -125,14 +125,14 @@ held_state h =
     h.best_surfaces h.best_values h.best_residuals
 
 abbrev pub row_from : HeldRow → Row
-row_from h = row_of (job_record_from h.counts h.numbers) (kind_from h.words) (turns_from h.words) (held_state h)
+row_from h = row_of (job_record_from h.job.counts h.job.numbers) (kind_from h.words) (turns_from h.words) (held_state h)
 
 -- every array has its length
 pub record Long (h : HeldRow) : Type 0 where
   pub words : length h.words ≡ 13
   pub scalars : length h.scalars ≡ 7
-  pub counts : length h.counts ≡ 73
-  pub numbers : length h.numbers ≡ 195
+  pub counts : length h.job.counts ≡ 73
+  pub numbers : length h.job.numbers ≡ 195
   pub surfaces : length h.surfaces ≡ 64
   pub jacobian : length h.jacobian ≡ 96
   pub values : length h.values ≡ 12

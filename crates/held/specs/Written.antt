@@ -134,8 +134,7 @@ abbrev pub held_from : Row → HeldRow
 held_from r = record {
   words = held_words r.kind r.turns (head_of (state_of r));
   scalars = held_scalars (head_of (state_of r));
-  counts = held_counts r.job;
-  numbers = held_numbers r.job;
+  job = record { counts = held_counts r.job; numbers = held_numbers r.job };
   surfaces = laid_flat r.damped.surfaces 16;
   jacobian = r.damped.jacobian;
   values = r.damped.evaluation.values;

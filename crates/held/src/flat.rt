@@ -12,11 +12,9 @@ pub fn stand(flat: &[f64]) -> [OpticalSurface; 16]
 {
     let none = variables::no_surface();
     let mut surfaces = [none; 16];
-    let mut i: usize = 0;
-    while i < 16 {
+    for i in 0..16 {
         let s = optics::surface_at(flat, i);
         surfaces[i] = s;
-        i += 1;
     }
     surfaces
 }
@@ -28,10 +26,8 @@ pub fn copy(flat: &[f64], to: &mut [f64])
     ensures fact_1 { standing to.new ≡ standing flat.now }
     ensures fact_2 { Behind to.old to.new }
 {
-    let mut i: usize = 0;
-    while i < 64 {
+    for i in 0..64 {
         to[i] = flat[i];
-        i += 1;
     }
 }
 

@@ -11,16 +11,10 @@ mod sets;
 mod types;
 mod values;
 
-pub use entries::{
-    annealing_config, dls_config, indices, max_cooling_cycles, max_iterations, num_trials,
-    operand_at, operand_count, operand_known, pupil, slot_count, steps_per_temperature,
-    surface_count, variable_at, variable_count, variable_known,
-};
 pub use flat::{copy, stand};
 pub use head::{
     attempt, column, cycle, head_of, iteration, kind, phase, put_scalars, put_words, step, trial,
     turns,
 };
-pub use sets::{active_at, num_active};
-pub use types::{BestHead, Head, HeldRow, RowHead};
+pub use types::{BestHead, Head, HeldJob, HeldRow, RowHead};
 pub use values::{apply_values, clamp_values, extract_values, lay_applied};

@@ -1,13 +1,20 @@
 // A row as the bench holds it: arrays of numbers and nothing else, so that a call can lend each of them. `specs/RowFrom.antt` reads it as a row.
 
+// The job of it: it goes by reference wherever the row's code needs it, and nothing writes it after admission.
+#[repr(C)]
+#[derive(Clone, Copy)]
+pub struct HeldJob {
+    pub counts: [u64; 73],
+    pub numbers: [f64; 195],
+}
+
 // `places.rt` says where an entry stands. Surfaces are laid flat, four numbers each.
 #[repr(C)]
 #[derive(Clone, Copy)]
 pub struct HeldRow {
     pub words: [u64; 13],
     pub scalars: [f64; 7],
-    pub counts: [u64; 73],
-    pub numbers: [f64; 195],
+    pub job: HeldJob,
     pub surfaces: [f64; 64],
     pub jacobian: [f64; 96],
     pub values: [f64; 12],

@@ -5,8 +5,8 @@ ghost use Rattle.variables.specs.Values.{extracted, clamped_values, stored_in, a
 ghost use Rattle.held.specs.JobFrom.{standing, variable_count_from, variables_from};
 ghost use Rattle.held.specs.Standing.{Behind};
 
-use crate::entries::{variable_at, variable_count};
 use crate::flat::{copy, put_surface};
+use crate::types::HeldJob;
 use variables::{Follower, VariableDef, VariableType};
 
 // A variable's quantity as it stands in surfaces laid flat.
@@ -23,45 +23,39 @@ fn value_of(flat: &[f64], kind: VariableType) -> f64
 }
 
 // The values of the enabled variables, and +0.0 after them.
-pub fn extract_values(counts: &[u64; 73], numbers: &[f64], flat: &[f64]) -> [f64; 8]
-    requires fact_1 { variable_count_from counts.now ≤ 8 }
-    requires fact_2 { 195 ≤ length numbers.now }
-    requires fact_3 { 64 ≤ length flat.now }
-    ensures { result ≡ extracted (variables_from counts.now numbers.now) (standing flat.now) }
+pub fn extract_values(job: &HeldJob, flat: &[f64]) -> [f64; 8]
+    requires fact_1 { variable_count_from job.now.counts ≤ 8 }
+    requires fact_2 { 64 ≤ length flat.now }
+    ensures { result ≡ extracted (variables_from job.now.counts job.now.numbers) (standing flat.now) }
 {
-    let count = variable_count(counts);
+    let count = job.variable_count();
     let mut x = [0.0; 8];
     let mut q: usize = 0;
-    let mut i: usize = 0;
-    while i < count {
-        let d = variable_at(counts, numbers, i);
+    for i in 0..count {
+        let d = job.variable_at(i);
         if d.enabled {
             let kind = d.var_type;
             x[q] = value_of(flat, kind);
             q += 1;
         }
-        i += 1;
     }
     x
 }
 
 // Each value clamped to its variable's bounds, a NaN let through; what stands after them is kept.
-pub fn clamp_values(counts: &[u64; 73], numbers: &[f64], values: [f64; 8]) -> [f64; 8]
-    requires fact_1 { variable_count_from counts.now ≤ 8 }
-    requires fact_2 { 195 ≤ length numbers.now }
-    ensures { result ≡ clamped_values (variables_from counts.now numbers.now) values }
+pub fn clamp_values(job: &HeldJob, values: [f64; 8]) -> [f64; 8]
+    requires { variable_count_from job.now.counts ≤ 8 }
+    ensures { result ≡ clamped_values (variables_from job.now.counts job.now.numbers) values }
 {
-    let count = variable_count(counts);
+    let count = job.variable_count();
     let mut x = values;
     let mut q: usize = 0;
-    let mut i: usize = 0;
-    while i < count {
-        let d = variable_at(counts, numbers, i);
+    for i in 0..count {
+        let d = job.variable_at(i);
         if d.enabled {
             x[q] = floats::clamp(values[q], d.min_value, d.max_value);
             q += 1;
         }
-        i += 1;
     }
     x
 }
@@ -105,41 +99,31 @@ fn apply_variable(d: VariableDef, value: f64, flat: &mut [f64])
 }
 
 // The surfaces that stand in flat numbers with each value applied, in rising order of the variables.
-pub fn apply_values(counts: &[u64; 73], numbers: &[f64], values: [f64; 8], flat: &mut [f64])
-    requires fact_1 { variable_count_from counts.now ≤ 8 }
-    requires fact_2 { 195 ≤ length numbers.now }
-    requires fact_3 { 64 ≤ length flat.old }
-    ensures fact_1 { standing flat.new ≡ applied (variables_from counts.now numbers.now) values (standing flat.old) }
+pub fn apply_values(job: &HeldJob, values: [f64; 8], flat: &mut [f64])
+    requires fact_1 { variable_count_from job.now.counts ≤ 8 }
+    requires fact_2 { 64 ≤ length flat.old }
+    ensures fact_1 { standing flat.new ≡ applied (variables_from job.now.counts job.now.numbers) values (standing flat.old) }
     ensures fact_2 { Behind flat.old flat.new }
 {
-    let count = variable_count(counts);
+    let count = job.variable_count();
     let mut q: usize = 0;
-    let mut i: usize = 0;
-    while i < count {
-        let d = variable_at(counts, numbers, i);
+    for i in 0..count {
+        let d = job.variable_at(i);
         if d.enabled {
             apply_variable(d, values[q], flat);
             q += 1;
         }
-        i += 1;
     }
 }
 
 // The surfaces of flat numbers laid in others, with each value applied.
-pub fn lay_applied(
-    counts: &[u64; 73],
-    numbers: &[f64],
-    values: [f64; 8],
-    surfaces: &[f64],
-    flat: &mut [f64],
-)
-    requires fact_1 { variable_count_from counts.now ≤ 8 }
-    requires fact_2 { 195 ≤ length numbers.now }
-    requires fact_3 { 64 ≤ length surfaces.now }
-    requires fact_4 { 64 ≤ length flat.old }
-    ensures fact_1 { standing flat.new ≡ applied (variables_from counts.now numbers.now) values (standing surfaces.now) }
+pub fn lay_applied(job: &HeldJob, values: [f64; 8], surfaces: &[f64], flat: &mut [f64])
+    requires fact_1 { variable_count_from job.now.counts ≤ 8 }
+    requires fact_2 { 64 ≤ length surfaces.now }
+    requires fact_3 { 64 ≤ length flat.old }
+    ensures fact_1 { standing flat.new ≡ applied (variables_from job.now.counts job.now.numbers) values (standing surfaces.now) }
     ensures fact_2 { Behind flat.old flat.new }
 {
     copy(surfaces, flat);
-    apply_values(counts, numbers, values, flat);
+    apply_values(job, values, flat);
 }

@@ -1,6 +1,7 @@
--- The damage test is lent words, counts, numbers and surfaces of a held row; what it says holds whatever the other arrays are. Definitions only.
+-- The damage test is lent words, job and surfaces of a held row; what it says holds whatever the other arrays are. Definitions only.
 use Rattle.std.specs.Prelude.{ℕ, List, [], Float}
 use Rattle.runs.specs.State.{State}
+use Rattle.held.specs.declared.types.HeldJob.{HeldJob}
 use Rattle.held.specs.declared.types.HeldRow.{HeldRow}
 use Rattle.held.specs.RowFrom.{held_state}
 
@@ -15,12 +16,11 @@ pub record Others : Type 0 where
   pub best_values : List Float
   pub best_residuals : List Float
 
-abbrev pub held_with : (words counts : List ℕ) (numbers surfaces best_surfaces : List Float) → Others → HeldRow
-held_with words counts numbers surfaces best_surfaces o = record {
+abbrev pub held_with : (words : List ℕ) → HeldJob → (surfaces best_surfaces : List Float) → Others → HeldRow
+held_with words job surfaces best_surfaces o = record {
   words = words;
   scalars = o.scalars;
-  counts = counts;
-  numbers = numbers;
+  job = job;
   surfaces = surfaces;
   jacobian = o.jacobian;
   values = o.values;
@@ -35,4 +35,4 @@ held_with words counts numbers surfaces best_surfaces o = record {
 
 -- the run's state, which has nothing of the job
 abbrev pub state_with : (words : List ℕ) (surfaces best_surfaces : List Float) → Others → State
-state_with words surfaces best_surfaces o = held_state (held_with words [] [] surfaces best_surfaces o)
+state_with words surfaces best_surfaces o = held_state (held_with words (record { counts = []; numbers = [] }) surfaces best_surfaces o)

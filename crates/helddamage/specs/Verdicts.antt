@@ -15,6 +15,7 @@ use Rattle.jobs.specs.Records.{dls_config, multi_start_config, annealing_config,
 use Rattle.runs.specs.Rows.{is_finished, finished_by, bound}
 use Rattle.runs.specs.Damage.{is_kind, state_sound, job_sound, turns_sound, damaged}
 use Rattle.kinds.specs.Limits.{CountsWithin}
+use Rattle.held.specs.declared.types.HeldJob.{HeldJob}
 use Rattle.held.specs.JobFrom.{surface_count_from, slot_count_from, operand_count_from, settings_from, job_record_from, held_job, prescription_from}
 use Rattle.held.specs.JobFrom.{variables_from}
 use Rattle.held.specs.JobFrom.{operands_from}
@@ -126,20 +127,20 @@ within-any counts numbers numbers' kind h = go (eqb kind 1) (eqb kind 2) h
     go false false h = h
 
 -- ---- the row
-module _ (words counts : List ℕ) (numbers surfaces best : List Float) (o : Others) where
+module _ (words : List ℕ) (job : HeldJob) (surfaces best : List Float) (o : Others) where
   abbrev pub judged : Bool
-  judged = damaged (row_from (held_with words counts numbers surfaces best o))
+  judged = damaged (row_from (held_with words job surfaces best o))
 
   abbrev pub sound_state : Bool
-  sound_state = state_sound (method (kind_from words) (settings_from counts numbers)) (held_job counts numbers (kind_from words))
+  sound_state = state_sound (method (kind_from words) (settings_from job.counts job.numbers)) (held_job job.counts job.numbers (kind_from words))
       (state_with words surfaces best o)
 
   abbrev pub ended : Bool
-  ended = finished_by (method (kind_from words) (settings_from counts numbers)) (state_with words surfaces best o)
+  ended = finished_by (method (kind_from words) (settings_from job.counts job.numbers)) (state_with words surfaces best o)
 
   verdict : judged
-      ≡ not (is_kind (kind_from words) && record_taken (kind_from words) (job_record_from counts numbers) && sound_state
-      && (ended || ltb (turns_from words) (bound (held_job counts numbers (kind_from words)))))
+      ≡ not (is_kind (kind_from words) && record_taken (kind_from words) (job_record_from job.counts job.numbers) && sound_state
+      && (ended || ltb (turns_from words) (bound (held_job job.counts job.numbers (kind_from words)))))
   unfolding damaged job_sound turns_sound is_finished
   verdict = refl
 
@@ -147,10 +148,10 @@ module _ (words counts : List ℕ) (numbers surfaces best : List Float) (o : Oth
   no_kind e = verdict ∙ rw e refl
 
   module _ (k : is_kind (kind_from words) ≡ true) where
-    pub no-job : record_taken (kind_from words) (job_record_from counts numbers) ≡ false → judged ≡ true
+    pub no-job : record_taken (kind_from words) (job_record_from job.counts job.numbers) ≡ false → judged ≡ true
     no-job e = verdict ∙ rw (k, e) refl
 
-    module _ (j : record_taken (kind_from words) (job_record_from counts numbers) ≡ true) where
+    module _ (j : record_taken (kind_from words) (job_record_from job.counts job.numbers) ≡ true) where
       pub no-state : sound_state ≡ false → judged ≡ true
       no-state e = verdict ∙ rw (k, j, e) refl
 
@@ -158,5 +159,5 @@ module _ (words counts : List ℕ) (numbers surfaces best : List Float) (o : Oth
         pub at-end : ended ≡ true → judged ≡ false
         at-end e = verdict ∙ rw (k, j, s, e) refl
 
-        pub before-end : ended ≡ false → judged ≡ not (ltb (turns_from words) (bound (held_job counts numbers (kind_from words))))
+        pub before-end : ended ≡ false → judged ≡ not (ltb (turns_from words) (bound (held_job job.counts job.numbers (kind_from words))))
         before-end e = verdict ∙ rw (k, j, s, e) refl

@@ -10,18 +10,19 @@ ghost use Rattle.held.specs.JobFrom.{standing, surface_count_from, slot_count_fr
 ghost use Rattle.held.specs.JobFrom.{held_job};
 ghost use Rattle.held.specs.JobFrom.{prescription_from, variables_from, operands_from};
 
+use held::HeldJob;
 use variables::VariableDef;
 
-pub(crate) fn counts_taken(counts: &[u64; 73]) -> bool
-    ensures { (numbers : List Float) (kind : ℕ) → result ≡ counts_taken (held_job counts.now numbers kind) }
+pub(crate) fn counts_taken(job: &HeldJob) -> bool
+    ensures { (numbers : List Float) (kind : ℕ) → result ≡ counts_taken (held_job job.now.counts numbers kind) }
 {
-    if !optics::lens_counts_taken(held::surface_count(counts), held::slot_count(counts)) {
+    if !optics::lens_counts_taken(job.surface_count(), job.slot_count()) {
         return false;
     }
-    if held::variable_count(counts) > 8 {
+    if job.variable_count() > 8 {
         return false;
     }
-    held::operand_count(counts) <= 12
+    job.operand_count() <= 12
 }
 
 // Check 3 on surfaces laid flat.
@@ -29,30 +30,28 @@ pub(crate) fn surfaces_taken(flat: &[f64], count: usize) -> bool
     requires { (count ≤ 16) × (64 ≤ length flat.now) }
     ensures { result ≡ surfaces_taken (standing flat.now) count }
 {
-    let mut i: usize = 0;
-    while i < count {
+    for i in 0..count {
         let s = optics::surface_at(flat, i);
         if !optics::surface_taken(s) {
             return false;
         }
-        i += 1;
     }
     true
 }
 
 // Check 3 on the lens.
-fn lens_taken(counts: &[u64; 73], numbers: &[f64]) -> bool
-    requires { (surface_count_from counts.now ≤ 16) × (slot_count_from counts.now ≤ 4) × (195 ≤ length numbers.now) }
-    ensures { result ≡ lens_taken (prescription_from counts.now numbers.now) }
+fn lens_taken(job: &HeldJob) -> bool
+    requires { (surface_count_from job.now.counts ≤ 16) × (slot_count_from job.now.counts ≤ 4) }
+    ensures { result ≡ lens_taken (prescription_from job.now.counts job.now.numbers) }
 {
-    let count = held::surface_count(counts);
-    if !optics::above_zero_up_to(1e9, held::pupil(numbers)) {
+    let count = job.surface_count();
+    if !optics::above_zero_up_to(1e9, job.pupil()) {
         return false;
     }
-    if !surfaces_taken(numbers, count) {
+    if !surfaces_taken(&job.numbers, count) {
         return false;
     }
-    optics::indices_taken(held::indices(numbers), held::slot_count(counts), count)
+    optics::indices_taken(job.indices(), job.slot_count(), count)
 }
 
 // Checks 4 and 17 on one variable.
@@ -68,93 +67,86 @@ fn variable_taken(d: VariableDef, surfaces: usize) -> bool
 }
 
 // Checks 4 and 17, and that every kind, mark and sign is one that there is.
-fn variables_taken(counts: &[u64; 73], numbers: &[f64]) -> bool
-    requires { (variable_count_from counts.now ≤ 8) × (195 ≤ length numbers.now) }
-    ensures { result ≡ variables_taken (surface_count_from counts.now) (variables_from counts.now numbers.now)
-        && followers_taken (surface_count_from counts.now) (variables_from counts.now numbers.now)
-        && known_variables (job_record_from counts.now numbers.now) }
+fn variables_taken(job: &HeldJob) -> bool
+    requires { variable_count_from job.now.counts ≤ 8 }
+    ensures { result ≡ variables_taken (surface_count_from job.now.counts) (variables_from job.now.counts job.now.numbers)
+        && followers_taken (surface_count_from job.now.counts) (variables_from job.now.counts job.now.numbers)
+        && known_variables (job_record_from job.now.counts job.now.numbers) }
 {
-    let surfaces = held::surface_count(counts);
-    let count = held::variable_count(counts);
-    let mut i: usize = 0;
-    while i < count {
-        if !held::variable_known(counts, i) {
+    let surfaces = job.surface_count();
+    let count = job.variable_count();
+    for i in 0..count {
+        if !job.variable_known(i) {
             return false;
         }
-        let d = held::variable_at(counts, numbers, i);
+        let d = job.variable_at(i);
         if !variable_taken(d, surfaces) {
             return false;
         }
-        i += 1;
     }
     true
 }
 
 // Check 5, and that every kind is one that there is.
-fn operands_taken(counts: &[u64; 73], numbers: &[f64]) -> bool
-    requires { (operand_count_from counts.now ≤ 12) × (195 ≤ length numbers.now) }
-    ensures { result ≡ operands_taken (slot_count_from counts.now) (operands_from counts.now numbers.now)
-        && known_operands (job_record_from counts.now numbers.now) }
+fn operands_taken(job: &HeldJob) -> bool
+    requires { operand_count_from job.now.counts ≤ 12 }
+    ensures { result ≡ operands_taken (slot_count_from job.now.counts) (operands_from job.now.counts job.now.numbers)
+        && known_operands (job_record_from job.now.counts job.now.numbers) }
 {
-    let slots = held::slot_count(counts);
-    let many = held::operand_count(counts);
-    let mut n: usize = 0;
-    while n < many {
-        if !held::operand_known(counts, n) {
+    let slots = job.slot_count();
+    let many = job.operand_count();
+    for n in 0..many {
+        if !job.operand_known(n) {
             return false;
         }
-        let o = held::operand_at(counts, numbers, n);
+        let o = job.operand_at(n);
         if !meritcalls::operand_taken(slots, o) {
             return false;
         }
-        n += 1;
     }
     true
 }
 
-fn multi_start_taken(counts: &[u64; 73], numbers: &[f64]) -> bool
-    requires { 195 ≤ length numbers.now }
-    ensures { result ≡ multi_start_taken (multi_start_config (settings_from counts.now numbers.now)) }
+fn multi_start_taken(job: &HeldJob) -> bool
+    ensures { result ≡ multi_start_taken (multi_start_config (settings_from job.now.counts job.now.numbers)) }
 {
-    if !jobs::dls_taken(held::dls_config(counts, numbers)) {
+    if !jobs::dls_taken(job.dls_config()) {
         return false;
     }
-    held::num_trials(counts) <= 1000
+    job.num_trials() <= 1000
 }
 
 // Check 6 on the settings of the row's kind.
-fn settings_taken(kind: u64, counts: &[u64; 73], numbers: &[f64]) -> bool
-    requires { 195 ≤ length numbers.now }
-    ensures { result ≡ settings_taken (method kind (settings_from counts.now numbers.now)) }
+fn settings_taken(kind: u64, job: &HeldJob) -> bool
+    ensures { result ≡ settings_taken (method kind (settings_from job.now.counts job.now.numbers)) }
 {
     match kind {
-        1 => jobs::dls_taken(held::dls_config(counts, numbers)),
-        2 => multi_start_taken(counts, numbers),
-        _ => jobs::annealing_taken(held::annealing_config(counts, numbers)),
+        1 => jobs::dls_taken(job.dls_config()),
+        2 => multi_start_taken(job),
+        _ => jobs::annealing_taken(job.annealing_config()),
     }
 }
 
 // Whether the job would be admitted to an empty place and has no number that is no kind, mark or sign; its counts are taken, and p variables enabled.
-pub(crate) fn job_taken(kind: u64, counts: &[u64; 73], numbers: &[f64], p: usize) -> bool
-    requires { (counts_taken (held_job counts.now numbers.now kind) ≡ true)
-        × (p ≡ num_active (variables_from counts.now numbers.now))
-        × (195 ≤ length numbers.now) }
-    ensures { result ≡ record_taken kind (job_record_from counts.now numbers.now) }
+pub(crate) fn job_taken(kind: u64, job: &HeldJob, p: usize) -> bool
+    requires { (counts_taken (held_job job.now.counts job.now.numbers kind) ≡ true)
+        × (p ≡ num_active (variables_from job.now.counts job.now.numbers)) }
+    ensures { result ≡ record_taken kind (job_record_from job.now.counts job.now.numbers) }
 {
-    if !lens_taken(counts, numbers) {
+    if !lens_taken(job) {
         return false;
     }
-    if !variables_taken(counts, numbers) {
+    if !variables_taken(job) {
         return false;
     }
-    if !operands_taken(counts, numbers) {
+    if !operands_taken(job) {
         return false;
     }
-    if !settings_taken(kind, counts, numbers) {
+    if !settings_taken(kind, job) {
         return false;
     }
     if p == 0 {
         return false;
     }
-    held::operand_count(counts) > 0
+    job.operand_count() > 0
 }

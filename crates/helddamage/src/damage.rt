@@ -9,6 +9,7 @@ ghost use Rattle.held.specs.RowFrom.{kind_from, row_from};
 ghost use Rattle.helddamage.specs.Others.{Others, held_with, state_with};
 
 use crate::{checks, limits};
+use held::HeldJob;
 
 fn taken_if(used: bool, flat: &[f64], count: usize) -> bool
     requires { (count ≤ 16) × (64 ≤ length flat.now) }
@@ -39,9 +40,9 @@ fn surfaces_sound(words: &[u64; 13], count: usize, surfaces: &[f64], best: &[f64
 }
 
 // Column, attempt and iteration below their limits, and trial, cycle and step.
-fn counters_sound(words: &[u64; 13], counts: &[u64; 73], p: usize) -> bool
+fn counters_sound(words: &[u64; 13], job: &HeldJob, p: usize) -> bool
     ensures { (numbers surfaces best : List Float) (o : Others)
-        → result ≡ counters_sound (method (kind_from words.now) (settings_from counts.now numbers)) p
+        → result ≡ counters_sound (method (kind_from words.now) (settings_from job.now.counts numbers)) p
         (state_with words.now surfaces best o) }
 {
     let kind = held::kind(words);
@@ -51,72 +52,60 @@ fn counters_sound(words: &[u64; 13], counts: &[u64; 73], p: usize) -> bool
     if held::attempt(words) > 10 {
         return false;
     }
-    if held::iteration(words) > limits::iteration_limit(kind, counts) {
+    if held::iteration(words) > limits::iteration_limit(kind, job) {
         return false;
     }
-    if held::trial(words) > limits::trial_limit(kind, counts) {
+    if held::trial(words) > limits::trial_limit(kind, job) {
         return false;
     }
-    if held::cycle(words) >= kinds::at_least_one(limits::cycle_limit(kind, counts)) {
+    if held::cycle(words) >= kinds::at_least_one(limits::cycle_limit(kind, job)) {
         return false;
     }
-    held::step(words) < kinds::at_least_one(limits::step_limit(kind, counts))
+    held::step(words) < kinds::at_least_one(limits::step_limit(kind, job))
 }
 
 // Phase, surfaces and counters; p variables are enabled.
-fn state_sound(
-    words: &[u64; 13],
-    counts: &[u64; 73],
-    p: usize,
-    surfaces: &[f64],
-    best: &[f64],
-) -> bool
-    requires { (surface_count_from counts.now ≤ 16) × (64 ≤ length surfaces.now) × (64 ≤ length best.now) }
-    ensures { (numbers : List Float) (o : Others) → p ≡ num_active (variables_from counts.now numbers)
-        → result ≡ state_sound (method (kind_from words.now) (settings_from counts.now numbers))
-        (held_job counts.now numbers (kind_from words.now))
+fn state_sound(words: &[u64; 13], job: &HeldJob, p: usize, surfaces: &[f64], best: &[f64]) -> bool
+    requires { (surface_count_from job.now.counts ≤ 16) × (64 ≤ length surfaces.now) × (64 ≤ length best.now) }
+    ensures { (numbers : List Float) (o : Others) → p ≡ num_active (variables_from job.now.counts numbers)
+        → result ≡ state_sound (method (kind_from words.now) (settings_from job.now.counts numbers))
+        (held_job job.now.counts numbers (kind_from words.now))
         (state_with words.now surfaces.now best.now o) }
 {
     if held::phase(words) > limits::last_phase(held::kind(words)) {
         return false;
     }
-    if !surfaces_sound(words, held::surface_count(counts), surfaces, best) {
+    if !surfaces_sound(words, job.surface_count(), surfaces, best) {
         return false;
     }
-    counters_sound(words, counts, p)
+    counters_sound(words, job, p)
 }
 
 // Whether the row is damaged, whatever the arrays are that it is not lent.
-pub fn is_damaged(
-    words: &[u64; 13],
-    counts: &[u64; 73],
-    numbers: &[f64],
-    surfaces: &[f64],
-    best_surfaces: &[f64],
-) -> bool
-    requires { (195 ≤ length numbers.now) × (64 ≤ length surfaces.now) × (64 ≤ length best_surfaces.now) }
+pub fn is_damaged(words: &[u64; 13], job: &HeldJob, surfaces: &[f64], best_surfaces: &[f64]) -> bool
+    requires { (64 ≤ length surfaces.now) × (64 ≤ length best_surfaces.now) }
     ensures { (o : Others)
-        → result ≡ damaged (row_from (held_with words.now counts.now numbers.now surfaces.now
+        → result ≡ damaged (row_from (held_with words.now job.now surfaces.now
         best_surfaces.now o)) }
 {
     let kind = held::kind(words);
     if !kinds::is_kind(kind) {
         return true;
     }
-    if !checks::counts_taken(counts) {
+    if !checks::counts_taken(job) {
         return true;
     }
-    let p = held::num_active(counts, numbers);
-    if !checks::job_taken(kind, counts, numbers, p) {
+    let p = job.num_active();
+    if !checks::job_taken(kind, job, p) {
         return true;
     }
-    if !state_sound(words, counts, p, surfaces, best_surfaces) {
+    if !state_sound(words, job, p, surfaces, best_surfaces) {
         return true;
     }
     if limits::is_over(kind, held::phase(words)) {
         return false;
     }
-    if held::turns(words) < limits::bound(kind, counts, p as u64) {
+    if held::turns(words) < limits::bound(kind, job, p as u64) {
         return false;
     }
     true

@@ -8,6 +8,8 @@ ghost use Rattle.kinds.specs.Phases.{StateInPhase};
 ghost use Rattle.kinds.specs.Limits.{CountsWithin};
 ghost use Rattle.held.specs.JobFrom.{settings_from};
 
+use held::HeldJob;
+
 pub(crate) fn last_phase(kind: u64) -> u64
     ensures { (s : SettingsRecord) → result ≡ last_phase (method kind s) }
 {
@@ -50,59 +52,55 @@ pub(crate) fn uses_best(kind: u64, phase: u64, trial: u64) -> bool
     }
 }
 
-pub(crate) fn iteration_limit(kind: u64, counts: &[u64; 73]) -> u64
-    ensures { (numbers : List Float) → result ≡ iteration_limit (method kind (settings_from counts.now numbers)) }
+pub(crate) fn iteration_limit(kind: u64, job: &HeldJob) -> u64
+    ensures { (numbers : List Float) → result ≡ iteration_limit (method kind (settings_from job.now.counts numbers)) }
 {
     match kind {
-        1 => held::max_iterations(counts),
-        2 => held::max_iterations(counts),
+        1 => job.max_iterations(),
+        2 => job.max_iterations(),
         _ => 25,
     }
 }
 
 // A kind that lacks the counter has limit 0 for it.
-pub(crate) fn trial_limit(kind: u64, counts: &[u64; 73]) -> u64
-    ensures { (numbers : List Float) → result ≡ trial_limit (method kind (settings_from counts.now numbers)) }
+pub(crate) fn trial_limit(kind: u64, job: &HeldJob) -> u64
+    ensures { (numbers : List Float) → result ≡ trial_limit (method kind (settings_from job.now.counts numbers)) }
 {
     match kind {
         1 => 0,
-        2 => held::num_trials(counts),
+        2 => job.num_trials(),
         _ => 0,
     }
 }
 
-pub(crate) fn cycle_limit(kind: u64, counts: &[u64; 73]) -> u64
-    ensures { (numbers : List Float) → result ≡ cycle_limit (method kind (settings_from counts.now numbers)) }
+pub(crate) fn cycle_limit(kind: u64, job: &HeldJob) -> u64
+    ensures { (numbers : List Float) → result ≡ cycle_limit (method kind (settings_from job.now.counts numbers)) }
 {
     match kind {
         1 => 0,
         2 => 0,
-        _ => held::max_cooling_cycles(counts),
+        _ => job.max_cooling_cycles(),
     }
 }
 
-pub(crate) fn step_limit(kind: u64, counts: &[u64; 73]) -> u64
-    ensures { (numbers : List Float) → result ≡ step_limit (method kind (settings_from counts.now numbers)) }
+pub(crate) fn step_limit(kind: u64, job: &HeldJob) -> u64
+    ensures { (numbers : List Float) → result ≡ step_limit (method kind (settings_from job.now.counts numbers)) }
 {
     match kind {
         1 => 0,
         2 => 0,
-        _ => held::steps_per_temperature(counts),
+        _ => job.steps_per_temperature(),
     }
 }
 
 // The most merits that the job's run works out, with p variables enabled.
-pub(crate) fn bound(kind: u64, counts: &[u64; 73], p: u64) -> u64
-    requires { ((numbers : List Float) → CountsWithin (method kind (settings_from counts.now numbers))) × (p ≤ 8) }
-    ensures { (numbers : List Float) → result ≡ bound_by (method kind (settings_from counts.now numbers)) p }
+pub(crate) fn bound(kind: u64, job: &HeldJob, p: u64) -> u64
+    requires { ((numbers : List Float) → CountsWithin (method kind (settings_from job.now.counts numbers))) × (p ≤ 8) }
+    ensures { (numbers : List Float) → result ≡ bound_by (method kind (settings_from job.now.counts numbers)) p }
 {
     match kind {
-        1 => kinds::damped_bound(held::max_iterations(counts), p),
-        2 => { kinds::multi_start_bound(held::num_trials(counts), held::max_iterations(counts), p) }
-        _ => kinds::annealing_bound(
-            held::max_cooling_cycles(counts),
-            held::steps_per_temperature(counts),
-            p,
-        ),
+        1 => kinds::damped_bound(job.max_iterations(), p),
+        2 => { kinds::multi_start_bound(job.num_trials(), job.max_iterations(), p) }
+        _ => kinds::annealing_bound(job.max_cooling_cycles(), job.steps_per_temperature(), p),
     }
 }

@@ -62,8 +62,6 @@ pub fn held_of(row: Row) -> HeldRow
     held::put_scalars(h, &mut scalars);
     let record = row.job;
     let job = written::held_job(record);
-    let counts = job.counts;
-    let numbers = job.numbers;
     let d = row.damped;
     let b = row.best;
     let e = d.evaluation;
@@ -82,8 +80,7 @@ pub fn held_of(row: Row) -> HeldRow
     HeldRow {
         words,
         scalars,
-        counts,
-        numbers,
+        job,
         surfaces,
         jacobian,
         values,

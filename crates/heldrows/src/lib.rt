@@ -3,7 +3,6 @@
 #![tactic(auto)]
 
 mod converted;
-mod types;
 mod written;
 
 pub use converted::held_of;

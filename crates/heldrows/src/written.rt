@@ -10,71 +10,66 @@ ghost use Rattle.held.specs.Written.{in_turn, variable_counts, operand_counts, v
 ghost use Rattle.held.specs.Written.{held_counts};
 ghost use Rattle.held.specs.Written.{held_numbers};
 
-use crate::types::HeldJob;
-use held::places;
+use held::{HeldJob, places};
 use jobs::{JobRecord, OperandRecord, VariableRecord};
 use optics::OpticalSurface;
 
 // Five counts and three numbers of variable i.
-fn lay_variable(v: VariableRecord, i: usize, counts: &mut [u64], numbers: &mut [f64])
-    requires { (i < 8) × (73 ≤ length counts.old) × (195 ≤ length numbers.old) }
-    ensures { (counts.new ≡ sets counts.old (variable_kind_at i) (variable_counts v))
-        × (numbers.new ≡ sets numbers.old (min_value_at i) (variable_numbers v)) }
+fn lay_variable(v: VariableRecord, i: usize, job: &mut HeldJob)
+    requires { i < 8 }
+    ensures { (job.new.counts ≡ sets job.old.counts (variable_kind_at i) (variable_counts v))
+        × (job.new.numbers ≡ sets job.old.numbers (min_value_at i) (variable_numbers v)) }
 {
     let whole = places::VARIABLE_COUNTS + 5 * i;
     let real = places::VARIABLE_NUMBERS + 3 * i;
-    counts[whole] = v.kind;
-    counts[whole + 1] = v.surface_index;
-    counts[whole + 2] = v.enabled;
-    counts[whole + 3] = v.follows;
-    counts[whole + 4] = v.follower;
-    numbers[real] = v.min_value;
-    numbers[real + 1] = v.max_value;
-    numbers[real + 2] = v.step_size;
+    job.counts[whole] = v.kind;
+    job.counts[whole + 1] = v.surface_index;
+    job.counts[whole + 2] = v.enabled;
+    job.counts[whole + 3] = v.follows;
+    job.counts[whole + 4] = v.follower;
+    job.numbers[real] = v.min_value;
+    job.numbers[real + 1] = v.max_value;
+    job.numbers[real + 2] = v.step_size;
 }
 
 // Two counts and three numbers of operand n.
-fn lay_operand(o: OperandRecord, n: usize, counts: &mut [u64], numbers: &mut [f64])
-    requires { (n < 12) × (73 ≤ length counts.old) × (195 ≤ length numbers.old) }
-    ensures { (counts.new ≡ sets counts.old (operand_kind_at n) (operand_counts o))
-        × (numbers.new ≡ sets numbers.old (limit_at n) (operand_numbers o)) }
+fn lay_operand(o: OperandRecord, n: usize, job: &mut HeldJob)
+    requires { n < 12 }
+    ensures { (job.new.counts ≡ sets job.old.counts (operand_kind_at n) (operand_counts o))
+        × (job.new.numbers ≡ sets job.old.numbers (limit_at n) (operand_numbers o)) }
 {
     let whole = places::OPERAND_COUNTS + 2 * n;
     let real = places::OPERAND_NUMBERS + 3 * n;
-    counts[whole] = o.kind;
-    counts[whole + 1] = o.at;
-    numbers[real] = o.limit_mm;
-    numbers[real + 1] = o.target;
-    numbers[real + 2] = o.weight;
+    job.counts[whole] = o.kind;
+    job.counts[whole + 1] = o.at;
+    job.numbers[real] = o.limit_mm;
+    job.numbers[real + 1] = o.target;
+    job.numbers[real + 2] = o.weight;
 }
 
 // Behind what stands in front of the variables.
-fn lay_variables(records: [VariableRecord; 8], counts: &mut [u64], numbers: &mut [f64])
-    requires { (73 ≤ length counts.old) × (195 ≤ length numbers.old) }
-    ensures { (take (operand_kind_at 0) counts.new ≡ take (variable_kind_at 0) counts.old ++ in_turn
+fn lay_variables(records: [VariableRecord; 8], job: &mut HeldJob)
+    ensures { (take (operand_kind_at 0) job.new.counts ≡ take (variable_kind_at 0) job.old.counts ++ in_turn
         (λ (i : ℕ). variable_counts (get_or records i no_variable_record)) 8)
-        × (take (limit_at 0) numbers.new ≡ take (min_value_at 0) numbers.old ++ in_turn
+        × (take (limit_at 0) job.new.numbers ≡ take (min_value_at 0) job.old.numbers ++ in_turn
         (λ (i : ℕ). variable_numbers (get_or records i no_variable_record)) 8) }
 {
-    let mut i: usize = 0;
-    while i < 8 {
+    job.lengths();
+    for i in 0..8 {
         let v = records[i];
-        lay_variable(v, i, counts, numbers);
-        i += 1;
+        lay_variable(v, i, job);
     }
 }
 
 // Behind what stands in front of the operands; nothing stands behind them.
-fn lay_operands(records: [OperandRecord; 12], counts: &mut [u64], numbers: &mut [f64])
-    requires { (length counts.old ≡ 73) × (length numbers.old ≡ 195) }
-    ensures { (counts.new ≡ take (operand_kind_at 0) counts.old ++ in_turn (λ (n : ℕ). operand_counts (get_or records n no_operand_record)) 12)
-        × (numbers.new ≡ take (limit_at 0) numbers.old ++ in_turn (λ (n : ℕ). operand_numbers (get_or records n no_operand_record)) 12) }
+fn lay_operands(records: [OperandRecord; 12], job: &mut HeldJob)
+    ensures { (job.new.counts ≡ take (operand_kind_at 0) job.old.counts ++ in_turn (λ (n : ℕ). operand_counts (get_or records n no_operand_record)) 12)
+        × (job.new.numbers ≡ take (limit_at 0) job.old.numbers ++ in_turn (λ (n : ℕ). operand_numbers (get_or records n no_operand_record)) 12) }
 {
-    let mut n: usize = 0;
-    while n < 12 {
+    job.lengths();
+    for n in 0..12 {
         let o = records[n];
-        lay_operand(o, n, counts, numbers);
-        n += 1;
+        lay_operand(o, n, job);
     }
 }
 
@@ -101,10 +96,8 @@ fn lens_numbers(surfaces: [OpticalSurface; 16], indices: [f64; 64]) -> [f64; 195
 {
     let mut numbers = [0.0; 195];
     optics::lay_flat(surfaces, 16, &mut numbers);
-    let mut k: usize = 0;
-    while k < 64 {
+    for k in 0..64 {
         numbers[places::INDICES + k] = indices[k];
-        k += 1;
     }
     numbers
 }
@@ -128,14 +121,15 @@ fn first_numbers(job: JobRecord) -> [f64; 195]
 }
 
 // The counts and numbers of a job.
-pub(crate) fn held_job(job: JobRecord) -> HeldJob
-    ensures { (result.counts ≡ held_counts job) × (result.numbers ≡ held_numbers job) }
+pub(crate) fn held_job(asked: JobRecord) -> HeldJob
+    ensures { (result.counts ≡ held_counts asked) × (result.numbers ≡ held_numbers asked) }
 {
-    let mut counts = first_counts(job);
-    let mut numbers = first_numbers(job);
-    let variables = job.variables;
-    let operands = job.operands;
-    lay_variables(variables, &mut counts, &mut numbers);
-    lay_operands(operands, &mut counts, &mut numbers);
-    HeldJob { counts, numbers }
+    let counts = first_counts(asked);
+    let numbers = first_numbers(asked);
+    let mut job = HeldJob { counts, numbers };
+    let variables = asked.variables;
+    let operands = asked.operands;
+    lay_variables(variables, &mut job);
+    lay_operands(operands, &mut job);
+    job
 }

@@ -15,25 +15,19 @@ ghost use Rattle.draws.specs.Parts.{ForOptimizer};
 ghost use Rattle.held.specs.RowFrom.{result_from, state_from};
 
 use crate::merging::merged;
-use held::{BestHead, RowHead};
+use held::{BestHead, HeldJob, RowHead};
 
 // The surfaces that a trial starts from; the generator after its draws.
 // global.rs: `trial_presc`
-fn trial_surfaces(
-    generator: u64,
-    counts: &[u64; 73],
-    numbers: &[f64],
-    surfaces: &mut [f64; 64],
-) -> u64
-    requires fact_1 { variable_count_from counts.now ≤ 8 }
-    requires fact_2 { 195 ≤ length numbers.now }
-    ensures { ForOptimizer (variables_from counts.now numbers.now)
-        (λ o. standing surfaces.new ≡ trial_presc o (standing numbers.now) generator)
-        × (result ≡ after_draws (variables_from counts.now numbers.now) generator) }
+fn trial_surfaces(generator: u64, job: &HeldJob, surfaces: &mut [f64; 64]) -> u64
+    requires { variable_count_from job.now.counts ≤ 8 }
+    ensures { ForOptimizer (variables_from job.now.counts job.now.numbers)
+        (λ o. standing surfaces.new ≡ trial_presc o (standing job.now.numbers) generator)
+        × (result ≡ after_draws (variables_from job.now.counts job.now.numbers) generator) }
 {
-    let drawn = draws::random_params(generator, counts, numbers);
+    let drawn = draws::random_params(generator, job);
     let params = drawn.params;
-    held::lay_applied(counts, numbers, params, numbers, surfaces);
+    held::lay_applied(job, params, &job.numbers, surfaces);
     drawn.generator
 }
 
@@ -76,8 +70,7 @@ fn resume_trials(
     best: BestHead,
     generator: u64,
     trial: u64,
-    counts: &[u64; 73],
-    numbers: &[f64],
+    job: &HeldJob,
     surfaces: &mut [f64; 64],
     jacobian: &mut [f64; 96],
     values: &mut [f64; 12],
@@ -86,17 +79,16 @@ fn resume_trials(
     params: &mut [f64; 8],
     candidate: &mut [f64; 8],
 ) -> RowHead
-    requires fact_1 { variable_count_from counts.now ≤ 8 }
-    requires fact_2 { 195 ≤ length numbers.now }
-    ensures { ForOptimizer (variables_from counts.now numbers.now) (λ o. (bs bv br : List Float) →
+    requires { variable_count_from job.now.counts ≤ 8 }
+    ensures { ForOptimizer (variables_from job.now.counts job.now.numbers) (λ o. (bs bv br : List Float) →
         let kept = result_from best bs bv br in
         let after = state_from result surfaces.new jacobian.new values.new residuals.new plus_residuals.new
         params.new candidate.new bs bv br in
-        after ≡ resume_trials o (standing numbers.now) (num_trials_from counts.now) (ltb trial (num_trials_from counts.now)) kept
+        after ≡ resume_trials o (standing job.now.numbers) (num_trials_from job.now.counts) (ltb trial (num_trials_from job.now.counts)) kept
         generator trial) }
 {
-    if trial < held::num_trials(counts) {
-        let next = trial_surfaces(generator, counts, numbers, surfaces);
+    if trial < job.num_trials() {
+        let next = trial_surfaces(generator, job, surfaces);
         let damped = dls::at_first(
             jacobian,
             values,
@@ -131,8 +123,7 @@ fn resume_trials(
 // After a merit has taken the trial's damped part to where it stands: it goes on there, or the trial is over.
 fn resume_damped(
     h: RowHead,
-    counts: &[u64; 73],
-    numbers: &[f64],
+    job: &HeldJob,
     surfaces: &mut [f64; 64],
     jacobian: &mut [f64; 96],
     values: &mut [f64; 12],
@@ -144,15 +135,14 @@ fn resume_damped(
     best_values: &mut [f64; 12],
     best_residuals: &mut [f64; 12],
 ) -> RowHead
-    requires fact_1 { variable_count_from counts.now ≤ 8 }
-    requires fact_2 { 195 ≤ length numbers.now }
-    ensures { ForOptimizer (variables_from counts.now numbers.now) (λ o. (old : DampedState) →
+    requires { variable_count_from job.now.counts ≤ 8 }
+    ensures { ForOptimizer (variables_from job.now.counts job.now.numbers) (λ o. (old : DampedState) →
         let before = state_from h surfaces.old jacobian.old values.old residuals.old
         plus_residuals.old params.old candidate.old best_surfaces.old best_values.old
         best_residuals.old in
         let after = state_from result surfaces.new jacobian.new values.new residuals.new plus_residuals.new
         params.new candidate.new best_surfaces.new best_values.new best_residuals.new in
-        after ≡ resume_damped o (standing numbers.now) (num_trials_from counts.now) (Damped.is_finished before.damped)
+        after ≡ resume_damped o (standing job.now.numbers) (num_trials_from job.now.counts) (Damped.is_finished before.damped)
         (with_damped before old) before.damped) }
 {
     if kinds::damped_over(h.damped.phase) {
@@ -169,8 +159,7 @@ fn resume_damped(
             best,
             h.generator,
             h.trial,
-            counts,
-            numbers,
+            job,
             surfaces,
             jacobian,
             values,
@@ -186,8 +175,7 @@ fn resume_damped(
 // The state after the merit that came next.
 pub fn advance_trials(
     h: RowHead,
-    counts: &[u64; 73],
-    numbers: &[f64],
+    job: &HeldJob,
     found: &[f64; 12],
     surfaces: &mut [f64; 64],
     jacobian: &mut [f64; 96],
@@ -202,28 +190,26 @@ pub fn advance_trials(
     scratch: &mut [f64],
 ) -> RowHead
     requires fact_1 { scratch_length ≤ length scratch.old }
-    requires fact_2 { variable_count_from counts.now ≤ most_variables }
-    requires fact_3 { 195 ≤ length numbers.now }
-    requires fact_4 { operand_count_from counts.now ≤ most_operands }
-    requires fact_5 { h.damped.column < num_active (variables_from counts.now numbers.now) }
-    ensures fact_1 { ForFound counts.now numbers.now found.now (λ e.
-        let o = optimizer (dls_config (settings_from counts.now numbers.now)) (variables_from counts.now numbers.now)
-        (operand_count_from counts.now) in
+    requires fact_2 { variable_count_from job.now.counts ≤ most_variables }
+    requires fact_3 { operand_count_from job.now.counts ≤ most_operands }
+    requires fact_4 { h.damped.column < num_active (variables_from job.now.counts job.now.numbers) }
+    ensures fact_1 { ForFound job.now.counts job.now.numbers found.now (λ e.
+        let o = optimizer (dls_config (settings_from job.now.counts job.now.numbers)) (variables_from job.now.counts job.now.numbers)
+        (operand_count_from job.now.counts) in
         let before = state_from h surfaces.old jacobian.old values.old residuals.old
         plus_residuals.old params.old candidate.old best_surfaces.old best_values.old
         best_residuals.old in
         let after = state_from result surfaces.new jacobian.new values.new residuals.new plus_residuals.new
         params.new candidate.new best_surfaces.new best_values.new best_residuals.new in
-        after ≡ advance o (standing numbers.now) (num_trials_from counts.now) before e) }
+        after ≡ advance o (standing job.now.numbers) (num_trials_from job.now.counts) before e) }
     ensures fact_2 { ScratchKept scratch.old scratch.new }
 {
     let before = h.damped;
-    let local = held::dls_config(counts, numbers);
+    let local = job.dls_config();
     let damped = dls::advance_damped(
         before,
         local,
-        counts,
-        numbers,
+        job,
         found,
         surfaces,
         jacobian,
@@ -238,8 +224,7 @@ pub fn advance_trials(
     next.damped = damped;
     resume_damped(
         next,
-        counts,
-        numbers,
+        job,
         surfaces,
         jacobian,
         values,

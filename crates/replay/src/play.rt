@@ -16,7 +16,7 @@ fn with_pending(hash: u64, bench: &Bench, place: usize) -> u64
 {
     let row = bench.rows[place];
     let pending = rowturns::pending_of(row);
-    let h = answers::with_surfaces(hash, pending.surfaces, held::surface_count(&row.counts));
+    let h = answers::with_surfaces(hash, pending.surfaces, row.job.surface_count());
     answers::with_float(h, pending.merit)
 }
 

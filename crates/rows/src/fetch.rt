@@ -13,12 +13,7 @@ use runs::OptimizationResult;
 fn number_of(held: HeldRow) -> u32
     ensures { result ≡ fetch_row_number (row_from held) }
 {
-    let words = held.words;
-    let counts = held.counts;
-    let numbers = held.numbers;
-    let surfaces = held.surfaces;
-    let best_surfaces = held.best_surfaces;
-    fetch_number(&words, &counts, &numbers, &surfaces, &best_surfaces)
+    fetch_number(&held.words, &held.job, &held.surfaces, &held.best_surfaces)
 }
 
 // The result of the row's run, or `old` where the fetch is refused.

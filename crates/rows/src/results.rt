@@ -61,17 +61,17 @@ fn best_result(b: BestHead, held: HeldRow) -> OptimizationResult
 
 // Annealing's: the polish's, with the first merit and the steps of the walk.
 fn polished(h: RowHead, held: HeldRow) -> OptimizationResult
-    requires { (max_cooling_cycles_from held.counts ≤ 1000) × (steps_per_temperature_from held.counts ≤ 1000) × (h.damped.iteration ≤ 1000) }
-    ensures { (a : Annealer) → a.config ≡ annealing_config (settings_from held.counts held.numbers) →
+    requires { (max_cooling_cycles_from held.job.counts ≤ 1000) × (steps_per_temperature_from held.job.counts ≤ 1000) × (h.damped.iteration ≤ 1000) }
+    ensures { (a : Annealer) → a.config ≡ annealing_config (settings_from held.job.counts held.job.numbers) →
         let state = damped_from h.damped held.surfaces held.jacobian held.values held.residuals held.plus_residuals held.params
         held.candidate in
         result ≡ with_prior a h.best.initial_merit (Damped.result_of state) }
 {
-    let counts = held.counts;
+    let job = held.job;
     let damped = h.damped;
     let mut result = damped_result(damped, held);
     result.initial_merit = h.best.initial_merit;
-    let steps = held::max_cooling_cycles(&counts) * held::steps_per_temperature(&counts);
+    let steps = job.max_cooling_cycles() * job.steps_per_temperature();
     result.iterations = steps + damped.iteration;
     result
 }
@@ -84,14 +84,10 @@ pub(crate) fn result_of(held: HeldRow) -> OptimizationResult
     let words = held.words;
     let scalars = held.scalars;
     let h = held::head_of(&words, &scalars);
-    let kind = held::kind(&words);
-    if kind == 1 {
-        let damped = h.damped;
-        return damped_result(damped, held);
+    // A kind stays a number: what is neither 1 nor 2 counts as annealing.
+    match held::kind(&words) {
+        1 => damped_result(h.damped, held),
+        2 => best_result(h.best, held),
+        _ => polished(h, held),
     }
-    if kind == 2 {
-        let best = h.best;
-        return best_result(best, held);
-    }
-    polished(h, held)
 }

@@ -4,7 +4,7 @@ ghost use Rattle.runs.specs.Zeros.{zero_surfaces, zero_result};
 ghost use Rattle.held.specs.Written.{held_from};
 ghost use Rattle.bench.specs.Benches.{zero_row};
 
-use held::HeldRow;
+use held::{HeldJob, HeldRow};
 use optics::OpticalSurface;
 use runs::OptimizationResult;
 
@@ -37,8 +37,10 @@ pub fn zero_row() -> HeldRow
     HeldRow {
         words: [0; 13],
         scalars: [0.0; 7],
-        counts: [0; 73],
-        numbers: [0.0; 195],
+        job: HeldJob {
+            counts: [0; 73],
+            numbers: [0.0; 195],
+        },
         surfaces: [0.0; 64],
         jacobian: [0.0; 96],
         values: [0.0; 12],

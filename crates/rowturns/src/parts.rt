@@ -5,13 +5,13 @@ ghost use Rattle.rows.specs.Calls.{turn_row_number, turned_row, scratch_of};
 ghost use Rattle.rowturns.specs.Parts.{held_of};
 
 use crate::scratch::zero_first;
+use held::HeldJob;
 use rows::turn_number;
 
 pub fn turn_parts(
     words: &mut [u64; 13],
     scalars: &mut [f64; 7],
-    counts: &[u64; 73],
-    numbers: &[f64; 195],
+    job: &HeldJob,
     surfaces: &mut [f64; 64],
     jacobian: &mut [f64; 96],
     values: &mut [f64; 12],
@@ -24,24 +24,17 @@ pub fn turn_parts(
     best_residuals: &mut [f64; 12],
     scratch: &mut [f64],
 ) -> u32
-    ensures { let before = row_from (held_of words.old scalars.old counts.now numbers.now surfaces.old
+    ensures { let before = row_from (held_of words.old scalars.old job.now surfaces.old
         jacobian.old values.old residuals.old plus_residuals.old params.old candidate.old
         best_surfaces.old best_values.old best_residuals.old) in
-        let after = row_from (held_of words.new scalars.new counts.now numbers.now surfaces.new
+        let after = row_from (held_of words.new scalars.new job.now surfaces.new
         jacobian.new values.new residuals.new plus_residuals.new params.new candidate.new
         best_surfaces.new best_values.new best_residuals.new) in
         (result ≡ turn_row_number (length scratch.old) before)
         × (after ≡ turned_row before (length scratch.old))
         × (scratch.new ≡ scratch_of before scratch.old) }
 {
-    let refused = turn_number(
-        scratch.len(),
-        words,
-        counts,
-        numbers,
-        surfaces,
-        best_surfaces,
-    );
+    let refused = turn_number(scratch.len(), words, job, surfaces, best_surfaces);
     if refused > 0 {
         return refused;
     }
@@ -51,8 +44,7 @@ pub fn turn_parts(
     let next = turns::turned(
         h,
         kind,
-        counts,
-        numbers,
+        job,
         surfaces,
         jacobian,
         values,

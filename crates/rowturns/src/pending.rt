@@ -8,48 +8,39 @@ ghost use Rattle.rowturns.specs.Next.{pending_of};
 ghost use Rattle.rowturns.specs.Parts.{held_of};
 
 use crate::types::Pending;
-use held::HeldRow;
+use held::{HeldJob, HeldRow};
 use optics::OpticalSurface;
 use rows::{turn_number, zero_surfaces};
 
 // The merit of surfaces under a held job, worked out where they are laid flat.
-fn merit_at(lens: [OpticalSurface; 16], counts: &[u64; 73], numbers: &[f64]) -> f64
-    requires fact_1 { surface_count_from counts.now ≤ 16 }
-    requires fact_2 { operand_count_from counts.now ≤ 12 }
-    requires fact_3 { 195 ≤ length numbers.now }
-    requires fact_4 { SlotsKnown (operands_from counts.now numbers.now) }
-    ensures { (kind : ℕ) → result ≡ (evaluate_of (held_job counts.now numbers.now kind) lens).total_merit }
+fn merit_at(lens: [OpticalSurface; 16], job: &HeldJob) -> f64
+    requires fact_1 { surface_count_from job.now.counts ≤ 16 }
+    requires fact_2 { operand_count_from job.now.counts ≤ 12 }
+    requires fact_3 { SlotsKnown (operands_from job.now.counts job.now.numbers) }
+    ensures { (kind : ℕ) → result ≡ (evaluate_of (held_job job.now.counts job.now.numbers kind) lens).total_merit }
 {
     let mut flat = [0.0; 64];
-    optics::lay_flat(lens, held::surface_count(counts), &mut flat);
-    let found = heldmerit::values_of(&flat, counts, numbers);
-    heldmerit::merit_of(&found, counts, numbers)
+    optics::lay_flat(lens, job.surface_count(), &mut flat);
+    let found = heldmerit::values_of(&flat, job);
+    heldmerit::merit_of(&found, job)
 }
 
 // The surfaces whose merit comes next and that merit, with scratch enough.
 fn pending_parts(
     words: &[u64; 13],
     scalars: &[f64; 7],
-    counts: &[u64; 73],
-    numbers: &[f64; 195],
+    job: &HeldJob,
     surfaces: &[f64; 64],
     params: &[f64; 8],
     candidate: &[f64; 8],
     best_surfaces: &[f64; 64],
 ) -> Pending
     ensures { (jacobian values residuals plus bv br : List Float) →
-        let row = row_from (held_of words.now scalars.now counts.now numbers.now surfaces.now
+        let row = row_from (held_of words.now scalars.now job.now surfaces.now
         jacobian values residuals plus params.now candidate.now best_surfaces.now bv br) in
         result ≡ pending_of row }
 {
-    let number = turn_number(
-        normal::SCRATCH,
-        words,
-        counts,
-        numbers,
-        surfaces,
-        best_surfaces,
-    );
+    let number = turn_number(normal::SCRATCH, words, job, surfaces, best_surfaces);
     if number > 0 {
         let zero = zero_surfaces();
         return Pending {
@@ -61,13 +52,11 @@ fn pending_parts(
     let h = held::head_of(words, scalars);
     let kind = held::kind(words);
     let mut flat = [0.0; 64];
-    turns::pending_surfaces(
-        h, kind, counts, numbers, surfaces, params, candidate, &mut flat,
-    );
+    turns::pending_surfaces(h, kind, job, surfaces, params, candidate, &mut flat);
     let pending = held::stand(&flat);
     Pending {
         surfaces: pending,
-        merit: merit_at(pending, counts, numbers),
+        merit: merit_at(pending, job),
         number: 0,
     }
 }
@@ -76,22 +65,13 @@ fn pending_parts(
 pub fn pending_of(held: HeldRow) -> Pending
     ensures { result ≡ pending_of (row_from held) }
 {
-    let words = held.words;
-    let scalars = held.scalars;
-    let counts = held.counts;
-    let numbers = held.numbers;
-    let surfaces = held.surfaces;
-    let params = held.params;
-    let candidate = held.candidate;
-    let best_surfaces = held.best_surfaces;
     pending_parts(
-        &words,
-        &scalars,
-        &counts,
-        &numbers,
-        &surfaces,
-        &params,
-        &candidate,
-        &best_surfaces,
+        &held.words,
+        &held.scalars,
+        &held.job,
+        &held.surfaces,
+        &held.params,
+        &held.candidate,
+        &held.best_surfaces,
     )
 }

@@ -8,9 +8,5 @@ pub(crate) fn zero_first(scratch: &mut [f64])
     requires { scratch_length ≤ length scratch.old }
     ensures { scratch.new ≡ cleared scratch.old }
 {
-    let mut i: usize = 0;
-    while i < normal::SCRATCH {
-        scratch[i] = 0.0;
-        i += 1;
-    }
+    scratch[..normal::SCRATCH].fill(0.0);
 }

@@ -9,10 +9,10 @@ use held::HeldRow;
 fn same_job(a: HeldRow, b: HeldRow) -> bool
     ensures { result ≡ same_job a b }
 {
-    let counts_a = a.counts;
-    let counts_b = b.counts;
-    let numbers_a = a.numbers;
-    let numbers_b = b.numbers;
+    let counts_a = a.job.counts;
+    let counts_b = b.job.counts;
+    let numbers_a = a.job.numbers;
+    let numbers_b = b.job.numbers;
     let counts = same_words(&counts_a, &counts_b);
     let numbers = same_floats(&numbers_a, &numbers_b);
     both(counts, numbers)

@@ -13,7 +13,7 @@ ghost use Rattle.held.specs.JobFrom.{variable_count_from, operand_count_from, se
 ghost use Rattle.held.specs.RowFrom.{state_from};
 ghost use Rattle.dls.specs.Found.{ForFound};
 
-use held::RowHead;
+use held::{HeldJob, RowHead};
 use heldmerit::merit_of;
 use jobs::DlsConfig;
 
@@ -21,8 +21,7 @@ use jobs::DlsConfig;
 fn advance_part(
     h: RowHead,
     config: DlsConfig,
-    counts: &[u64; 73],
-    numbers: &[f64],
+    job: &HeldJob,
     found: &[f64; 12],
     surfaces: &mut [f64; 64],
     jacobian: &mut [f64; 96],
@@ -34,12 +33,11 @@ fn advance_part(
     scratch: &mut [f64],
 ) -> RowHead
     requires fact_1 { scratch_length ≤ length scratch.old }
-    requires fact_2 { variable_count_from counts.now ≤ 8 }
-    requires fact_3 { 195 ≤ length numbers.now }
-    requires fact_4 { operand_count_from counts.now ≤ most_operands }
-    requires fact_5 { h.damped.column < num_active (variables_from counts.now numbers.now) }
-    ensures fact_1 { ForFound counts.now numbers.now found.now (λ e. (bs bv br : List Float) →
-        let o = optimizer config (variables_from counts.now numbers.now) (operand_count_from counts.now) in
+    requires fact_2 { variable_count_from job.now.counts ≤ 8 }
+    requires fact_3 { operand_count_from job.now.counts ≤ most_operands }
+    requires fact_4 { h.damped.column < num_active (variables_from job.now.counts job.now.numbers) }
+    ensures fact_1 { ForFound job.now.counts job.now.numbers found.now (λ e. (bs bv br : List Float) →
+        let o = optimizer config (variables_from job.now.counts job.now.numbers) (operand_count_from job.now.counts) in
         let before = state_from h surfaces.old jacobian.old values.old residuals.old
         plus_residuals.old params.old candidate.old bs bv br in
         let after = state_from result surfaces.new jacobian.new values.new residuals.new plus_residuals.new
@@ -51,8 +49,7 @@ fn advance_part(
     let damped = dls::advance_damped(
         before,
         config,
-        counts,
-        numbers,
+        job,
         found,
         surfaces,
         jacobian,
@@ -70,8 +67,7 @@ fn advance_part(
 
 fn advance_annealing(
     h: RowHead,
-    counts: &[u64; 73],
-    numbers: &[f64],
+    job: &HeldJob,
     found: &[f64; 12],
     surfaces: &mut [f64; 64],
     jacobian: &mut [f64; 96],
@@ -86,13 +82,12 @@ fn advance_annealing(
     scratch: &mut [f64],
 ) -> RowHead
     requires fact_1 { scratch_length ≤ length scratch.old }
-    requires fact_2 { variable_count_from counts.now ≤ 8 }
-    requires fact_3 { 195 ≤ length numbers.now }
-    requires fact_4 { operand_count_from counts.now ≤ most_operands }
-    requires fact_5 { h.damped.column < num_active (variables_from counts.now numbers.now) }
-    ensures fact_1 { ForFound counts.now numbers.now found.now (λ e.
-        let a = annealer_of (held_job counts.now numbers.now 3)
-        (annealing_config (settings_from counts.now numbers.now)) in
+    requires fact_2 { variable_count_from job.now.counts ≤ 8 }
+    requires fact_3 { operand_count_from job.now.counts ≤ most_operands }
+    requires fact_4 { h.damped.column < num_active (variables_from job.now.counts job.now.numbers) }
+    ensures fact_1 { ForFound job.now.counts job.now.numbers found.now (λ e.
+        let a = annealer_of (held_job job.now.counts job.now.numbers 3)
+        (annealing_config (settings_from job.now.counts job.now.numbers)) in
         let before = state_from h surfaces.old jacobian.old values.old residuals.old
         plus_residuals.old params.old candidate.old best_surfaces.old best_values.old
         best_residuals.old in
@@ -101,35 +96,51 @@ fn advance_annealing(
         after ≡ Annealing.advance a before e) }
     ensures fact_2 { ScratchKept scratch.old scratch.new }
 {
-    let config = held::annealing_config(counts, numbers);
-    let phase = h.damped.phase;
-    if phase == 5 {
-        let merit = merit_of(found, counts, numbers);
-        return annealing::advance_walk_first(
-            config,
-            merit,
-            counts,
-            numbers,
-            surfaces,
-            jacobian,
-            values,
-            residuals,
-            plus_residuals,
-            params,
-            candidate,
-            best_surfaces,
-            best_values,
-            best_residuals,
-        );
-    }
-    if phase == 6 {
-        let merit = merit_of(found, counts, numbers);
-        return annealing::advance_walk(
+    let config = job.annealing_config();
+    // A phase stays a number: a row may hold any.
+    match h.damped.phase {
+        5 => {
+            let merit = merit_of(found, job);
+            annealing::advance_walk_first(
+                config,
+                merit,
+                job,
+                surfaces,
+                jacobian,
+                values,
+                residuals,
+                plus_residuals,
+                params,
+                candidate,
+                best_surfaces,
+                best_values,
+                best_residuals,
+            )
+        }
+        6 => {
+            let merit = merit_of(found, job);
+            annealing::advance_walk(
+                h,
+                config,
+                merit,
+                job,
+                surfaces,
+                jacobian,
+                values,
+                residuals,
+                plus_residuals,
+                params,
+                candidate,
+                best_surfaces,
+                best_values,
+                best_residuals,
+            )
+        }
+        _ => advance_part(
             h,
-            config,
-            merit,
-            counts,
-            numbers,
+            defaults::polish_settings(),
+            job,
+            found,
             surfaces,
             jacobian,
             values,
@@ -137,34 +148,16 @@ fn advance_annealing(
             plus_residuals,
             params,
             candidate,
-            best_surfaces,
-            best_values,
-            best_residuals,
-        );
+            scratch,
+        ),
     }
-    advance_part(
-        h,
-        defaults::polish_settings(),
-        counts,
-        numbers,
-        found,
-        surfaces,
-        jacobian,
-        values,
-        residuals,
-        plus_residuals,
-        params,
-        candidate,
-        scratch,
-    )
 }
 
 // The state after the merit that came next. A turn uses the first 128 of scratch.
 pub(crate) fn advance_run(
     h: RowHead,
     kind: u64,
-    counts: &[u64; 73],
-    numbers: &[f64],
+    job: &HeldJob,
     found: &[f64; 12],
     surfaces: &mut [f64; 64],
     jacobian: &mut [f64; 96],
@@ -179,27 +172,25 @@ pub(crate) fn advance_run(
     scratch: &mut [f64],
 ) -> RowHead
     requires fact_1 { scratch_length ≤ length scratch.old }
-    requires fact_2 { variable_count_from counts.now ≤ 8 }
-    requires fact_3 { 195 ≤ length numbers.now }
-    requires fact_4 { operand_count_from counts.now ≤ most_operands }
-    requires fact_5 { h.damped.column < num_active (variables_from counts.now numbers.now) }
-    ensures fact_1 { ForFound counts.now numbers.now found.now (λ e.
-        let job = held_job counts.now numbers.now kind in
+    requires fact_2 { variable_count_from job.now.counts ≤ 8 }
+    requires fact_3 { operand_count_from job.now.counts ≤ most_operands }
+    requires fact_4 { h.damped.column < num_active (variables_from job.now.counts job.now.numbers) }
+    ensures fact_1 { ForFound job.now.counts job.now.numbers found.now (λ e.
+        let j = held_job job.now.counts job.now.numbers kind in
         let before = state_from h surfaces.old jacobian.old values.old residuals.old
         plus_residuals.old params.old candidate.old best_surfaces.old best_values.old
         best_residuals.old in
         let after = state_from result surfaces.new jacobian.new values.new residuals.new plus_residuals.new
         params.new candidate.new best_surfaces.new best_values.new best_residuals.new in
-        after ≡ advance_by job.method job before e) }
+        after ≡ advance_by j.method j before e) }
     ensures fact_2 { ScratchKept scratch.old scratch.new }
 {
-    if kind == 1 {
-        let config = held::dls_config(counts, numbers);
-        return advance_part(
+    // So does a kind: what is neither 1 nor 2 counts as annealing.
+    match kind {
+        1 => advance_part(
             h,
-            config,
-            counts,
-            numbers,
+            job.dls_config(),
+            job,
             found,
             surfaces,
             jacobian,
@@ -209,13 +200,10 @@ pub(crate) fn advance_run(
             params,
             candidate,
             scratch,
-        );
-    }
-    if kind == 2 {
-        return multistart::advance_trials(
+        ),
+        2 => multistart::advance_trials(
             h,
-            counts,
-            numbers,
+            job,
             found,
             surfaces,
             jacobian,
@@ -228,23 +216,22 @@ pub(crate) fn advance_run(
             best_values,
             best_residuals,
             scratch,
-        );
+        ),
+        _ => advance_annealing(
+            h,
+            job,
+            found,
+            surfaces,
+            jacobian,
+            values,
+            residuals,
+            plus_residuals,
+            params,
+            candidate,
+            best_surfaces,
+            best_values,
+            best_residuals,
+            scratch,
+        ),
     }
-    advance_annealing(
-        h,
-        counts,
-        numbers,
-        found,
-        surfaces,
-        jacobian,
-        values,
-        residuals,
-        plus_residuals,
-        params,
-        candidate,
-        best_surfaces,
-        best_values,
-        best_residuals,
-        scratch,
-    )
 }

@@ -8,82 +8,64 @@ ghost use Rattle.held.specs.RowFrom.{state_from};
 ghost use Rattle.held.specs.Standing.{Behind};
 ghost use Rattle.draws.specs.Parts.{ForAnnealer};
 
-use held::RowHead;
+use held::{HeldJob, RowHead};
 
 // Annealing: the base, a step's trial, or the polish's.
 fn pending_annealing(
     h: RowHead,
-    counts: &[u64; 73],
-    numbers: &[f64],
+    job: &HeldJob,
     surfaces: &[f64; 64],
     params: &[f64; 8],
     candidate: &[f64; 8],
     flat: &mut [f64],
 )
-    requires fact_1 { variable_count_from counts.now ≤ 8 }
-    requires fact_2 { 195 ≤ length numbers.now }
-    requires fact_3 { h.damped.column < num_active (variables_from counts.now numbers.now) }
-    requires fact_4 { 64 ≤ length flat.old }
-    ensures fact_1 { ForAnnealer (variables_from counts.now numbers.now) (λ a. (jacobian values residuals plus bs bv br : List Float) →
+    requires fact_1 { variable_count_from job.now.counts ≤ 8 }
+    requires fact_2 { h.damped.column < num_active (variables_from job.now.counts job.now.numbers) }
+    requires fact_3 { 64 ≤ length flat.old }
+    ensures fact_1 { ForAnnealer (variables_from job.now.counts job.now.numbers) (λ a. (jacobian values residuals plus bs bv br : List Float) →
         let state = state_from h surfaces.now jacobian values residuals plus params.now candidate.now bs bv br in
         standing flat.new ≡ Annealing.pending a state) }
     ensures fact_2 { Behind flat.old flat.new }
 {
     let damped = h.damped;
-    if damped.phase == 5 {
-        held::copy(surfaces, flat);
-        return;
+    match damped.phase {
+        5 => held::copy(surfaces, flat),
+        6 => held::lay_applied(job, *candidate, surfaces, flat),
+        _ => dls::pending_damped(
+            damped,
+            defaults::polish_settings(),
+            job,
+            surfaces,
+            params,
+            candidate,
+            flat,
+        ),
     }
-    if damped.phase == 6 {
-        let x = *candidate;
-        held::lay_applied(counts, numbers, x, surfaces, flat);
-        return;
-    }
-    dls::pending_damped(
-        damped,
-        defaults::polish_settings(),
-        counts,
-        numbers,
-        surfaces,
-        params,
-        candidate,
-        flat,
-    );
 }
 
 pub fn pending_surfaces(
     h: RowHead,
     kind: u64,
-    counts: &[u64; 73],
-    numbers: &[f64],
+    job: &HeldJob,
     surfaces: &[f64; 64],
     params: &[f64; 8],
     candidate: &[f64; 8],
     flat: &mut [f64],
 )
-    requires fact_1 { variable_count_from counts.now ≤ 8 }
-    requires fact_2 { 195 ≤ length numbers.now }
-    requires fact_3 { h.damped.column < num_active (variables_from counts.now numbers.now) }
-    requires fact_4 { 64 ≤ length flat.old }
+    requires fact_1 { variable_count_from job.now.counts ≤ 8 }
+    requires fact_2 { h.damped.column < num_active (variables_from job.now.counts job.now.numbers) }
+    requires fact_3 { 64 ≤ length flat.old }
     ensures fact_1 { ((jacobian values residuals plus bs bv br : List Float) →
-        let job = held_job counts.now numbers.now kind in
+        let j = held_job job.now.counts job.now.numbers kind in
         let state = state_from h surfaces.now jacobian values residuals plus params.now candidate.now bs bv br in
-        standing flat.new ≡ pending_by job.method job state) }
+        standing flat.new ≡ pending_by j.method j state) }
     ensures fact_2 { Behind flat.old flat.new }
 {
     let damped = h.damped;
-    let config = held::dls_config(counts, numbers);
-    if kind == 1 {
-        dls::pending_damped(
-            damped, config, counts, numbers, surfaces, params, candidate, flat,
-        );
-        return;
+    let config = job.dls_config();
+    match kind {
+        1 => dls::pending_damped(damped, config, job, surfaces, params, candidate, flat),
+        2 => dls::pending_damped(damped, config, job, surfaces, params, candidate, flat),
+        _ => pending_annealing(h, job, surfaces, params, candidate, flat),
     }
-    if kind == 2 {
-        dls::pending_damped(
-            damped, config, counts, numbers, surfaces, params, candidate, flat,
-        );
-        return;
-    }
-    pending_annealing(h, counts, numbers, surfaces, params, candidate, flat);
 }

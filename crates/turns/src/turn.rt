@@ -10,14 +10,13 @@ ghost use Rattle.turns.specs.Turned.{turned_by};
 
 use crate::advance::advance_run;
 use crate::pending::pending_surfaces;
-use held::RowHead;
+use held::{HeldJob, RowHead};
 
 // The surfaces pending are laid at the start of scratch and evaluated there, and the run goes on with what was found.
 pub fn turned(
     h: RowHead,
     kind: u64,
-    counts: &[u64; 73],
-    numbers: &[f64],
+    job: &HeldJob,
     surfaces: &mut [f64; 64],
     jacobian: &mut [f64; 96],
     values: &mut [f64; 12],
@@ -31,27 +30,23 @@ pub fn turned(
     scratch: &mut [f64],
 ) -> RowHead
     requires fact_1 { scratch_length ≤ length scratch.old }
-    requires fact_2 { 195 ≤ length numbers.now }
-    requires fact_3 { job_taken (held_job counts.now numbers.now kind) ≡ true }
-    requires fact_4 { h.damped.column < num_active (variables_from counts.now numbers.now) }
-    ensures fact_1 { (let job = held_job counts.now numbers.now kind in
+    requires fact_2 { job_taken (held_job job.now.counts job.now.numbers kind) ≡ true }
+    requires fact_3 { h.damped.column < num_active (variables_from job.now.counts job.now.numbers) }
+    ensures fact_1 { (let j = held_job job.now.counts job.now.numbers kind in
         let before = state_from h surfaces.old jacobian.old values.old residuals.old
         plus_residuals.old params.old candidate.old best_surfaces.old best_values.old
         best_residuals.old in
         let after = state_from result surfaces.new jacobian.new values.new residuals.new plus_residuals.new
         params.new candidate.new best_surfaces.new best_values.new best_residuals.new in
-        after ≡ turned_by job before) }
+        after ≡ turned_by j before) }
     ensures fact_2 { ScratchKept scratch.old scratch.new }
 {
-    pending_surfaces(
-        h, kind, counts, numbers, surfaces, params, candidate, scratch,
-    );
-    let found = heldmerit::values_of(scratch, counts, numbers);
+    pending_surfaces(h, kind, job, surfaces, params, candidate, scratch);
+    let found = heldmerit::values_of(scratch, job);
     advance_run(
         h,
         kind,
-        counts,
-        numbers,
+        job,
         &found,
         surfaces,
         jacobian,

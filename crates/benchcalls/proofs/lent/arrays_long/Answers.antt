@@ -5,8 +5,8 @@ pub returns : goal.returns
 returns c = record {
   words = c.told-words;
   scalars = c.told-scalars;
-  counts = c.told-counts;
-  numbers = c.told-numbers;
+  counts = c.lengths.ensures.0;
+  numbers = c.lengths.ensures.1;
   surfaces = c.told-surfaces;
   jacobian = c.told-jacobian;
   values = c.told-values;

@@ -11,10 +11,10 @@ use Rattle.dls.proofs.accepting.advance_accepted.Goals as goal
 pub returns-then-gain-config : goal.returns-then-gain-config
 returns-then-gain-config c = λ k lens w em m.
     let x = c.args in
-    accepted-over (optimizer x.config (variables_from x.counts.now x.numbers.now) m)
+    accepted-over (optimizer x.config (variables_from x.job.now.counts x.job.now.numbers) m)
     (damped_from x.h x.surfaces.now x.jacobian.now x.values.now x.residuals.now x.plus_residuals.now x.params.now
-    x.candidate.now) (evaluate_of (held_job x.counts.now x.numbers.now k) lens)
-    c.requires.fact_4
+    x.candidate.now) (evaluate_of (held_job x.job.now.counts x.job.now.numbers k) lens)
+    c.requires.fact_3
     (c.rel_improvement-gain.ensures
     ∙ ap (λ (y : Float). relative_gain y x.h.total_merit) (sym em))
     (c.moved-next.ensures k lens w em x.config m x.jacobian.now x.plus_residuals.now)
@@ -23,10 +23,10 @@ returns-then-gain-config c = λ k lens w em m.
 pub returns : goal.returns
 returns c = λ k lens w em m.
     let x = c.args in
-    accepted-on (optimizer x.config (variables_from x.counts.now x.numbers.now) m)
+    accepted-on (optimizer x.config (variables_from x.job.now.counts x.job.now.numbers) m)
     (damped_from x.h x.surfaces.now x.jacobian.now x.values.now x.residuals.now x.plus_residuals.now x.params.now
-    x.candidate.now) (evaluate_of (held_job x.counts.now x.numbers.now k) lens)
-    c.requires.fact_4
+    x.candidate.now) (evaluate_of (held_job x.job.now.counts x.job.now.numbers k) lens)
+    c.requires.fact_3
     (c.rel_improvement-gain.ensures
     ∙ ap (λ (y : Float). relative_gain y x.h.total_merit) (sym em))
     (c.moved-next.ensures k lens w em x.config m x.jacobian.now x.plus_residuals.now)

@@ -15,16 +15,16 @@ use Rattle.dls.proofs.accepting.advance_candidate.Goals as goal
 pub returns-then-is_reduction : goal.returns-then-is_reduction
 returns-then-is_reduction c =
     let x = c.args in record {
-      fact_1 = λ k lens w. candidate-taken (optimizer x.config (variables_from x.counts.now x.numbers.now) (operand_count_from x.counts.now))
+      fact_1 = λ k lens w. candidate-taken (optimizer x.config (variables_from x.job.now.counts x.job.now.numbers) (operand_count_from x.job.now.counts))
           (damped_from x.h x.surfaces.now x.jacobian.now x.values.now x.residuals.now x.plus_residuals.now x.params.now
-          x.candidate.now) (evaluate_of (held_job x.counts.now x.numbers.now k) lens)
+          x.candidate.now) (evaluate_of (held_job x.job.now.counts x.job.now.numbers k) lens)
           (c.is_reduction.ensures
           ∙ ap (λ (y : Float). finite_of y && lt y x.h.total_merit)
           (merit-held _ _ _ c.merit_of-merit.ensures k lens w))
           c.if-is_reduction.true
           (c.advance_accepted.ensures k lens w
           (sym (merit-held _ _ _ c.merit_of-merit.ensures k
-          lens w)) (operand_count_from x.counts.now));
+          lens w)) (operand_count_from x.job.now.counts));
       fact_2 = kept_same x.scratch.now;
     }
 
@@ -32,9 +32,9 @@ pub returns : goal.returns
 returns c =
     let x = c.args in
     let a = c.resume_rejected.ensures in record {
-      fact_1 = λ k lens w. candidate-left (optimizer x.config (variables_from x.counts.now x.numbers.now) (operand_count_from x.counts.now))
+      fact_1 = λ k lens w. candidate-left (optimizer x.config (variables_from x.job.now.counts x.job.now.numbers) (operand_count_from x.job.now.counts))
           (damped_from x.h x.surfaces.now x.jacobian.now x.values.now x.residuals.now x.plus_residuals.now x.params.now
-          x.candidate.now) (evaluate_of (held_job x.counts.now x.numbers.now k) lens)
+          x.candidate.now) (evaluate_of (held_job x.job.now.counts x.job.now.numbers k) lens)
           (c.is_reduction.ensures
           ∙ ap (λ (y : Float). finite_of y && lt y x.h.total_merit)
           (merit-held _ _ _ c.merit_of-merit.ensures k lens w))

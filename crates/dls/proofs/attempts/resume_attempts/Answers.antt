@@ -14,8 +14,8 @@ pub attempt_step-requires : goal.attempt_step-requires
 attempt_step-requires c =
     omega (
       arith,
-      active-le (variables_from c.args.counts.now
-          c.args.numbers.now),
+      active-le (variables_from c.args.job.now.counts
+          c.args.job.now.numbers),
       (c.loop-k.invariant [] [] []).kept.long,
     )
 
@@ -23,11 +23,11 @@ pub loop-k-preserved : goal.loop-k-preserved
 loop-k-preserved c = λ s v r.
     let a = c.attempt_step in
     trying-on (c.loop-k.invariant s v r)
-    c.requires.fact_4 (omega arith) a.ensures
+    c.requires.fact_3 (omega arith) a.ensures
     (omega (
       arith,
-      active-le (variables_from c.args.counts.now
-          c.args.numbers.now),
+      active-le (variables_from c.args.job.now.counts
+          c.args.job.now.numbers),
     )) c.if-not-attempt_step.true c.raise-raised.ensures
 
 pub candidate_params-found-requires : goal.candidate_params-found-requires
@@ -46,7 +46,7 @@ pub returns-in-loop-k : goal.returns-in-loop-k
 returns-in-loop-k c = λ s v r.
     let a = c.attempt_step in
     trying-found (c.loop-k.invariant s v r)
-    c.requires.fact_4
+    c.requires.fact_3
     (omega arith) a.ensures c.if-not-attempt_step.false c.candidate_params-found.ensures
     (c.at_candidate.ensures s
     c.args.jacobian.now

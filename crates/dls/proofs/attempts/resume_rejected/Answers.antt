@@ -10,8 +10,8 @@ use Rattle.dls.proofs.attempts.resume_rejected.Goals as goal
 
 pub normal_equations-norm-requires : goal.normal_equations-norm-requires
 normal_equations-norm-requires c =
-    let n = active-le (variables_from c.args.counts.now
-    c.args.numbers.now) in let e = c.num_active-p.ensures in
+    let n = active-le (variables_from c.args.job.now.counts
+    c.args.job.now.numbers) in let e = c.num_active-p.ensures in
     let m = c.operand_count-m.ensures in omega arith
 
 pub returns : goal.returns
@@ -20,7 +20,7 @@ returns c =
     let e = rw c.operand_count-m.ensures at
     c.normal_equations-norm.ensures in
     let a = c.resume_attempts.ensures in record {
-      fact_1 = λ config s v. rejected-on config (variables_from x.counts.now x.numbers.now) (operand_count_from x.counts.now)
+      fact_1 = λ config s v. rejected-on config (variables_from x.job.now.counts x.job.now.numbers) (operand_count_from x.job.now.counts)
           (damped_from x.h s x.jacobian.now v x.residuals.now x.plus_residuals.now x.params.now x.candidate.now)
           c.num_active-p.ensures e
           c.raise.ensures (a s v x.residuals.now);

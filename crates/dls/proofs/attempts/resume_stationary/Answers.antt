@@ -11,8 +11,8 @@ use Rattle.dls.proofs.attempts.resume_stationary.Goals as goal
 
 pub normal_equations-norm-requires : goal.normal_equations-norm-requires
 normal_equations-norm-requires c =
-    let n = active-le (variables_from c.args.counts.now
-    c.args.numbers.now) in let e = c.num_active-p.ensures in
+    let n = active-le (variables_from c.args.job.now.counts
+    c.args.job.now.numbers) in let e = c.num_active-p.ensures in
     let m = c.operand_count-m.ensures in omega arith
 
 pub returns-then-is_stationary : goal.returns-then-is_stationary
@@ -20,7 +20,7 @@ returns-then-is_stationary c =
     let x = c.args in
     let e = rw c.operand_count-m.ensures at
     c.normal_equations-norm.ensures in record {
-      fact_1 = λ s v. stationary-over x.config (variables_from x.counts.now x.numbers.now) (operand_count_from x.counts.now)
+      fact_1 = λ s v. stationary-over x.config (variables_from x.job.now.counts x.job.now.numbers) (operand_count_from x.job.now.counts)
           (damped_from x.h s x.jacobian.now v x.residuals.now x.plus_residuals.now x.params.now x.candidate.now)
           c.num_active-p.ensures e
           c.is_stationary.ensures c.if-is_stationary.true
@@ -35,7 +35,7 @@ returns c =
     c.operand_count-m.ensures at
     c.normal_equations-norm.ensures in
     let a = c.resume_attempts.ensures in record {
-      fact_1 = λ s v. stationary-on x.config (variables_from x.counts.now x.numbers.now) (operand_count_from x.counts.now)
+      fact_1 = λ s v. stationary-on x.config (variables_from x.job.now.counts x.job.now.numbers) (operand_count_from x.job.now.counts)
           (damped_from x.h s x.jacobian.now v x.residuals.now x.plus_residuals.now x.params.now x.candidate.now)
           c.num_active-p.ensures
           e c.is_stationary.ensures

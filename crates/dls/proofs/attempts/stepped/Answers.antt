@@ -6,14 +6,10 @@ use Rattle.std.proofs.Common.{rules}
 use Rattle.dls.proofs.attempts.stepped.Goals as goal
 
 pub loop-q-init : goal.loop-q-init
-loop-q-init c = (omega arith, stepped-none c.args.params c.args.scratch.now (search rules))
+loop-q-init c = stepped-none c.args.params c.args.scratch.now (search rules)
 
 pub loop-q-preserved : goal.loop-q-preserved
-loop-q-preserved c = (
-  omega arith,
-  rw c.loop-q.invariant.1 (stepped-more c.args.params c.args.scratch.now
-      c.loop-q.q (omega arith)),
-)
+loop-q-preserved c = rw c.loop-q.invariant (stepped-more c.args.params c.args.scratch.now c.loop-q.q (omega arith))
 
 pub returns : goal.returns
-returns c = let e : c.loop-q.q ≡ c.args.p = omega arith in rw e at c.loop-q.invariant.1
+returns c = let e : c.loop-q.q ≡ c.args.p = omega arith in rw e at c.loop-q.invariant

@@ -1,11 +1,7 @@
 -- `dls::attempts::stepped` meets its contract: the loop's invariant: the first q parameters are moved. Assumes nothing.
 use mathlib.Core.Path.{◌≡◌}
-use Prim.Native.Nat.{◌-◌, ◌≤◌}
 use Rattle.dls.specs.DampedSteps.{stepped_in}
 use Rattle.dls.proofs.attempts.stepped.Given as goal
 
 abbrev pub invariant-loop-q : goal.invariant-loop-q
-invariant-loop-q l = (l.q ≤ l.p) × (l.x ≡ stepped_in l.params l.q l.scratch)
-
-abbrev pub decreases-loop-q : goal.decreases-loop-q
-decreases-loop-q l = l.p - l.q
+invariant-loop-q l = l.x ≡ stepped_in l.params l.q l.scratch

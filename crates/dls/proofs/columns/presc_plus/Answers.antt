@@ -12,7 +12,7 @@ returns c =
     let x = c.args in
     let d : (j v r e d : List Float) → DampedState = λ j v r e d. damped_from x.h x.surfaces.now j v r e x.params.now d in
     let p = c.perturbed.ensures in record {
-      fact_1 = λ m j v r e d'. plus-surfaces x.config (variables_from x.counts.now x.numbers.now) m (d j v r e d')
+      fact_1 = λ m j v r e d'. plus-surfaces x.config (variables_from x.job.now.counts x.job.now.numbers) m (d j v r e d')
           c.active_at-variable.ensures c.moved_up-x.ensures p.fact_1;
       fact_2 = p.fact_2;
     }

@@ -11,7 +11,7 @@ jacobian_column-requires c = let m = c.operand_count-m.ensures in search rules
 pub returns : goal.returns
 returns c = λ s v r d.
     let x = c.args in
-    column-written x.config (variables_from x.counts.now x.numbers.now) (operand_count_from x.counts.now)
+    column-written x.config (variables_from x.job.now.counts x.job.now.numbers) (operand_count_from x.job.now.counts)
     (damped_from x.h s x.jacobian.now v r x.plus_residuals.now x.params.now d) _ _ _
-    (c.between-d.ensures (operand_count_from x.counts.now) s x.jacobian.now v r x.plus_residuals.now d)
+    (c.between-d.ensures (operand_count_from x.job.now.counts) s x.jacobian.now v r x.plus_residuals.now d)
     (rw c.operand_count-m.ensures at c.jacobian_column.ensures)

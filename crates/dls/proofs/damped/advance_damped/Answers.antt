@@ -13,24 +13,24 @@ use Rattle.dls.proofs.Advances.{advance-at, advance-over}
 use Rattle.dls.proofs.Kept.{kept_same}
 use Rattle.dls.proofs.damped.advance_damped.Goals as goal
 
-pub returns-then-phase-eq0 : goal.returns-then-phase-eq0
+pub returns-in-0 : goal.returns-in-0
 unfolding phase_of
-returns-then-phase-eq0 c =
+returns-in-0 c =
     let x = c.args in record {
-      fact_1 = λ k lens w. advance-at (optimizer x.config (variables_from x.counts.now x.numbers.now) (operand_count_from x.counts.now))
+      fact_1 = λ k lens w. advance-at (optimizer x.config (variables_from x.job.now.counts x.job.now.numbers) (operand_count_from x.job.now.counts))
           (damped_from x.h x.surfaces.now x.jacobian.now x.values.now x.residuals.now x.plus_residuals.now x.params.now
-          x.candidate.now) c.if-phase-eq0.true
-          (evaluate_of (held_job x.counts.now x.numbers.now k) lens) (c.advance_first.ensures k lens w (operand_count_from x.counts.now));
+          x.candidate.now) c.in-0.is
+          (evaluate_of (held_job x.job.now.counts x.job.now.numbers k) lens) (c.advance_first.ensures k lens w (operand_count_from x.job.now.counts));
       fact_2 = kept_same x.scratch.now;
     }
 
-pub returns-then-phase-eq1 : goal.returns-then-phase-eq1
+pub returns-in-1 : goal.returns-in-1
 unfolding phase_of advance_at
-returns-then-phase-eq1 c =
+returns-in-1 c =
     let x = c.args in record {
-      fact_1 = λ k lens w. advance-at (optimizer x.config (variables_from x.counts.now x.numbers.now) (operand_count_from x.counts.now))
+      fact_1 = λ k lens w. advance-at (optimizer x.config (variables_from x.job.now.counts x.job.now.numbers) (operand_count_from x.job.now.counts))
           (damped_from x.h x.surfaces.now x.jacobian.now x.values.now x.residuals.now x.plus_residuals.now x.params.now
-          x.candidate.now) c.if-phase-eq1.true (evaluate_of (held_job x.counts.now x.numbers.now k) lens)
+          x.candidate.now) c.in-1.is (evaluate_of (held_job x.job.now.counts x.job.now.numbers k) lens)
           (c.at_minus.ensures x.surfaces.now x.jacobian.now x.values.now x.residuals.now x.params.now
           ∙ ap (λ (l : List Float). at_minus (current_of (damped_from x.h x.surfaces.now x.jacobian.now x.values.now x.residuals.now
           x.plus_residuals.now x.params.now x.candidate.now)) x.jacobian.now x.h.column l)
@@ -38,35 +38,35 @@ returns-then-phase-eq1 c =
       fact_2 = kept_same x.scratch.now;
     }
 
-pub returns-then-phase-eq2 : goal.returns-then-phase-eq2
+pub returns-in-2 : goal.returns-in-2
 unfolding phase_of
-returns-then-phase-eq2 c =
+returns-in-2 c =
     let x = c.args in
     let a = c.advance_minus.ensures in record {
-      fact_1 = λ k lens w. advance-at (optimizer x.config (variables_from x.counts.now x.numbers.now) (operand_count_from x.counts.now))
+      fact_1 = λ k lens w. advance-at (optimizer x.config (variables_from x.job.now.counts x.job.now.numbers) (operand_count_from x.job.now.counts))
           (damped_from x.h x.surfaces.now x.jacobian.now x.values.now x.residuals.now x.plus_residuals.now x.params.now
-          x.candidate.now) c.if-phase-eq2.true
-          (evaluate_of (held_job x.counts.now x.numbers.now k) lens) (a.fact_1 k lens w x.surfaces.now x.values.now);
+          x.candidate.now) c.in-2.is
+          (evaluate_of (held_job x.job.now.counts x.job.now.numbers k) lens) (a.fact_1 k lens w x.surfaces.now x.values.now);
       fact_2 = a.fact_2;
     }
 
-pub returns-then-phase-eq3 : goal.returns-then-phase-eq3
+pub returns-in-3 : goal.returns-in-3
 unfolding phase_of
-returns-then-phase-eq3 c =
+returns-in-3 c =
     let x = c.args in
     let a = c.advance_candidate.ensures in record {
-      fact_1 = λ k lens w. advance-at (optimizer x.config (variables_from x.counts.now x.numbers.now) (operand_count_from x.counts.now))
+      fact_1 = λ k lens w. advance-at (optimizer x.config (variables_from x.job.now.counts x.job.now.numbers) (operand_count_from x.job.now.counts))
           (damped_from x.h x.surfaces.now x.jacobian.now x.values.now x.residuals.now x.plus_residuals.now x.params.now
-          x.candidate.now) c.if-phase-eq3.true
-          (evaluate_of (held_job x.counts.now x.numbers.now k) lens) (a.fact_1 k lens w);
+          x.candidate.now) c.in-3.is
+          (evaluate_of (held_job x.job.now.counts x.job.now.numbers k) lens) (a.fact_1 k lens w);
       fact_2 = a.fact_2;
     }
 
-pub returns : goal.returns
-returns c =
+pub returns-in_default : goal.returns-in_default
+returns-in_default c =
     let x = c.args in record {
-      fact_1 = λ k lens w. advance-over (optimizer x.config (variables_from x.counts.now x.numbers.now) (operand_count_from x.counts.now))
+      fact_1 = λ k lens w. advance-over (optimizer x.config (variables_from x.job.now.counts x.job.now.numbers) (operand_count_from x.job.now.counts))
           (damped_from x.h x.surfaces.now x.jacobian.now x.values.now x.residuals.now x.plus_residuals.now x.params.now
-          x.candidate.now) (evaluate_of (held_job x.counts.now x.numbers.now k) lens) (omega arith);
+          x.candidate.now) (evaluate_of (held_job x.job.now.counts x.job.now.numbers k) lens) (omega arith);
       fact_2 = kept_same x.scratch.now;
     }

@@ -15,16 +15,16 @@ returns c = λ k lens w m.
     let x = c.args in
     let r = c.residuals_of-r in
     let e : record { values = x.found.now; residuals = r.result; total_merit = c.merit_of-merit.result }
-    ≡ (evaluate_of (held_job x.counts.now x.numbers.now k) lens) = λ i.
+    ≡ (evaluate_of (held_job x.job.now.counts x.job.now.numbers k) lens) = λ i.
     record {
       values = w i;
       residuals = residuals-held _ _ _ r.ensures k lens w i;
       total_merit = merit-held _ _ _ c.merit_of-merit.ensures k lens w i;
     } in
-    first_on (optimizer x.config (variables_from x.counts.now x.numbers.now) m)
+    first_on (optimizer x.config (variables_from x.job.now.counts x.job.now.numbers) m)
     (damped_from x.h x.surfaces.now x.jacobian.now x.values.now x.residuals.now x.plus_residuals.now x.params.now
-    x.candidate.now) (evaluate_of (held_job x.counts.now x.numbers.now k) lens)
-    c.requires.fact_4
+    x.candidate.now) (evaluate_of (held_job x.job.now.counts x.job.now.numbers k) lens)
+    c.requires.fact_3
     c.extract_values-x.ensures
     (c.resume_iterations.ensures x.surfaces.now x.found.now r.result
     ∙ ap (λ (q : MeritEvaluation). iteration_entered (ltb 0 x.config.max_iterations)

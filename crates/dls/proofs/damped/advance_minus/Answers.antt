@@ -17,24 +17,24 @@ use Rattle.dls.proofs.damped.advance_minus.Goals as goal
 
 pub with_differences-requires : goal.with_differences-requires
 with_differences-requires c =
-    let n = active-le (variables_from c.args.counts.now
-    c.args.numbers.now) in omega arith
+    let n = active-le (variables_from c.args.job.now.counts
+    c.args.job.now.numbers) in omega arith
 
 pub overflow_add-column : goal.overflow_add-column
 overflow_add-column c =
-    let n = active-le (variables_from c.args.counts.now
-    c.args.numbers.now) in omega arith
+    let n = active-le (variables_from c.args.job.now.counts
+    c.args.job.now.numbers) in omega arith
 
 pub returns-then-column-p : goal.returns-then-column-p
 returns-then-column-p c =
     let x = c.args in
     let n = c.num_active-p.ensures in record {
-      fact_1 = λ k lens w s v. column-on (optimizer x.config (variables_from x.counts.now x.numbers.now) (operand_count_from x.counts.now))
+      fact_1 = λ k lens w s v. column-on (optimizer x.config (variables_from x.job.now.counts x.job.now.numbers) (operand_count_from x.job.now.counts))
           (damped_from x.h s x.jacobian.now v x.residuals.now x.plus_residuals.now x.params.now x.candidate.now)
-          (evaluate_of (held_job x.counts.now x.numbers.now k) lens)
+          (evaluate_of (held_job x.job.now.counts x.job.now.numbers k) lens)
           (c.with_differences.ensures s v x.residuals.now x.candidate.now
           ∙ ap (λ (l : List Float). with_jacobian (damped_from x.h s x.jacobian.now v x.residuals.now x.plus_residuals.now x.params.now
-          x.candidate.now) (with_differences (optimizer x.config (variables_from x.counts.now x.numbers.now) (operand_count_from x.counts.now))
+          x.candidate.now) (with_differences (optimizer x.config (variables_from x.job.now.counts x.job.now.numbers) (operand_count_from x.job.now.counts))
           (current_of (damped_from x.h s x.jacobian.now v x.residuals.now x.plus_residuals.now x.params.now x.candidate.now))
           x.h.column
           x.jacobian.now x.plus_residuals.now l))
@@ -48,13 +48,13 @@ returns c =
     let x = c.args in
     let n = c.num_active-p.ensures in
     let a = c.resume_stationary.ensures in record {
-      fact_1 = λ k lens w s v. column-over (optimizer x.config (variables_from x.counts.now x.numbers.now) (operand_count_from x.counts.now))
+      fact_1 = λ k lens w s v. column-over (optimizer x.config (variables_from x.job.now.counts x.job.now.numbers) (operand_count_from x.job.now.counts))
           (damped_from x.h s x.jacobian.now v x.residuals.now x.plus_residuals.now x.params.now x.candidate.now)
-          (evaluate_of (held_job x.counts.now x.numbers.now k) lens)
+          (evaluate_of (held_job x.job.now.counts x.job.now.numbers k) lens)
           (c.with_differences.ensures s v x.residuals.now
           x.candidate.now
           ∙ ap (λ (l : List Float). with_jacobian (damped_from x.h s x.jacobian.now v x.residuals.now x.plus_residuals.now x.params.now
-          x.candidate.now) (with_differences (optimizer x.config (variables_from x.counts.now x.numbers.now) (operand_count_from x.counts.now))
+          x.candidate.now) (with_differences (optimizer x.config (variables_from x.job.now.counts x.job.now.numbers) (operand_count_from x.job.now.counts))
           (current_of (damped_from x.h s x.jacobian.now v x.residuals.now x.plus_residuals.now x.params.now x.candidate.now))
           x.h.column
           x.jacobian.now x.plus_residuals.now l))

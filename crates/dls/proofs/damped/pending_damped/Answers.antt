@@ -11,53 +11,53 @@ use Rattle.dls.proofs.Advances.{pending-at, pending-same}
 use Rattle.dls.proofs.damped.pending_damped.Goals as goal
 
 pub presc_plus-requires : goal.presc_plus-requires
-presc_plus-requires c = let x = c.args in let n = active-le (variables_from x.counts.now x.numbers.now) in
+presc_plus-requires c = let x = c.args in let n = active-le (variables_from x.job.now.counts x.job.now.numbers) in
     omega arith
 
-pub returns-then-phase-eq1 : goal.returns-then-phase-eq1
+pub returns-in-1 : goal.returns-in-1
 unfolding phase_of pending_at
-returns-then-phase-eq1 c =
+returns-in-1 c =
     let x = c.args in
     let p = c.presc_plus.ensures in record {
-      fact_1 = λ m j v r e. pending-at (optimizer x.config (variables_from x.counts.now x.numbers.now) m)
-          (damped_from x.h x.surfaces.now j v r e x.params.now x.candidate.now) c.if-phase-eq1.true
+      fact_1 = λ m j v r e. pending-at (optimizer x.config (variables_from x.job.now.counts x.job.now.numbers) m)
+          (damped_from x.h x.surfaces.now j v r e x.params.now x.candidate.now) c.in-1.is
           (p.fact_1 m j v r e x.candidate.now);
       fact_2 = p.fact_2;
     }
 
 pub presc_minus-requires : goal.presc_minus-requires
-presc_minus-requires c = let x = c.args in let n = active-le (variables_from x.counts.now x.numbers.now) in
+presc_minus-requires c = let x = c.args in let n = active-le (variables_from x.job.now.counts x.job.now.numbers) in
     omega arith
 
-pub returns-then-phase-eq2 : goal.returns-then-phase-eq2
+pub returns-in-2 : goal.returns-in-2
 unfolding phase_of pending_at
-returns-then-phase-eq2 c =
+returns-in-2 c =
     let x = c.args in
     let p = c.presc_minus.ensures in record {
-      fact_1 = λ m j v r e. pending-at (optimizer x.config (variables_from x.counts.now x.numbers.now) m)
-          (damped_from x.h x.surfaces.now j v r e x.params.now x.candidate.now) c.if-phase-eq2.true
+      fact_1 = λ m j v r e. pending-at (optimizer x.config (variables_from x.job.now.counts x.job.now.numbers) m)
+          (damped_from x.h x.surfaces.now j v r e x.params.now x.candidate.now) c.in-2.is
           (p.fact_1 m j v r e x.candidate.now);
       fact_2 = p.fact_2;
     }
 
-pub returns-then-phase-eq3 : goal.returns-then-phase-eq3
+pub returns-in-3 : goal.returns-in-3
 unfolding phase_of pending_at test_presc
-returns-then-phase-eq3 c =
+returns-in-3 c =
     let x = c.args in
     let p = c.lay_applied.ensures in record {
-      fact_1 = λ m j v r e. pending-at (optimizer x.config (variables_from x.counts.now x.numbers.now) m)
-          (damped_from x.h x.surfaces.now j v r e x.params.now x.candidate.now) c.if-phase-eq3.true
+      fact_1 = λ m j v r e. pending-at (optimizer x.config (variables_from x.job.now.counts x.job.now.numbers) m)
+          (damped_from x.h x.surfaces.now j v r e x.params.now x.candidate.now) c.in-3.is
           p.fact_1;
       fact_2 = p.fact_2;
     }
 
-pub returns : goal.returns
-returns c =
+pub returns-in_default : goal.returns-in_default
+returns-in_default c =
     let x = c.args in
     let p = c.copy.ensures in record {
-      fact_1 = λ m j v r e. p.fact_1 ∙ pending-same (optimizer x.config (variables_from x.counts.now x.numbers.now) m)
+      fact_1 = λ m j v r e. p.fact_1 ∙ pending-same (optimizer x.config (variables_from x.job.now.counts x.job.now.numbers) m)
           (damped_from x.h x.surfaces.now j v r e x.params.now x.candidate.now)
-          c.if-phase-eq1.false c.if-phase-eq2.false
-          c.if-phase-eq3.false;
+          (λ e. omega arith) (λ e. omega arith)
+          (λ e. omega arith);
       fact_2 = p.fact_2;
     }

@@ -38,9 +38,9 @@ overflow_add-q c = omega (arith, counted-le c.loop-i.invariant.0.filling, c.loop
 pub loop-i-preserved : goal.loop-i-preserved
 loop-i-preserved c =
     let x = c.args in
-    let v = variables_from x.counts.now x.numbers.now in
+    let v = variables_from x.job.now.counts x.job.now.numbers in
     let e = ap (λ (d : VariableDef). d.enabled) c.variable_at-d.ensures in
-    let h : c.loop-i.i < variable_count_from x.counts.now =
+    let h : c.loop-i.i < variable_count_from x.job.now.counts =
     omega (arith, c.loop-i-test.true, c.loop-i.invariant.1) in
     elim c.if-d.branch [
       | then-d w ↦ (
@@ -56,7 +56,7 @@ pub returns : goal.returns
 unfolding random_params after_draws
 returns c =
     let x = c.args in
-    let h : variable_count_from x.counts.now ≤ c.loop-i.i = omega (arith, c.loop-i-test.false, c.loop-i.invariant.1) in (
+    let h : variable_count_from x.job.now.counts ≤ c.loop-i.i = omega (arith, c.loop-i-test.false, c.loop-i.invariant.1) in (
       drawn-params c.loop-i.invariant.0 (λ (k : ℕ). zero64) refl (search rules) h (λ k h. get_or-replicate 8 k zero64 nan h),
       drawn-generator c.loop-i.invariant.0 h,
     )

@@ -8,17 +8,15 @@ use Rattle.held.proofs.flat.stand.Goals as goal
 
 pub loop-i-init : goal.loop-i-init
 unfolding tab
-loop-i-init c = (omega arith, refl)
+loop-i-init c = refl
 
 pub loop-i-preserved : goal.loop-i-preserved
-loop-i-preserved c = (
-  omega arith,
-  tab-step (flat_surface c.args.flat.now) _ c.loop-i.surfaces
-      c.loop-i.i _ no_surface c.loop-i.invariant.1 c.surface_at-s.ensures (omega arith),
-)
+loop-i-preserved c =
+    tab-step (flat_surface c.args.flat.now) _ c.loop-i.surfaces
+    c.loop-i.i _ no_surface c.loop-i.invariant c.surface_at-s.ensures (omega arith)
 
 pub returns : goal.returns
 unfolding standing
 returns c =
-    tab-full (flat_surface c.args.flat.now) _ c.loop-i.surfaces c.loop-i.i 16 c.loop-i.invariant.1
+    tab-full (flat_surface c.args.flat.now) _ c.loop-i.surfaces c.loop-i.i 16 c.loop-i.invariant
     refl (omega arith) (omega arith)

@@ -1,14 +1,10 @@
 -- `held::flat::stand` meets its contract: the loop's invariant: the first i surfaces stand. Assumes nothing.
 use mathlib.Core.Path.{◌≡◌}
 use mathlib.Core.List.{◌++◌}
-use Prim.Native.Nat.{◌-◌, ◌≤◌}
 use lib.ListN.{drop}
 use Rattle.lists.specs.Tab.{tab}
 use Rattle.optics.specs.Types.{flat_surface}
 use Rattle.held.proofs.flat.stand.Given as goal
 
 abbrev pub invariant-loop-i : goal.invariant-loop-i
-invariant-loop-i l = (l.i ≤ 16) × (l.surfaces ≡ tab (flat_surface l.flat) l.i ++ drop l.i l.initial.surfaces)
-
-abbrev pub decreases-loop-i : goal.decreases-loop-i
-decreases-loop-i l = 16 - l.i
+invariant-loop-i l = l.surfaces ≡ tab (flat_surface l.flat) l.i ++ drop l.i l.initial.surfaces

@@ -1,5 +1,4 @@
 -- `held::values::apply_values` meets its contract: the loop's invariant is `Applying`, of the surfaces that stand there. Assumes nothing.
-use Prim.Native.Nat.{◌-◌}
 use mathlib.Core.Path.{◌≡◌}
 use Rattle.variables.proofs.Applying.{Applying}
 use Rattle.held.specs.JobFrom.{standing, variable_count_from, variables_from}
@@ -7,8 +6,5 @@ use Rattle.held.specs.Standing.{Behind}
 use Rattle.held.proofs.values.apply_values.Given as goal
 
 abbrev pub invariant-loop-i : goal.invariant-loop-i
-invariant-loop-i l = Applying (variables_from l.counts l.numbers) l.values (standing l.initial.flat) (standing l.flat) l.q l.i
-    × (l.count ≡ variable_count_from l.counts) × Behind l.initial.flat l.flat
-
-abbrev pub decreases-loop-i : goal.decreases-loop-i
-decreases-loop-i l = l.count - l.i
+invariant-loop-i l = Applying (variables_from l.job.counts l.job.numbers) l.values (standing l.initial.flat) (standing l.flat) l.q l.i
+    × (l.count ≡ variable_count_from l.job.counts) × Behind l.initial.flat l.flat

@@ -36,9 +36,9 @@ overflow_add-q c = omega (arith, counted-le c.loop-i.invariant.0, c.loop-i.invar
 pub loop-i-preserved : goal.loop-i-preserved
 loop-i-preserved c =
     let x = c.args in
-    let v = variables_from x.counts.now x.numbers.now in
+    let v = variables_from x.job.now.counts x.job.now.numbers in
     let e = ap (λ (d : VariableDef). d.enabled) c.variable_at-d.ensures in
-    let h : c.loop-i.i < variable_count_from x.counts.now =
+    let h : c.loop-i.i < variable_count_from x.job.now.counts =
     omega (arith, c.loop-i-test.true, c.loop-i.invariant.1) in
     let y = ap (λ (d : VariableDef). value_of (standing c.args.flat.now) d.var_type)
     c.variable_at-d.ensures in

@@ -10,4 +10,4 @@ returns c =
     let x = c.args in
     let a = c.apply_values.ensures in
     let k = c.copy.ensures in
-    record { fact_1 = a.fact_1 ∙ ap (applied (variables_from x.counts.now x.numbers.now) x.values) k.fact_1; fact_2 = behind-on k.fact_2 a.fact_2 }
+    record { fact_1 = a.fact_1 ∙ ap (applied (variables_from x.job.now.counts x.job.now.numbers) x.values) k.fact_1; fact_2 = behind-on k.fact_2 a.fact_2 }

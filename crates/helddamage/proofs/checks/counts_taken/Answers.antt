@@ -14,7 +14,7 @@ returns-then-not-lens_counts_taken c = λ numbers kind.
     let lens =
     (λ i. lens_counts_taken (sym c.surface_count.ensures i) (sym c.slot_count.ensures i))
     ∙ sym c.lens_counts_taken.ensures ∙ c.if-not-lens_counts_taken.true in
-    sym (ap (λ (b : Bool). b && leb (variable_count_from a.counts.now) 8 && leb (operand_count_from a.counts.now) 12) lens)
+    sym (ap (λ (b : Bool). b && leb (variable_count_from a.job.now.counts) 8 && leb (operand_count_from a.job.now.counts) 12) lens)
 
 pub returns-then-variable_count-gt8 : goal.returns-then-variable_count-gt8
 returns-then-variable_count-gt8 c = λ numbers kind.
@@ -24,7 +24,7 @@ returns-then-variable_count-gt8 c = λ numbers kind.
     (sym c.slot_count.ensures i)) ∙ sym c.lens_counts_taken.ensures
     ∙ c.if-not-lens_counts_taken.false in
     let some = ap (λ (n : ℕ). leb n 8) (sym c.variable_count.ensures) ∙ lt-leb _ _ c.if-variable_count-gt8.true in
-    sym (λ i. lens i && some i && leb (operand_count_from a.counts.now) 12)
+    sym (λ i. lens i && some i && leb (operand_count_from a.job.now.counts) 12)
 
 pub returns : goal.returns
 returns c = λ numbers kind.
@@ -34,4 +34,4 @@ returns c = λ numbers kind.
     (sym c.slot_count.ensures i)) ∙ sym c.lens_counts_taken.ensures
     ∙ c.if-not-lens_counts_taken.false in
     let some = ap (λ (n : ℕ). leb n 8) (sym c.variable_count.ensures) ∙ le-leb _ _ c.if-variable_count-gt8.false in
-    ap (λ (n : ℕ). leb n 12) c.operand_count.ensures ∙ sym (λ i. lens i && some i && leb (operand_count_from a.counts.now) 12)
+    ap (λ (n : ℕ). leb n 12) c.operand_count.ensures ∙ sym (λ i. lens i && some i && leb (operand_count_from a.job.now.counts) 12)

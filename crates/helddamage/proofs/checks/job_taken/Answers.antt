@@ -15,27 +15,27 @@ use Rattle.helddamage.specs.Verdicts.{record_is, above_zero}
 use Rattle.helddamage.proofs.checks.job_taken.Goals as goal
 
 pub lens_taken-requires : goal.lens_taken-requires
-lens_taken-requires c = let a = c.args in let n = counts (held_job a.counts.now a.numbers.now a.kind) c.requires.0 in
-    (n.surfaces, n.slots, c.requires.2)
+lens_taken-requires c = let a = c.args in let n = counts (held_job a.job.now.counts a.job.now.numbers a.kind) c.requires.0 in
+    (n.surfaces, n.slots)
 
 pub returns-then-not-lens_taken : goal.returns-then-not-lens_taken
 returns-then-not-lens_taken c =
     let a = c.args in
     let counts = c.requires.0 in
     let lens = sym c.lens_taken.ensures ∙ c.if-not-lens_taken.true in
-    sym (record_is a.counts.now a.numbers.now a.kind
-    ∙ (λ i. counts i && lens i && (variables_taken (surface_count_from a.counts.now) (variables_from a.counts.now a.numbers.now)
-    && followers_taken (surface_count_from a.counts.now) (variables_from a.counts.now a.numbers.now)
-    && known_variables (job_record_from a.counts.now a.numbers.now))
-    && (operands_taken (slot_count_from a.counts.now) (operands_from a.counts.now a.numbers.now)
-    && known_operands (job_record_from a.counts.now a.numbers.now))
-    && settings_taken (method a.kind (settings_from a.counts.now a.numbers.now))
-    && not (eqb (num_active (variables_from a.counts.now a.numbers.now)) 0) && not (eqb (operand_count_from a.counts.now) 0)))
+    sym (record_is a.job.now.counts a.job.now.numbers a.kind
+    ∙ (λ i. counts i && lens i && (variables_taken (surface_count_from a.job.now.counts) (variables_from a.job.now.counts a.job.now.numbers)
+    && followers_taken (surface_count_from a.job.now.counts) (variables_from a.job.now.counts a.job.now.numbers)
+    && known_variables (job_record_from a.job.now.counts a.job.now.numbers))
+    && (operands_taken (slot_count_from a.job.now.counts) (operands_from a.job.now.counts a.job.now.numbers)
+    && known_operands (job_record_from a.job.now.counts a.job.now.numbers))
+    && settings_taken (method a.kind (settings_from a.job.now.counts a.job.now.numbers))
+    && not (eqb (num_active (variables_from a.job.now.counts a.job.now.numbers)) 0) && not (eqb (operand_count_from a.job.now.counts) 0)))
 
 pub variables_taken-requires : goal.variables_taken-requires
 variables_taken-requires c =
-    let a = c.args in let n = counts (held_job a.counts.now a.numbers.now a.kind) c.requires.0 in
-    (n.variables, c.requires.2)
+    let a = c.args in let n = counts (held_job a.job.now.counts a.job.now.numbers a.kind) c.requires.0 in
+    n.variables
 
 pub returns-then-not-variables_taken : goal.returns-then-not-variables_taken
 returns-then-not-variables_taken c =
@@ -43,16 +43,16 @@ returns-then-not-variables_taken c =
     let counts = c.requires.0 in
     let lens = sym c.lens_taken.ensures ∙ c.if-not-lens_taken.false in
     let variables = sym c.variables_taken.ensures ∙ c.if-not-variables_taken.true in
-    sym (record_is a.counts.now a.numbers.now a.kind
-    ∙ (λ i. counts i && lens i && variables i && (operands_taken (slot_count_from a.counts.now) (operands_from a.counts.now a.numbers.now)
-    && known_operands (job_record_from a.counts.now a.numbers.now))
-    && settings_taken (method a.kind (settings_from a.counts.now a.numbers.now))
-    && not (eqb (num_active (variables_from a.counts.now a.numbers.now)) 0) && not (eqb (operand_count_from a.counts.now) 0)))
+    sym (record_is a.job.now.counts a.job.now.numbers a.kind
+    ∙ (λ i. counts i && lens i && variables i && (operands_taken (slot_count_from a.job.now.counts) (operands_from a.job.now.counts a.job.now.numbers)
+    && known_operands (job_record_from a.job.now.counts a.job.now.numbers))
+    && settings_taken (method a.kind (settings_from a.job.now.counts a.job.now.numbers))
+    && not (eqb (num_active (variables_from a.job.now.counts a.job.now.numbers)) 0) && not (eqb (operand_count_from a.job.now.counts) 0)))
 
 pub operands_taken-requires : goal.operands_taken-requires
 operands_taken-requires c = let a = c.args in
-    let n = counts (held_job a.counts.now a.numbers.now a.kind) c.requires.0 in
-    (n.operands, c.requires.2)
+    let n = counts (held_job a.job.now.counts a.job.now.numbers a.kind) c.requires.0 in
+    n.operands
 
 pub returns-then-not-operands_taken : goal.returns-then-not-operands_taken
 returns-then-not-operands_taken c =
@@ -61,9 +61,9 @@ returns-then-not-operands_taken c =
     let lens = sym c.lens_taken.ensures ∙ c.if-not-lens_taken.false in
     let variables = sym c.variables_taken.ensures ∙ c.if-not-variables_taken.false in
     let operands = sym c.operands_taken.ensures ∙ c.if-not-operands_taken.true in
-    sym (record_is a.counts.now a.numbers.now a.kind
-    ∙ (λ i. counts i && lens i && variables i && operands i && settings_taken (method a.kind (settings_from a.counts.now a.numbers.now))
-    && not (eqb (num_active (variables_from a.counts.now a.numbers.now)) 0) && not (eqb (operand_count_from a.counts.now) 0)))
+    sym (record_is a.job.now.counts a.job.now.numbers a.kind
+    ∙ (λ i. counts i && lens i && variables i && operands i && settings_taken (method a.kind (settings_from a.job.now.counts a.job.now.numbers))
+    && not (eqb (num_active (variables_from a.job.now.counts a.job.now.numbers)) 0) && not (eqb (operand_count_from a.job.now.counts) 0)))
 
 pub returns-then-not-settings_taken : goal.returns-then-not-settings_taken
 returns-then-not-settings_taken c =
@@ -75,9 +75,9 @@ returns-then-not-settings_taken c =
     let variables = sym c.variables_taken.ensures ∙ c.if-not-variables_taken.false in
     let operands = sym c.operands_taken.ensures ∙ c.if-not-operands_taken.false in
     let settings = sym c.settings_taken.ensures ∙ c.if-not-settings_taken.true in
-    sym (record_is a.counts.now a.numbers.now a.kind
-    ∙ (λ i. counts i && lens i && variables i && operands i && settings i && not (eqb (num_active (variables_from a.counts.now a.numbers.now)) 0)
-    && not (eqb (operand_count_from a.counts.now) 0)))
+    sym (record_is a.job.now.counts a.job.now.numbers a.kind
+    ∙ (λ i. counts i && lens i && variables i && operands i && settings i && not (eqb (num_active (variables_from a.job.now.counts a.job.now.numbers)) 0)
+    && not (eqb (operand_count_from a.job.now.counts) 0)))
 
 pub returns-then-p-eq0 : goal.returns-then-p-eq0
 returns-then-p-eq0 c =
@@ -94,8 +94,8 @@ returns-then-p-eq0 c =
     let active =
     ap (λ (n : ℕ). eqb n 0) (sym c.requires.1)
     ∙ eq-eqb _ _ c.if-p-eq0.true in
-    sym (record_is a.counts.now a.numbers.now a.kind
-    ∙ (λ i. counts i && lens i && variables i && operands i && settings i && not (active i) && not (eqb (operand_count_from a.counts.now) 0)))
+    sym (record_is a.job.now.counts a.job.now.numbers a.kind
+    ∙ (λ i. counts i && lens i && variables i && operands i && settings i && not (active i) && not (eqb (operand_count_from a.job.now.counts) 0)))
 
 pub returns : goal.returns
 returns c =
@@ -113,5 +113,5 @@ returns c =
     ap (λ (n : ℕ). eqb n 0) (sym c.requires.1)
     ∙ ne_eqb _ _ c.if-p-eq0.false in
     above_zero c.operand_count.result ∙ ap (λ (n : ℕ). not (eqb n 0)) c.operand_count.ensures
-    ∙ sym (record_is a.counts.now a.numbers.now a.kind
-    ∙ (λ i. counts i && lens i && variables i && operands i && settings i && not (active i) && not (eqb (operand_count_from a.counts.now) 0)))
+    ∙ sym (record_is a.job.now.counts a.job.now.numbers a.kind
+    ∙ (λ i. counts i && lens i && variables i && operands i && settings i && not (active i) && not (eqb (operand_count_from a.job.now.counts) 0)))

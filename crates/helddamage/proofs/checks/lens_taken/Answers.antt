@@ -12,8 +12,8 @@ pub returns-then-not-above_zero_up_to : goal.returns-then-not-above_zero_up_to
 unfolding lens_taken
 returns-then-not-above_zero_up_to c =
     let a = c.args in
-    sym (ap (λ (b : Bool). b && surfaces_taken (standing a.numbers.now) (surface_count_from a.counts.now)
-    && indices_taken (indices_from a.numbers.now) (slot_count_from a.counts.now) (surface_count_from a.counts.now))
+    sym (ap (λ (b : Bool). b && surfaces_taken (standing a.job.now.numbers) (surface_count_from a.job.now.counts)
+    && indices_taken (indices_from a.job.now.numbers) (slot_count_from a.job.now.counts) (surface_count_from a.job.now.counts))
     (ap pupil_taken (sym c.pupil.ensures) ∙ sym c.above_zero_up_to.ensures ∙ c.if-not-above_zero_up_to.true))
 
 pub surfaces_taken-requires : goal.surfaces_taken-requires
@@ -27,14 +27,14 @@ returns-then-not-surfaces_taken c =
     ap pupil_taken (sym c.pupil.ensures) ∙ sym c.above_zero_up_to.ensures
     ∙ c.if-not-above_zero_up_to.false in
     let surfaces =
-    ap (surfaces_taken (standing a.numbers.now)) (sym c.surface_count-count.ensures)
+    ap (surfaces_taken (standing a.job.now.numbers)) (sym c.surface_count-count.ensures)
     ∙ sym c.surfaces_taken.ensures ∙ c.if-not-surfaces_taken.true in
-    sym (λ i. pupil i && surfaces i && indices_taken (indices_from a.numbers.now) (slot_count_from a.counts.now) (surface_count_from a.counts.now))
+    sym (λ i. pupil i && surfaces i && indices_taken (indices_from a.job.now.numbers) (slot_count_from a.job.now.counts) (surface_count_from a.job.now.counts))
 
 pub indices_taken-requires : goal.indices_taken-requires
 indices_taken-requires c =
     let e = ap length c.indices.ensures ∙ indices-long
-    c.args.numbers.now in
+    c.args.job.now.numbers in
     (omega (arith, c.slot_count.ensures), omega (arith, e, c.surface_count-count.ensures))
 
 pub returns : goal.returns
@@ -46,8 +46,9 @@ returns c =
     ∙ sym c.above_zero_up_to.ensures
     ∙ c.if-not-above_zero_up_to.false in
     let surfaces =
-    ap (surfaces_taken (standing a.numbers.now)) (sym c.surface_count-count.ensures)
+    ap (surfaces_taken (standing a.job.now.numbers)) (sym c.surface_count-count.ensures)
     ∙ sym c.surfaces_taken.ensures ∙ c.if-not-surfaces_taken.false in
     c.indices_taken.ensures ∙ (λ i. indices_taken (c.indices.ensures i) (c.slot_count.ensures i)
     (c.surface_count-count.ensures i))
-    ∙ sym (λ i. pupil i && surfaces i && indices_taken (indices_from a.numbers.now) (slot_count_from a.counts.now) (surface_count_from a.counts.now))
+    ∙ sym (λ i. pupil i && surfaces i
+    && indices_taken (indices_from a.job.now.numbers) (slot_count_from a.job.now.counts) (surface_count_from a.job.now.counts))

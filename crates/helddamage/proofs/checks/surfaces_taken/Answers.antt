@@ -12,7 +12,7 @@ use Rattle.helddamage.proofs.checks.surfaces_taken.Goals as goal
 
 pub loop-i-init : goal.loop-i-init
 unfolding all_below
-loop-i-init c = (omega arith, refl)
+loop-i-init c = refl
 
 pub returns-then-not-surface_taken : goal.returns-then-not-surface_taken
 returns-then-not-surface_taken c =
@@ -26,13 +26,11 @@ pub loop-i-preserved : goal.loop-i-preserved
 loop-i-preserved c =
     let a = c.args in
     let is = ap surface_taken (c.surface_at-s.ensures
-    ∙ sym (standing-at a.flat.now c.loop-i.i (omega arith))) in (
-      omega arith,
-      all_more (λ (k : ℕ). surface_taken (surface_at (standing a.flat.now) k)) c.loop-i.i
-          c.loop-i.invariant.1 (sym (c.surface_taken.ensures ∙ is) ∙ c.if-not-surface_taken.false),
-    )
+    ∙ sym (standing-at a.flat.now c.loop-i.i (omega arith))) in
+    all_more (λ (k : ℕ). surface_taken (surface_at (standing a.flat.now) k)) c.loop-i.i
+    c.loop-i.invariant (sym (c.surface_taken.ensures ∙ is) ∙ c.if-not-surface_taken.false)
 
 pub returns : goal.returns
 returns c =
     let e : c.loop-i.i ≡ c.args.count = omega arith in
-    sym (rw e at c.loop-i.invariant.1)
+    sym (rw e at c.loop-i.invariant)

@@ -12,7 +12,6 @@ use Rattle.jobs.specs.Records.{known_variables}
 use Rattle.held.specs.EntryLaws.{variable-record}
 use Rattle.held.specs.JobFrom.{surface_count_from, variable_count_from, variable_record_from, job_record_from, variables_from}
 use Rattle.helddamage.specs.Verdicts.{all_both, first-fails, second-fails}
-use Rattle.std.proofs.Common.{rules}
 use Rattle.helddamage.proofs.checks.variables_taken.Invariants.{passes, taken, known, each}
 use Rattle.helddamage.proofs.checks.variables_taken.Goals as goal
 
@@ -36,45 +35,45 @@ module _ (counts : List ℕ) (numbers : List Float) where
 
 pub loop-i-init : goal.loop-i-init
 unfolding all_below
-loop-i-init c = (omega arith, c.variable_count-count.ensures, refl)
+loop-i-init c = (c.variable_count-count.ensures, refl)
 
 pub variable_known-requires : goal.variable_known-requires
-variable_known-requires c = omega (arith, c.loop-i.invariant.1)
+variable_known-requires c = omega (arith, c.loop-i.invariant.0)
 
 pub returns-then-not-variable_known : goal.returns-then-not-variable_known
 returns-then-not-variable_known c =
     let l = c.loop-i in
     let a = c.args in
-    let h : l.i < variable_count_from a.counts.now = omega (arith, l.invariant.1) in
-    let k = is_known a.counts.now a.numbers.now _ l.i (omega (arith, l.invariant.1)) c.variable_known.ensures in
-    one-fails a.counts.now a.numbers.now l.i h
-    (second-fails (taken a.counts.now a.numbers.now l.i) _ (sym k ∙ c.if-not-variable_known.true))
+    let h : l.i < variable_count_from a.job.now.counts = omega (arith, l.invariant.0) in
+    let k = is_known a.job.now.counts a.job.now.numbers _ l.i (omega (arith, l.invariant.0)) c.variable_known.ensures in
+    one-fails a.job.now.counts a.job.now.numbers l.i h
+    (second-fails (taken a.job.now.counts a.job.now.numbers l.i) _ (sym k ∙ c.if-not-variable_known.true))
 
 pub variable_at-d-requires : goal.variable_at-d-requires
-variable_at-d-requires c = record { fact_1 = omega (arith, c.loop-i.invariant.1); fact_2 = search rules }
+variable_at-d-requires c = omega (arith, c.loop-i.invariant.0)
 
 pub returns-then-not-variable_taken : goal.returns-then-not-variable_taken
 returns-then-not-variable_taken c =
     let at = c in
     let l = at.loop-i in
     let a = at.args in
-    let h : l.i < variable_count_from a.counts.now = omega (arith, l.invariant.1) in
+    let h : l.i < variable_count_from a.job.now.counts = omega (arith, l.invariant.0) in
     let t = c.variable_taken.ensures ∙ (λ i. passes (at.surface_count-surfaces.ensures i) (c.variable_at-d.ensures i)) in
-    one-fails a.counts.now a.numbers.now l.i h (first-fails _ _ (sym t ∙ c.if-not-variable_taken.true))
+    one-fails a.job.now.counts a.job.now.numbers l.i h (first-fails _ _ (sym t ∙ c.if-not-variable_taken.true))
 
 pub loop-i-preserved : goal.loop-i-preserved
 loop-i-preserved c =
     let at = c in
     let l = at.loop-i in
     let a = at.args in
-    let k = is_known a.counts.now a.numbers.now _ l.i (omega (arith, l.invariant.1)) c.variable_known.ensures in
+    let k = is_known a.job.now.counts a.job.now.numbers _ l.i (omega (arith, l.invariant.0)) c.variable_known.ensures in
     let t = c.variable_taken.ensures ∙ (λ i. passes (at.surface_count-surfaces.ensures i) (c.variable_at-d.ensures i)) in
-    let both : each a.counts.now a.numbers.now l.i ≡ true =
+    let both : each a.job.now.counts a.job.now.numbers l.i ≡ true =
     λ i. (sym t ∙ c.if-not-variable_taken.false) i && (sym k ∙ c.if-not-variable_known.false) i in
-    (omega arith, l.invariant.1, all_more (each a.counts.now a.numbers.now) l.i l.invariant.2 both)
+    (l.invariant.0, all_more (each a.job.now.counts a.job.now.numbers) l.i l.invariant.1 both)
 
 pub returns : goal.returns
 returns c =
     let a = c.args in
-    let e : c.loop-i.i ≡ variable_count_from a.counts.now = omega (arith, c.loop-i.invariant.1) in
-    sym (sym (all-each a.counts.now a.numbers.now) ∙ rw e at c.loop-i.invariant.2)
+    let e : c.loop-i.i ≡ variable_count_from a.job.now.counts = omega (arith, c.loop-i.invariant.0) in
+    sym (sym (all-each a.job.now.counts a.job.now.numbers) ∙ rw e at c.loop-i.invariant.1)

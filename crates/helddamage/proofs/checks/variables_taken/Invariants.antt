@@ -1,7 +1,7 @@
 -- `helddamage::checks::variables_taken` meets its contract: the loop's invariant: every one passed is taken and known. Assumes nothing.
 use mathlib.Core.Path.{◌≡◌}
 use mathlib.Core.List.{List}
-use Prim.Native.Nat.{ℕ, ◌≤◌, ◌-◌}
+use Prim.Native.Nat.{ℕ}
 use mathlib.Core.Bool.{Bool, true, ◌&&◌}
 use lib.Ieee.{Float}
 use Rattle.lists.specs.All.{all_below}
@@ -28,7 +28,4 @@ module _ (counts : List ℕ) (numbers : List Float) where
   each k = taken k && known k
 
 abbrev pub invariant-loop-i : goal.invariant-loop-i
-invariant-loop-i l = (l.i ≤ l.count) × (l.count ≡ variable_count_from l.counts) × (all_below (each l.counts l.numbers) l.i ≡ true)
-
-abbrev pub decreases-loop-i : goal.decreases-loop-i
-decreases-loop-i l = l.count - l.i
+invariant-loop-i l = (l.count ≡ variable_count_from l.job.counts) × (all_below (each l.job.counts l.job.numbers) l.i ≡ true)

@@ -24,7 +24,7 @@ pub returns-then-not-is_kind : goal.returns-then-not-is_kind
 returns-then-not-is_kind c = λ o.
     let a = c.args in
     let kind = ap is_kind (sym c.kind-kind.ensures) ∙ sym c.is_kind.ensures ∙ c.if-not-is_kind.true in
-    sym (no_kind a.words.now a.counts.now a.numbers.now a.surfaces.now a.best_surfaces.now o kind)
+    sym (no_kind a.words.now a.job.now a.surfaces.now a.best_surfaces.now o kind)
 
 pub returns-then-not-counts_taken : goal.returns-then-not-counts_taken
 returns-then-not-counts_taken c = λ o.
@@ -32,21 +32,20 @@ returns-then-not-counts_taken c = λ o.
     let kind =
     ap is_kind (sym c.kind-kind.ensures) ∙ sym c.is_kind.ensures
     ∙ c.if-not-is_kind.false in
-    let counted = sym (c.counts_taken.ensures a.numbers.now (kind_from a.words.now)) ∙ c.if-not-counts_taken.true in
-    sym (no-job a.words.now a.counts.now a.numbers.now a.surfaces.now a.best_surfaces.now o kind
-    (counts-refused a.counts.now a.numbers.now (kind_from a.words.now) counted))
+    let counted = sym (c.counts_taken.ensures a.job.now.numbers (kind_from a.words.now)) ∙ c.if-not-counts_taken.true in
+    sym (no-job a.words.now a.job.now a.surfaces.now a.best_surfaces.now o kind
+    (counts-refused a.job.now.counts a.job.now.numbers (kind_from a.words.now) counted))
 
 pub num_active-p-requires : goal.num_active-p-requires
 num_active-p-requires c = let a = c.args in
-    let n = counts (held_job a.counts.now a.numbers.now 0) (sym (c.counts_taken.ensures a.numbers.now 0) ∙ c.if-not-counts_taken.false) in
-    record { fact_1 = n.variables; fact_2 = c.requires.0 }
+    let n = counts (held_job a.job.now.counts a.job.now.numbers 0) (sym (c.counts_taken.ensures a.job.now.numbers 0) ∙ c.if-not-counts_taken.false) in
+    n.variables
 
 pub job_taken-requires : goal.job_taken-requires
 job_taken-requires c = let a = c.args in (
-  sym (c.counts_taken.ensures a.numbers.now c.kind-kind.result)
+  sym (c.counts_taken.ensures a.job.now.numbers c.kind-kind.result)
       ∙ c.if-not-counts_taken.false,
   c.num_active-p.ensures,
-  c.requires.0,
 )
 
 pub returns-then-not-job_taken : goal.returns-then-not-job_taken
@@ -56,17 +55,17 @@ returns-then-not-job_taken c = λ o.
     ap is_kind (sym c.kind-kind.ensures)
     ∙ sym c.is_kind.ensures ∙ c.if-not-is_kind.false in
     let job =
-    ap (λ (k : ℕ). record_taken k (job_record_from a.counts.now a.numbers.now))
+    ap (λ (k : ℕ). record_taken k (job_record_from a.job.now.counts a.job.now.numbers))
     (sym c.kind-kind.ensures) ∙ sym c.job_taken.ensures ∙ c.if-not-job_taken.true in
-    sym (no-job a.words.now a.counts.now a.numbers.now a.surfaces.now a.best_surfaces.now o kind job)
+    sym (no-job a.words.now a.job.now a.surfaces.now a.best_surfaces.now o kind job)
 
 pub state_sound-requires : goal.state_sound-requires
 state_sound-requires c = let a = c.args in
-    let n = counts (held_job a.counts.now a.numbers.now 0)
-    (sym (c.counts_taken.ensures a.numbers.now 0) ∙ c.if-not-counts_taken.false) in (
+    let n = counts (held_job a.job.now.counts a.job.now.numbers 0)
+    (sym (c.counts_taken.ensures a.job.now.numbers 0) ∙ c.if-not-counts_taken.false) in (
       n.surfaces,
+      c.requires.0,
       c.requires.1,
-      c.requires.2,
     )
 
 pub returns-then-not-state_sound : goal.returns-then-not-state_sound
@@ -77,12 +76,12 @@ returns-then-not-state_sound c = λ o.
     ∙ sym c.is_kind.ensures
     ∙ c.if-not-is_kind.false in
     let job =
-    ap (λ (k : ℕ). record_taken k (job_record_from a.counts.now a.numbers.now))
+    ap (λ (k : ℕ). record_taken k (job_record_from a.job.now.counts a.job.now.numbers))
     (sym c.kind-kind.ensures) ∙ sym c.job_taken.ensures
     ∙ c.if-not-job_taken.false in
     let state =
-    sym (c.state_sound.ensures a.numbers.now o c.num_active-p.ensures) ∙ c.if-not-state_sound.true in
-    sym (no-state a.words.now a.counts.now a.numbers.now a.surfaces.now a.best_surfaces.now o kind job state)
+    sym (c.state_sound.ensures a.job.now.numbers o c.num_active-p.ensures) ∙ c.if-not-state_sound.true in
+    sym (no-state a.words.now a.job.now a.surfaces.now a.best_surfaces.now o kind job state)
 
 pub returns-then-is_over : goal.returns-then-is_over
 returns-then-is_over c = λ o.
@@ -92,38 +91,39 @@ returns-then-is_over c = λ o.
     ∙ sym c.is_kind.ensures
     ∙ c.if-not-is_kind.false in
     let job =
-    ap (λ (k : ℕ). record_taken k (job_record_from a.counts.now a.numbers.now))
+    ap (λ (k : ℕ). record_taken k (job_record_from a.job.now.counts a.job.now.numbers))
     (sym c.kind-kind.ensures)
     ∙ sym c.job_taken.ensures ∙ c.if-not-job_taken.false in
     let state =
-    sym (c.state_sound.ensures a.numbers.now o
+    sym (c.state_sound.ensures a.job.now.numbers o
     c.num_active-p.ensures) ∙ c.if-not-state_sound.false in
     let over =
-    sym (c.is_over.ensures (settings_from a.counts.now a.numbers.now)
+    sym (c.is_over.ensures (settings_from a.job.now.counts a.job.now.numbers)
     (state_with a.words.now a.surfaces.now a.best_surfaces.now o) (sym c.phase.ensures)
-    ∙ ap (λ (k : ℕ). finished_by (method k (settings_from a.counts.now a.numbers.now))
+    ∙ ap (λ (k : ℕ). finished_by (method k (settings_from a.job.now.counts a.job.now.numbers))
     (state_with a.words.now a.surfaces.now a.best_surfaces.now o))
     c.kind-kind.ensures) ∙ c.if-is_over.true in
-    sym (at-end a.words.now a.counts.now a.numbers.now a.surfaces.now a.best_surfaces.now o kind job state over)
+    sym (at-end a.words.now a.job.now a.surfaces.now a.best_surfaces.now o kind job state over)
 
 pub bound-requires : goal.bound-requires
 bound-requires c =
     let a = c.args in
     let k = c.kind-kind.result in
-    let n = counts (held_job a.counts.now a.numbers.now 0)
-    (sym (c.counts_taken.ensures a.numbers.now 0)
+    let n = counts (held_job a.job.now.counts a.job.now.numbers 0)
+    (sym (c.counts_taken.ensures a.job.now.numbers 0)
     ∙ c.if-not-counts_taken.false) in
     let job =
     sym c.job_taken.ensures
     ∙ c.if-not-job_taken.false in
-    let w = taken-within (held_job a.counts.now a.numbers.now k)
-    ((and-eq-true_iff (job_taken (held_job a.counts.now a.numbers.now k)) (known_kinds (job_record_from a.counts.now a.numbers.now))).0 job).0 in (
-      λ numbers. within-any a.counts.now a.numbers.now numbers k w.counts,
+    let w = taken-within (held_job a.job.now.counts a.job.now.numbers k)
+    ((and-eq-true_iff (job_taken (held_job a.job.now.counts a.job.now.numbers k))
+    (known_kinds (job_record_from a.job.now.counts a.job.now.numbers))).0 job).0 in (
+      λ numbers. within-any a.job.now.counts a.job.now.numbers numbers k w.counts,
       omega (
         arith,
         c.num_active-p.ensures,
         n.variables,
-        count-le (variables_from a.counts.now a.numbers.now) (variable_count_from a.counts.now),
+        count-le (variables_from a.job.now.counts a.job.now.numbers) (variable_count_from a.job.now.counts),
       ),
     )
 
@@ -137,28 +137,28 @@ returns-then-turns-bound c = λ o.
     ∙ sym c.is_kind.ensures
     ∙ c.if-not-is_kind.false in
     let job =
-    ap (λ (k : ℕ). record_taken k (job_record_from a.counts.now a.numbers.now))
+    ap (λ (k : ℕ). record_taken k (job_record_from a.job.now.counts a.job.now.numbers))
     (sym c.kind-kind.ensures)
     ∙ sym c.job_taken.ensures
     ∙ c.if-not-job_taken.false in
     let state =
-    sym (c.state_sound.ensures a.numbers.now o
+    sym (c.state_sound.ensures a.job.now.numbers o
     c.num_active-p.ensures)
     ∙ c.if-not-state_sound.false in
     let over =
-    sym (c.is_over.ensures (settings_from a.counts.now a.numbers.now)
+    sym (c.is_over.ensures (settings_from a.job.now.counts a.job.now.numbers)
     (state_with a.words.now a.surfaces.now a.best_surfaces.now o) (sym c.phase.ensures)
-    ∙ ap (λ (k : ℕ). finished_by (method k (settings_from a.counts.now a.numbers.now))
+    ∙ ap (λ (k : ℕ). finished_by (method k (settings_from a.job.now.counts a.job.now.numbers))
     (state_with a.words.now a.surfaces.now a.best_surfaces.now o))
     c.kind-kind.ensures)
     ∙ c.if-is_over.false in
     let limit =
-    c.bound.ensures a.numbers.now
+    c.bound.ensures a.job.now.numbers
     ∙ (λ i. bound_by
     (method (c.kind-kind.ensures i)
-    (settings_from a.counts.now a.numbers.now))
+    (settings_from a.job.now.counts a.job.now.numbers))
     (c.num_active-p.ensures i)) in
-    sym (before-end a.words.now a.counts.now a.numbers.now a.surfaces.now a.best_surfaces.now o kind job state over
+    sym (before-end a.words.now a.job.now a.surfaces.now a.best_surfaces.now o kind job state over
     ∙ ap not ((λ i. ltb (sym c.turns.ensures i) (sym limit i)) ∙ lt-ltb _ _ c.if-turns-bound.true))
 
 pub returns : goal.returns
@@ -171,26 +171,26 @@ returns c = λ o.
     ∙ sym c.is_kind.ensures
     ∙ c.if-not-is_kind.false in
     let job =
-    ap (λ (k : ℕ). record_taken k (job_record_from a.counts.now a.numbers.now))
+    ap (λ (k : ℕ). record_taken k (job_record_from a.job.now.counts a.job.now.numbers))
     (sym c.kind-kind.ensures)
     ∙ sym c.job_taken.ensures
     ∙ c.if-not-job_taken.false in
     let state =
-    sym (c.state_sound.ensures a.numbers.now o
+    sym (c.state_sound.ensures a.job.now.numbers o
     c.num_active-p.ensures)
     ∙ c.if-not-state_sound.false in
     let over =
-    sym (c.is_over.ensures (settings_from a.counts.now a.numbers.now)
+    sym (c.is_over.ensures (settings_from a.job.now.counts a.job.now.numbers)
     (state_with a.words.now a.surfaces.now a.best_surfaces.now o) (sym c.phase.ensures)
-    ∙ ap (λ (k : ℕ). finished_by (method k (settings_from a.counts.now a.numbers.now))
+    ∙ ap (λ (k : ℕ). finished_by (method k (settings_from a.job.now.counts a.job.now.numbers))
     (state_with a.words.now a.surfaces.now a.best_surfaces.now o))
     c.kind-kind.ensures)
     ∙ c.if-is_over.false in
     let limit =
-    c.bound.ensures a.numbers.now
+    c.bound.ensures a.job.now.numbers
     ∙ (λ i. bound_by
     (method (c.kind-kind.ensures i)
-    (settings_from a.counts.now a.numbers.now))
+    (settings_from a.job.now.counts a.job.now.numbers))
     (c.num_active-p.ensures i)) in
-    sym (before-end a.words.now a.counts.now a.numbers.now a.surfaces.now a.best_surfaces.now o kind job state over
+    sym (before-end a.words.now a.job.now a.surfaces.now a.best_surfaces.now o kind job state over
     ∙ ap not ((λ i. ltb (sym c.turns.ensures i) (sym limit i)) ∙ le-ltb _ _ c.if-turns-bound.false))

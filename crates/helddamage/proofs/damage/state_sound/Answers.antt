@@ -18,12 +18,12 @@ unfolding state_sound
 returns-then-phase-last_phase c = λ numbers o e.
     let a = c.args in
     let phase =
-    (λ i. ltb (sym (c.last_phase.ensures (settings_from a.counts.now numbers)
-    ∙ ap (λ (k : ℕ). last_phase (method k (settings_from a.counts.now numbers))) c.kind.ensures) i)
+    (λ i. ltb (sym (c.last_phase.ensures (settings_from a.job.now.counts numbers)
+    ∙ ap (λ (k : ℕ). last_phase (method k (settings_from a.job.now.counts numbers))) c.kind.ensures) i)
     (sym c.phase.ensures i)) ∙ lt-ltb _ _ c.if-phase-last_phase.true in
-    sym (λ i. not (phase i) && surfaces_sound (method (kind_from a.words.now) (settings_from a.counts.now numbers)) (surface_count_from a.counts.now)
+    sym (λ i. not (phase i) && surfaces_sound (method (kind_from a.words.now) (settings_from a.job.now.counts numbers)) (surface_count_from a.job.now.counts)
     (state_with a.words.now a.surfaces.now a.best.now o)
-    && counters_sound (method (kind_from a.words.now) (settings_from a.counts.now numbers)) (num_active (variables_from a.counts.now numbers))
+    && counters_sound (method (kind_from a.words.now) (settings_from a.job.now.counts numbers)) (num_active (variables_from a.job.now.counts numbers))
     (state_with a.words.now a.surfaces.now a.best.now o))
 
 pub surfaces_sound-requires : goal.surfaces_sound-requires
@@ -38,30 +38,30 @@ unfolding state_sound
 returns-then-not-surfaces_sound c = λ numbers o e.
     let a = c.args in
     let phase =
-    (λ i. ltb (sym (c.last_phase.ensures (settings_from a.counts.now numbers)
-    ∙ ap (λ (k : ℕ). last_phase (method k (settings_from a.counts.now numbers))) c.kind.ensures) i)
+    (λ i. ltb (sym (c.last_phase.ensures (settings_from a.job.now.counts numbers)
+    ∙ ap (λ (k : ℕ). last_phase (method k (settings_from a.job.now.counts numbers))) c.kind.ensures) i)
     (sym c.phase.ensures i)) ∙ le-ltb _ _ c.if-phase-last_phase.false in
     let surfaces =
-    ap (λ (n : ℕ). surfaces_sound (method (kind_from a.words.now) (settings_from a.counts.now numbers)) n
+    ap (λ (n : ℕ). surfaces_sound (method (kind_from a.words.now) (settings_from a.job.now.counts numbers)) n
     (state_with a.words.now a.surfaces.now a.best.now o)) (sym c.surface_count.ensures)
-    ∙ sym (c.surfaces_sound.ensures (settings_from a.counts.now numbers) o) ∙ c.if-not-surfaces_sound.true in
-    sym (λ i. not (phase i) && surfaces i && counters_sound (method (kind_from a.words.now) (settings_from a.counts.now numbers))
-    (num_active (variables_from a.counts.now numbers)) (state_with a.words.now a.surfaces.now a.best.now o))
+    ∙ sym (c.surfaces_sound.ensures (settings_from a.job.now.counts numbers) o) ∙ c.if-not-surfaces_sound.true in
+    sym (λ i. not (phase i) && surfaces i && counters_sound (method (kind_from a.words.now) (settings_from a.job.now.counts numbers))
+    (num_active (variables_from a.job.now.counts numbers)) (state_with a.words.now a.surfaces.now a.best.now o))
 
 pub returns : goal.returns
 unfolding state_sound
 returns c = λ numbers o e.
     let a = c.args in
     let phase =
-    (λ i. ltb (sym (c.last_phase.ensures (settings_from a.counts.now numbers)
-    ∙ ap (λ (k : ℕ). last_phase (method k (settings_from a.counts.now numbers))) c.kind.ensures) i)
+    (λ i. ltb (sym (c.last_phase.ensures (settings_from a.job.now.counts numbers)
+    ∙ ap (λ (k : ℕ). last_phase (method k (settings_from a.job.now.counts numbers))) c.kind.ensures) i)
     (sym c.phase.ensures i)) ∙ le-ltb _ _ c.if-phase-last_phase.false in
     let surfaces =
-    ap (λ (n : ℕ). surfaces_sound (method (kind_from a.words.now) (settings_from a.counts.now numbers)) n
+    ap (λ (n : ℕ). surfaces_sound (method (kind_from a.words.now) (settings_from a.job.now.counts numbers)) n
     (state_with a.words.now a.surfaces.now a.best.now o)) (sym c.surface_count.ensures)
-    ∙ sym (c.surfaces_sound.ensures (settings_from a.counts.now numbers) o) ∙ c.if-not-surfaces_sound.false in
+    ∙ sym (c.surfaces_sound.ensures (settings_from a.job.now.counts numbers) o) ∙ c.if-not-surfaces_sound.false in
     c.counters_sound.ensures numbers a.surfaces.now a.best.now o
-    ∙ ap (λ (n : ℕ). counters_sound (method (kind_from a.words.now) (settings_from a.counts.now numbers)) n
+    ∙ ap (λ (n : ℕ). counters_sound (method (kind_from a.words.now) (settings_from a.job.now.counts numbers)) n
     (state_with a.words.now a.surfaces.now a.best.now o)) e
-    ∙ sym (λ i. not (phase i) && surfaces i && counters_sound (method (kind_from a.words.now) (settings_from a.counts.now numbers))
-    (num_active (variables_from a.counts.now numbers)) (state_with a.words.now a.surfaces.now a.best.now o))
+    ∙ sym (λ i. not (phase i) && surfaces i && counters_sound (method (kind_from a.words.now) (settings_from a.job.now.counts numbers))
+    (num_active (variables_from a.job.now.counts numbers)) (state_with a.words.now a.surfaces.now a.best.now o))

@@ -7,12 +7,12 @@ use Rattle.std.proofs.Common.{arith}
 use Rattle.helddamage.proofs.limits.trial_limit.Goals as goal
 
 pub returns-in-1 : goal.returns-in-1
-returns-in-1 c = λ numbers. sym (ap trial_limit (is-damped _ (settings_from c.args.counts.now numbers) c.in-1.is))
+returns-in-1 c = λ numbers. sym (ap trial_limit (is-damped _ (settings_from c.args.job.now.counts numbers) c.in-1.is))
 
 pub returns-in-2 : goal.returns-in-2
 returns-in-2 c =
     λ numbers. c.num_trials.ensures
-    ∙ sym (ap trial_limit (is-multi-start _ (settings_from c.args.counts.now numbers) c.in-2.is))
+    ∙ sym (ap trial_limit (is-multi-start _ (settings_from c.args.job.now.counts numbers) c.in-2.is))
 
 pub returns-in_default : goal.returns-in_default
-returns-in_default c = λ numbers. sym (ap trial_limit (is-annealing _ (settings_from c.args.counts.now numbers) (λ e. omega arith) (λ e. omega arith)))
+returns-in_default c = λ numbers. sym (ap trial_limit (is-annealing _ (settings_from c.args.job.now.counts numbers) (λ e. omega arith) (λ e. omega arith)))

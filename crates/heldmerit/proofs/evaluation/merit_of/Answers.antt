@@ -14,17 +14,16 @@ use Rattle.heldmerit.proofs.evaluation.merit_of.Goals as goal
 
 pub loop-n-init : goal.loop-n-init
 unfolding terms_over
-loop-n-init c = (omega arith, c.operand_count-many.ensures, refl)
+loop-n-init c = (c.operand_count-many.ensures, refl)
 
 pub loop-n-preserved : goal.loop-n-preserved
 loop-n-preserved c =
     let x = c.args in
-    let f = operands_from x.counts.now x.numbers.now in
+    let f = operands_from x.job.now.counts x.job.now.numbers in
     let v = get_or x.values.now c.loop-n.n nan in
     let is = c.operand_at-o.ensures in (
-      omega arith,
-      c.loop-n.invariant.1,
-      terms-more f x.values.now c.loop-n.n _ _ c.loop-n.invariant.2
+      c.loop-n.invariant.0,
+      terms-more f x.values.now c.loop-n.n _ _ c.loop-n.invariant.1
           (term_is c.operand_at-o.result refl c.difference_of-d.ensures ∙ ap (λ (o : MeritOperand). term o v) is),
     )
 
@@ -32,6 +31,6 @@ pub returns : goal.returns
 unfolding merit_over
 returns c =
     let x = c.args in
-    let f = operands_from x.counts.now x.numbers.now in
-    let m : c.loop-n.n ≡ operand_count_from x.counts.now = omega (arith, c.loop-n.invariant.1) in
-    c.counted_total.ensures ∙ ap counted_total (c.loop-n.invariant.2 ∙ ap (terms_over f x.values.now) m)
+    let f = operands_from x.job.now.counts x.job.now.numbers in
+    let m : c.loop-n.n ≡ operand_count_from x.job.now.counts = omega (arith, c.loop-n.invariant.0) in
+    c.counted_total.ensures ∙ ap counted_total (c.loop-n.invariant.1 ∙ ap (terms_over f x.values.now) m)

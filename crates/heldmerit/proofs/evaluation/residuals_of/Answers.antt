@@ -16,21 +16,20 @@ use Rattle.heldmerit.proofs.evaluation.residuals_of.Goals as goal
 
 pub loop-n-init : goal.loop-n-init
 unfolding tab
-loop-n-init c = (omega arith, c.operand_count-many.ensures, refl, sym root-one)
+loop-n-init c = (c.operand_count-many.ensures, refl, sym root-one)
 
 pub root_of-known-requires : goal.root_of-known-requires
-root_of-known-requires c = c.loop-n.invariant.3
+root_of-known-requires c = c.loop-n.invariant.2
 
 pub loop-n-preserved : goal.loop-n-preserved
 loop-n-preserved c =
     let x = c.args in
-    let f = operands_from x.counts.now x.numbers.now in
+    let f = operands_from x.job.now.counts x.job.now.numbers in
     let v = get_or x.values.now c.loop-n.n nan in
     let is = c.operand_at-o.ensures in (
-      omega arith,
-      c.loop-n.invariant.1,
+      c.loop-n.invariant.0,
       tab-step (residual_over f x.values.now) _ c.loop-n.residuals
-          c.loop-n.n _ nan c.loop-n.invariant.2
+          c.loop-n.n _ nan c.loop-n.invariant.1
           (residual-is c.operand_at-o.result refl c.difference_of-d.ensures c.root_of-known.ensures.0
           ∙ ap (λ (o : MeritOperand). residual o v) is) (omega arith),
       c.root_of-known.ensures.1,
@@ -40,7 +39,7 @@ pub returns : goal.returns
 unfolding residuals_over
 returns c =
     let x = c.args in
-    let f = operands_from x.counts.now x.numbers.now in
-    let m : c.loop-n.n ≡ operand_count_from x.counts.now = omega (arith, c.loop-n.invariant.1) in
-    all-stand (residual_over f x.values.now) (operand_count_from x.counts.now) c.loop-n.n c.loop-n.residuals c.loop-n.invariant.2
+    let f = operands_from x.job.now.counts x.job.now.numbers in
+    let m : c.loop-n.n ≡ operand_count_from x.job.now.counts = omega (arith, c.loop-n.invariant.0) in
+    all-stand (residual_over f x.values.now) (operand_count_from x.job.now.counts) c.loop-n.n c.loop-n.residuals c.loop-n.invariant.1
     m

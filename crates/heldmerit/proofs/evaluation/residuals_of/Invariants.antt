@@ -1,6 +1,5 @@
 -- `heldmerit::evaluation::residuals_of` meets its contract: the loop's invariant: the residuals of the values passed stand. Assumes nothing.
 use mathlib.Core.Path.{◌≡◌}
-use Prim.Native.Nat.{◌≤◌, ◌-◌}
 use Rattle.held.specs.JobFrom.{operand_count_from, operands_from}
 use Rattle.merit.specs.Steps.{RootKnown}
 use Rattle.heldmerit.specs.Over.{residual_over}
@@ -8,8 +7,5 @@ use Rattle.heldmerit.proofs.Over.{Standing}
 use Rattle.heldmerit.proofs.evaluation.residuals_of.Given as goal
 
 abbrev pub invariant-loop-n : goal.invariant-loop-n
-invariant-loop-n l = (l.n ≤ l.many) × (l.many ≡ operand_count_from l.counts)
-    × Standing (residual_over (operands_from l.counts l.numbers) l.values) l.n l.residuals × RootKnown l.known
-
-abbrev pub decreases-loop-n : goal.decreases-loop-n
-decreases-loop-n l = l.many - l.n
+invariant-loop-n l = (l.many ≡ operand_count_from l.job.counts)
+    × Standing (residual_over (operands_from l.job.counts l.job.numbers) l.values) l.n l.residuals × RootKnown l.known

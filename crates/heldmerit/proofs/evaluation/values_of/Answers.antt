@@ -27,7 +27,7 @@ use Rattle.heldmerit.proofs.evaluation.values_of.Goals as goal
 
 pub paraxial_slots-slots-requires : goal.paraxial_slots-slots-requires
 paraxial_slots-slots-requires c =
-    let e = ap length c.indices-indices.ensures ∙ indices-long c.args.numbers.now in
+    let e = ap length c.indices-indices.ensures ∙ indices-long c.args.job.now.numbers in
     (omega (arith, c.surface_count-count.ensures), omega (arith, e, c.surface_count-count.ensures))
 
 pub loop-n-init : goal.loop-n-init
@@ -35,13 +35,12 @@ unfolding tab
 loop-n-init c =
     let x = c.args in
     let trace : ℕ → Option ParaxialProperties =
-    λ w. paraxial_of (flat_surface x.flat.now) (slot_index (indices_from x.numbers.now) w) (pupil_from x.numbers.now)
-    (surface_count_from x.counts.now) in
+    λ w. paraxial_of (flat_surface x.flat.now) (slot_index (indices_from x.job.now.numbers) w) (pupil_from x.job.now.numbers)
+    (surface_count_from x.job.now.counts) in
     let traced : c.paraxial_slots-slots.result ≡ tab trace 4 =
     c.paraxial_slots-slots.ensures
     ∙ (λ i. tab (λ (w : ℕ). paraxial_of (flat_surface x.flat.now) (slot_index (c.indices-indices.ensures i) w) (c.pupil.ensures i)
     (c.surface_count-count.ensures i)) 4) in (
-      omega arith,
       refl,
       c.operand_count-many.ensures,
       c.surface_count-count.ensures,
@@ -49,45 +48,44 @@ loop-n-init c =
     )
 
 pub operand_at-o-requires : goal.operand_at-o-requires
-operand_at-o-requires c = record { fact_1 = omega (arith, c.loop-n.invariant.2); fact_2 = search rules }
+operand_at-o-requires c = omega (arith, c.loop-n.invariant.1)
 
 pub value_of-requires : goal.value_of-requires
-value_of-requires c = omega (arith, c.loop-n.invariant.3)
+value_of-requires c = omega (arith, c.loop-n.invariant.2)
 
 pub offset_bounds-values-n : goal.offset_bounds-values-n
-offset_bounds-values-n c = omega (arith, c.loop-n.invariant.2)
+offset_bounds-values-n c = omega (arith, c.loop-n.invariant.1)
 
 pub bounds-values-n : goal.bounds-values-n
-bounds-values-n c = omega (arith, c.loop-n.invariant.2)
+bounds-values-n c = omega (arith, c.loop-n.invariant.1)
 
 pub loop-n-preserved : goal.loop-n-preserved
 loop-n-preserved c =
     let x = c.args in
-    let f = operands_from x.counts.now x.numbers.now in
+    let f = operands_from x.job.now.counts x.job.now.numbers in
     let l = c.loop-n in
-    let more : l.n < operand_count_from x.counts.now = omega (arith, l.invariant.2) in
+    let more : l.n < operand_count_from x.job.now.counts = omega (arith, l.invariant.1) in
     let room : l.n < 12 = omega (arith, c.requires.fact_3) in
     let o = c.operand_at-o in
-    let v = value-next (flat_surface x.flat.now) (slot_index (indices_from x.numbers.now)) (pupil_from x.numbers.now)
-    (surface_count_from x.counts.now) f c.paraxial_slots-slots.result l.values l.n o.result _
-    c.requires.fact_5 more (omega arith) l.invariant.4 l.invariant.1
+    let v = value-next (flat_surface x.flat.now) (slot_index (indices_from x.job.now.numbers)) (pupil_from x.job.now.numbers)
+    (surface_count_from x.job.now.counts) f c.paraxial_slots-slots.result l.values l.n o.result _
+    c.requires.fact_4 more (omega arith) l.invariant.3 l.invariant.0
     o.ensures (c.value_of.ensures ∙ ap (λ (k : ℕ). value_of l.values (λ (w : ℕ). get_or c.paraxial_slots-slots.result
-    w None) (flat_surface x.flat.now) k o.result.operand_type) l.invariant.3) in (
-      omega arith,
-      tab-step (value_at (flat_surface x.flat.now) (slot_index (indices_from x.numbers.now)) (pupil_from x.numbers.now)
-          (surface_count_from x.counts.now) f) _ l.values l.n _ nan l.invariant.1 v (omega arith),
+    w None) (flat_surface x.flat.now) k o.result.operand_type) l.invariant.2) in (
+      tab-step (value_at (flat_surface x.flat.now) (slot_index (indices_from x.job.now.numbers)) (pupil_from x.job.now.numbers)
+          (surface_count_from x.job.now.counts) f) _ l.values l.n _ nan l.invariant.0 v (omega arith),
+      l.invariant.1,
       l.invariant.2,
       l.invariant.3,
-      l.invariant.4,
     )
 
 pub returns : goal.returns
 unfolding evaluate_of
 returns c = λ kind s rest e.
     let x = c.args in
-    let f = operands_from x.counts.now x.numbers.now in
-    let m : c.loop-n.n ≡ operand_count_from x.counts.now = omega (arith, c.loop-n.invariant.2) in
-    all-stand (value_at (flat_surface x.flat.now) (slot_index (indices_from x.numbers.now)) (pupil_from x.numbers.now)
-    (surface_count_from x.counts.now) f) (operand_count_from x.counts.now) c.loop-n.n c.loop-n.values c.loop-n.invariant.1 m
-    ∙ ap (λ (m : MeritEvaluation). m.values) (laid-evaluation (lens_with (held_job x.counts.now x.numbers.now kind) s) f rest x.flat.now e
-    c.requires.fact_5)
+    let f = operands_from x.job.now.counts x.job.now.numbers in
+    let m : c.loop-n.n ≡ operand_count_from x.job.now.counts = omega (arith, c.loop-n.invariant.1) in
+    all-stand (value_at (flat_surface x.flat.now) (slot_index (indices_from x.job.now.numbers)) (pupil_from x.job.now.numbers)
+    (surface_count_from x.job.now.counts) f) (operand_count_from x.job.now.counts) c.loop-n.n c.loop-n.values c.loop-n.invariant.0 m
+    ∙ ap (λ (m : MeritEvaluation). m.values) (laid-evaluation (lens_with (held_job x.job.now.counts x.job.now.numbers kind) s) f rest x.flat.now e
+    c.requires.fact_4)

@@ -1,6 +1,6 @@
 -- `heldmerit::evaluation::values_of` meets its contract: the loop's invariant: the values of the operands passed stand. Assumes nothing.
 use mathlib.Core.Path.{◌≡◌}
-use Prim.Native.Nat.{ℕ, ◌<◌, ◌≤◌, ◌-◌}
+use Prim.Native.Nat.{ℕ, ◌<◌}
 use lib.ListN.{get_or}
 use Rattle.optics.specs.Types.{slot_index}
 use Rattle.held.specs.JobFrom.{surface_count_from, operand_count_from, pupil_from, indices_from, operands_from}
@@ -12,11 +12,7 @@ use Rattle.heldmerit.proofs.Over.{Standing}
 use Rattle.heldmerit.proofs.evaluation.values_of.Given as goal
 
 abbrev pub invariant-loop-n : goal.invariant-loop-n
-invariant-loop-n l = (l.n ≤ l.many)
-    × Standing (value_at (flat_surface l.flat) (slot_index (indices_from l.numbers)) (pupil_from l.numbers) (surface_count_from l.counts)
-    (operands_from l.counts l.numbers)) l.n l.values × (l.many ≡ operand_count_from l.counts) × (l.count ≡ surface_count_from l.counts)
+invariant-loop-n l = Standing (value_at (flat_surface l.flat) (slot_index (indices_from l.job.numbers)) (pupil_from l.job.numbers)
+    (surface_count_from l.job.counts) (operands_from l.job.counts l.job.numbers)) l.n l.values × (l.many ≡ operand_count_from l.job.counts) × (l.count ≡ surface_count_from l.job.counts)
     × ((w : ℕ) → w < 4 → get_or l.slots w None
-    ≡ paraxial_of (flat_surface l.flat) (slot_index (indices_from l.numbers) w) (pupil_from l.numbers) (surface_count_from l.counts))
-
-abbrev pub decreases-loop-n : goal.decreases-loop-n
-decreases-loop-n l = l.many - l.n
+    ≡ paraxial_of (flat_surface l.flat) (slot_index (indices_from l.job.numbers) w) (pupil_from l.job.numbers) (surface_count_from l.job.counts))

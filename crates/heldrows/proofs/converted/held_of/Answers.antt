@@ -11,9 +11,7 @@ returns c =
       words = (c.put_words.ensures ∙ ap (held_words r.kind r.turns) h) i;
       scalars =
           (c.put_scalars.ensures ∙ ap held_scalars h) i;
-      counts = c.held_job-job.ensures.0 i;
-      numbers =
-          c.held_job-job.ensures.1 i;
+      job = record { counts = c.held_job-job.ensures.0 i; numbers = c.held_job-job.ensures.1 i };
       surfaces = c.laid-surfaces.ensures i;
       jacobian = r.damped.jacobian;
       values = r.damped.evaluation.values;

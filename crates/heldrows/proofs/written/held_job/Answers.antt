@@ -10,7 +10,7 @@ use Rattle.heldrows.proofs.written.held_job.Goals as goal
 pub returns : goal.returns
 unfolding held_counts held_numbers
 returns c =
-    let j = c.args.job in (
+    let j = c.args.asked in (
       c.lay_operands.ensures.0 ∙ ap (λ (p : List ℕ). p ++ in_turn (λ (n : ℕ). operand_counts (operand_record_at j n)) 12)
           (c.lay_variables.ensures.0
           ∙ ap (λ (p : List ℕ). p ++ in_turn (λ (i : ℕ). variable_counts (variable_record_at j i)) 8)

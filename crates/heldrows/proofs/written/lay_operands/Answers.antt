@@ -13,47 +13,36 @@ use Rattle.heldrows.proofs.written.lay_operands.Goals as goal
 
 pub loop-n-init : goal.loop-n-init
 unfolding in_turn
-loop-n-init c = (omega arith, refl, refl, sym (append-nil _), sym (append-nil _))
-
-pub lay_operand-requires : goal.lay_operand-requires
-lay_operand-requires c =
-    (omega arith, omega (arith, c.loop-n.invariant.1), omega (arith, c.loop-n.invariant.2))
+loop-n-init c = (refl, refl, sym (append-nil _), sym (append-nil _))
 
 pub loop-n-preserved : goal.loop-n-preserved
 loop-n-preserved c =
     let l = c.loop-n in
     let e = c.lay_operand.ensures in (
-      omega arith,
-      ap length e.0 ∙ length-sets l.counts (operand_kind_at l.n)
+      ap length e.0 ∙ length-sets l.job.counts (operand_kind_at l.n)
           (operand_counts (get_or c.args.records
-          l.n no_operand_record)) ∙ l.invariant.1,
-      ap length e.1 ∙ length-sets l.numbers (limit_at l.n)
+          l.n no_operand_record)) ∙ l.invariant.0,
+      ap length e.1 ∙ length-sets l.job.numbers (limit_at l.n)
           (operand_numbers (get_or c.args.records
-          l.n no_operand_record)) ∙ l.invariant.2,
+          l.n no_operand_record)) ∙ l.invariant.1,
       ap (take (operand_kind_at (l.n + 1))) e.0 ∙ turn_more
           (λ (k : ℕ). operand_counts (get_or c.args.records
-          k no_operand_record)) l.n (operand_kind_at l.n) (operand_kind_at (l.n + 1)) l.counts
-          (take (operand_kind_at 0) c.args.counts.now)
-          l.invariant.3 (omega arith) (omega (arith, l.invariant.1)),
+          k no_operand_record)) l.n (operand_kind_at l.n) (operand_kind_at (l.n + 1)) l.job.counts
+          (take (operand_kind_at 0) c.args.job.now.counts)
+          l.invariant.2 (omega arith) (omega (arith, l.invariant.0, c.lengths.ensures.0)),
       ap (take (limit_at (l.n + 1))) e.1
           ∙ turn_more
           (λ (k : ℕ). operand_numbers (get_or c.args.records
-          k no_operand_record)) l.n (limit_at l.n) (limit_at (l.n + 1)) l.numbers
-          (take (limit_at 0) c.args.numbers.now) l.invariant.4
-          (omega arith) (omega (arith, l.invariant.2)),
+          k no_operand_record)) l.n (limit_at l.n) (limit_at (l.n + 1)) l.job.numbers
+          (take (limit_at 0) c.args.job.now.numbers) l.invariant.3
+          (omega arith) (omega (arith, l.invariant.1, c.lengths.ensures.1)),
     )
-
-pub shape_of-counts : goal.shape_of-counts
-shape_of-counts c = c.loop-n.invariant.1
-
-pub shape_of-numbers : goal.shape_of-numbers
-shape_of-numbers c = c.loop-n.invariant.2
 
 pub returns : goal.returns
 returns c =
     let e : c.loop-n.n ≡ 12 = omega arith in (
-      sym (take_all 73 c.loop-n.counts (omega (arith, c.loop-n.invariant.1)))
+      sym (take_all 73 c.loop-n.job.counts (omega (arith, c.loop-n.invariant.0, c.lengths.ensures.0)))
+          ∙ rw e at c.loop-n.invariant.2,
+      sym (take_all 195 c.loop-n.job.numbers (omega (arith, c.loop-n.invariant.1, c.lengths.ensures.1)))
           ∙ rw e at c.loop-n.invariant.3,
-      sym (take_all 195 c.loop-n.numbers (omega (arith, c.loop-n.invariant.2)))
-          ∙ rw e at c.loop-n.invariant.4,
     )

@@ -13,42 +13,31 @@ use Rattle.heldrows.proofs.written.lay_variables.Goals as goal
 
 pub loop-i-init : goal.loop-i-init
 unfolding in_turn
-loop-i-init c = (omega arith, refl, refl, sym (append-nil _), sym (append-nil _))
-
-pub lay_variable-requires : goal.lay_variable-requires
-lay_variable-requires c =
-    (omega arith, omega (arith, c.loop-i.invariant.1), omega (arith, c.loop-i.invariant.2))
+loop-i-init c = (refl, refl, sym (append-nil _), sym (append-nil _))
 
 pub loop-i-preserved : goal.loop-i-preserved
 loop-i-preserved c =
     let l = c.loop-i in
     let e = c.lay_variable.ensures in (
-      omega arith,
-      ap length e.0 ∙ length-sets l.counts (variable_kind_at l.i)
+      ap length e.0 ∙ length-sets l.job.counts (variable_kind_at l.i)
           (variable_counts (get_or c.args.records
-          l.i no_variable_record)) ∙ l.invariant.1,
-      ap length e.1 ∙ length-sets l.numbers (min_value_at l.i)
+          l.i no_variable_record)) ∙ l.invariant.0,
+      ap length e.1 ∙ length-sets l.job.numbers (min_value_at l.i)
           (variable_numbers (get_or c.args.records
-          l.i no_variable_record)) ∙ l.invariant.2,
+          l.i no_variable_record)) ∙ l.invariant.1,
       ap (take (variable_kind_at (l.i + 1))) e.0 ∙ turn_more
           (λ (k : ℕ). variable_counts (get_or c.args.records
-          k no_variable_record)) l.i (variable_kind_at l.i) (variable_kind_at (l.i + 1)) l.counts
-          (take (variable_kind_at 0) c.args.counts.now)
-          l.invariant.3 (omega arith) (omega (arith, l.invariant.1)),
+          k no_variable_record)) l.i (variable_kind_at l.i) (variable_kind_at (l.i + 1)) l.job.counts
+          (take (variable_kind_at 0) c.args.job.now.counts)
+          l.invariant.2 (omega arith) (omega (arith, l.invariant.0, c.lengths.ensures.0)),
       ap (take (min_value_at (l.i + 1))) e.1 ∙ turn_more
           (λ (k : ℕ). variable_numbers (get_or c.args.records
-          k no_variable_record)) l.i (min_value_at l.i) (min_value_at (l.i + 1)) l.numbers
-          (take (min_value_at 0) c.args.numbers.now)
-          l.invariant.4 (omega arith) (omega (arith, l.invariant.2)),
+          k no_variable_record)) l.i (min_value_at l.i) (min_value_at (l.i + 1)) l.job.numbers
+          (take (min_value_at 0) c.args.job.now.numbers)
+          l.invariant.3 (omega arith) (omega (arith, l.invariant.1, c.lengths.ensures.1)),
     )
-
-pub shape_of-counts : goal.shape_of-counts
-shape_of-counts c = c.loop-i.invariant.1
-
-pub shape_of-numbers : goal.shape_of-numbers
-shape_of-numbers c = c.loop-i.invariant.2
 
 pub returns : goal.returns
 returns c =
     let e : c.loop-i.i ≡ 8 = omega arith in
-    (rw e at c.loop-i.invariant.3, rw e at c.loop-i.invariant.4)
+    (rw e at c.loop-i.invariant.2, rw e at c.loop-i.invariant.3)

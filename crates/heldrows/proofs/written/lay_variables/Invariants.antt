@@ -1,7 +1,7 @@
 -- `heldrows::written::lay_variables` meets its contract: the loop's invariant: the parts passed stand behind the front. Assumes nothing.
 use mathlib.Core.Path.{◌≡◌}
 use mathlib.Core.List.{◌++◌}
-use Prim.Native.Nat.{ℕ, ◌-◌, ◌≤◌}
+use Prim.Native.Nat.{ℕ}
 use lib.ListN.{length, get_or, take}
 use Rattle.jobs.specs.Entries.{no_variable_record}
 use Rattle.held.specs.Places.{variable_kind_at, min_value_at}
@@ -9,11 +9,8 @@ use Rattle.held.specs.Written.{in_turn, variable_counts, variable_numbers}
 use Rattle.heldrows.proofs.written.lay_variables.Given as goal
 
 abbrev pub invariant-loop-i : goal.invariant-loop-i
-invariant-loop-i l = (l.i ≤ 8) × (length l.counts ≡ length l.initial.counts) × (length l.numbers ≡ length l.initial.numbers)
-    × (take (variable_kind_at l.i) l.counts ≡ take (variable_kind_at 0) l.initial.counts
+invariant-loop-i l = (length l.job.counts ≡ length l.initial.job.counts) × (length l.job.numbers ≡ length l.initial.job.numbers)
+    × (take (variable_kind_at l.i) l.job.counts ≡ take (variable_kind_at 0) l.initial.job.counts
     ++ in_turn (λ (k : ℕ). variable_counts (get_or l.records k no_variable_record)) l.i)
-    × (take (min_value_at l.i) l.numbers ≡ take (min_value_at 0) l.initial.numbers
+    × (take (min_value_at l.i) l.job.numbers ≡ take (min_value_at 0) l.initial.job.numbers
     ++ in_turn (λ (k : ℕ). variable_numbers (get_or l.records k no_variable_record)) l.i)
-
-abbrev pub decreases-loop-i : goal.decreases-loop-i
-decreases-loop-i l = 8 - l.i

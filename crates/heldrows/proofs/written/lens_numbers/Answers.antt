@@ -19,25 +19,24 @@ use Rattle.heldrows.proofs.written.lens_numbers.Goals as goal
 
 pub loop-k-init : goal.loop-k-init
 unfolding tab
-loop-k-init c = (omega arith, search rules, refl, sym (append-nil _))
+loop-k-init c = (search rules, refl, sym (append-nil _))
 
 pub loop-k-preserved : goal.loop-k-preserved
 loop-k-preserved c =
     let l = c.loop-k in
     let v = get_or c.args.indices l.k nan in
     let front = take-set-le (index_at 0) l.numbers (index_at l.k) v (omega arith) in (
-      omega arith,
-      length-set l.numbers (index_at l.k) v ∙ l.invariant.1,
-      front ∙ l.invariant.2,
+      length-set l.numbers (index_at l.k) v ∙ l.invariant.0,
+      front ∙ l.invariant.1,
       entry_more (λ (k : ℕ). get_or c.args.indices k nan) l.k (index_at l.k) (index_at (l.k + 1)) l.numbers
-          (take (index_at 0) l.numbers) v l.invariant.3 refl (omega arith) (omega (arith, l.invariant.1))
+          (take (index_at 0) l.numbers) v l.invariant.2 refl (omega arith) (omega (arith, l.invariant.0))
           ∙ ap (λ (p : List Float). p ++ tab (λ (k : ℕ). get_or c.args.indices k nan) (l.k + 1)) (sym front),
     )
 
 pub returns : goal.returns
 returns c =
     let e : c.loop-k.k ≡ 64 = omega arith in
-    rw e at c.loop-k.invariant.3 ∙ ap (λ (p : List Float). p ++ tab (λ (k : ℕ). get_or c.args.indices k nan) 64)
-    (c.loop-k.invariant.2 ∙ ap (take 64) c.lay_flat.ensures
+    rw e at c.loop-k.invariant.2 ∙ ap (λ (p : List Float). p ++ tab (λ (k : ℕ). get_or c.args.indices k nan) 64)
+    (c.loop-k.invariant.1 ∙ ap (take 64) c.lay_flat.ensures
     ∙ take_at (laid_flat c.args.surfaces 16) _ 64
     (length-laid c.args.surfaces 16))

@@ -1,7 +1,7 @@
 -- `heldrows::written::lens_numbers` meets its contract: the loop's invariant: the indices passed stand behind the surfaces. Assumes nothing.
 use mathlib.Core.Path.{◌≡◌}
 use mathlib.Core.List.{◌++◌}
-use Prim.Native.Nat.{ℕ, ◌-◌, ◌≤◌}
+use Prim.Native.Nat.{ℕ}
 use lib.Ieee.{nan}
 use lib.ListN.{length, get_or, take}
 use Rattle.lists.specs.Tab.{tab}
@@ -9,8 +9,5 @@ use Rattle.held.specs.Places.{index_at}
 use Rattle.heldrows.proofs.written.lens_numbers.Given as goal
 
 abbrev pub invariant-loop-k : goal.invariant-loop-k
-invariant-loop-k l = (l.k ≤ 64) × (length l.numbers ≡ 195) × (take (index_at 0) l.numbers ≡ take (index_at 0) l.initial.numbers)
+invariant-loop-k l = (length l.numbers ≡ 195) × (take (index_at 0) l.numbers ≡ take (index_at 0) l.initial.numbers)
     × (take (index_at l.k) l.numbers ≡ take (index_at 0) l.numbers ++ tab (λ (j : ℕ). get_or l.indices j nan) l.k)
-
-abbrev pub decreases-loop-k : goal.decreases-loop-k
-decreases-loop-k l = 64 - l.k

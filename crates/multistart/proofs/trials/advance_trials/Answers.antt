@@ -18,17 +18,17 @@ pub returns : goal.returns
 unfolding advance
 returns c =
     let x = c.args in
-    let v = (variables_from x.counts.now x.numbers.now) in
-    let o = optimizer (dls_config (settings_from x.counts.now x.numbers.now)) v (operand_count_from x.counts.now) in
+    let v = (variables_from x.job.now.counts x.job.now.numbers) in
+    let o = optimizer (dls_config (settings_from x.job.now.counts x.job.now.numbers)) v (operand_count_from x.job.now.counts) in
     let d = (damped_from x.h.damped x.surfaces.now x.jacobian.now x.values.now x.residuals.now x.plus_residuals.now x.params.now
     x.candidate.now) in
     let a = c.advance_damped-damped.ensures in record {
       fact_1 = λ k lens w. c.resume_damped.ensures o refl d
-          ∙ ap (λ (w : DampedState). resume_damped o (standing x.numbers.now) (num_trials_from x.counts.now) (is_finished w)
+          ∙ ap (λ (w : DampedState). resume_damped o (standing x.job.now.numbers) (num_trials_from x.job.now.counts) (is_finished w)
           (state_from x.h x.surfaces.now x.jacobian.now x.values.now x.residuals.now x.plus_residuals.now x.params.now
           x.candidate.now x.best_surfaces.now x.best_values.now x.best_residuals.now) w)
-          (a.fact_1 k lens w ∙ ap (λ (l : DlsConfig). Damped.advance (optimizer l v (operand_count_from x.counts.now)) d
-          (evaluate_of (held_job x.counts.now x.numbers.now k) lens))
+          (a.fact_1 k lens w ∙ ap (λ (l : DlsConfig). Damped.advance (optimizer l v (operand_count_from x.job.now.counts)) d
+          (evaluate_of (held_job x.job.now.counts x.job.now.numbers k) lens))
           c.dls_config-local.ensures);
       fact_2 = a.fact_2;
     }

@@ -16,7 +16,7 @@ returns-then-trial-num_trials c = λ o ev bs bv br.
     let t = c.trial_surfaces-next in
     ap (λ (w : DampedState). in_trial w (result_from x.best bs bv br) t.result (x.trial + 1)) (c.at_first-damped.ensures _)
     ∙ simp (
-      lt-ltb x.trial (num_trials_from x.counts.now)
+      lt-ltb x.trial (num_trials_from x.job.now.counts)
           (rw c.num_trials.ensures at
           c.if-trial-num_trials.true),
       t.ensures.0 o ev,
@@ -28,6 +28,6 @@ returns-then-trial-num_trials c = λ o ev bs bv br.
 pub returns : goal.returns
 unfolding resume_trials
 returns c = λ o ev bs bv br. let x = c.args in
-    rw (le-ltb x.trial (num_trials_from x.counts.now)
+    rw (le-ltb x.trial (num_trials_from x.job.now.counts)
     (rw c.num_trials.ensures at
     c.if-trial-num_trials.false)) (c.ended.ensures bs bv br)

@@ -18,15 +18,15 @@ pub returns-then-number-gt0 : goal.returns-then-number-gt0
 unfolding turn_row_number
 returns-then-number-gt0 c =
     λ o. let x = c.args in rw (le-ltb x.room scratch_length c.if-room-lt-SCRATCH.false)
-    (first_two (is_vacant (row_from (held_with x.words.now x.counts.now x.numbers.now x.surfaces.now x.best_surfaces.now o)))
-    (damaged (row_from (held_with x.words.now x.counts.now x.numbers.now x.surfaces.now x.best_surfaces.now o))) _ _
+    (first_two (is_vacant (row_from (held_with x.words.now x.job.now x.surfaces.now x.best_surfaces.now o)))
+    (damaged (row_from (held_with x.words.now x.job.now x.surfaces.now x.best_surfaces.now o))) _ _
     (c.usable_number-number.ensures o) c.if-number-gt0.true)
 
 pub returns-then-is_over : goal.returns-then-is_over
 unfolding turn_row_number
 returns-then-is_over c = λ o.
     let x = c.args in
-    let r = row_from (held_with x.words.now x.counts.now x.numbers.now x.surfaces.now x.best_surfaces.now o) in
+    let r = row_from (held_with x.words.now x.job.now x.surfaces.now x.best_surfaces.now o) in
     let h = neither (is_vacant r) (damaged r) _ (c.usable_number-number.ensures o)
     c.if-number-gt0.false in
     let over = finished-is r c.is_over.ensures c.kind.ensures c.phase.ensures c.if-is_over.true in
@@ -36,7 +36,7 @@ pub returns : goal.returns
 unfolding turn_row_number
 returns c = λ o.
     let x = c.args in
-    let r = row_from (held_with x.words.now x.counts.now x.numbers.now x.surfaces.now x.best_surfaces.now o) in
+    let r = row_from (held_with x.words.now x.job.now x.surfaces.now x.best_surfaces.now o) in
     let h = neither (is_vacant r) (damaged r) _ (c.usable_number-number.ensures o)
     c.if-number-gt0.false in
     let over = finished-is r c.is_over.ensures c.kind.ensures c.phase.ensures c.if-is_over.false in

@@ -20,14 +20,13 @@ use Rattle.rows.proofs.Refused.{kept_by, made_by, zero-by, turnable}
 use Rattle.rows.proofs.Undamaged.{job-taken, column-below, turns-below}
 use Rattle.rows.specs.Others.{others_of}
 use Rattle.rowturns.specs.Parts.{held_of}
-use Rattle.std.proofs.Common.{rules}
 use Rattle.rowturns.proofs.parts.turn_parts.Goals as goal
 
 pub returns-then-refused-gt0 : goal.returns-then-refused-gt0
 unfolding turned_row scratch_of
 returns-then-refused-gt0 c =
     let x = c.args in
-    let h = held_of x.words.now x.scalars.now x.counts.now x.numbers.now x.surfaces.now x.jacobian.now x.values.now
+    let h = held_of x.words.now x.scalars.now x.job.now x.surfaces.now x.jacobian.now x.values.now
     x.residuals.now x.plus_residuals.now x.params.now x.candidate.now x.best_surfaces.now x.best_values.now
     x.best_residuals.now in
     let r = row_from h in
@@ -39,7 +38,7 @@ returns-then-refused-gt0 c =
 pub overflow_add-turns : goal.overflow_add-turns
 overflow_add-turns c =
     let x = c.args in
-    let h = held_of x.words.now x.scalars.now x.counts.now x.numbers.now x.surfaces.now x.jacobian.now x.values.now
+    let h = held_of x.words.now x.scalars.now x.job.now x.surfaces.now x.jacobian.now x.values.now
     x.residuals.now x.plus_residuals.now x.params.now x.candidate.now x.best_surfaces.now x.best_values.now
     x.best_residuals.now in
     let r = row_from h in
@@ -51,7 +50,7 @@ overflow_add-turns c =
 pub turned-next-requires : goal.turned-next-requires
 turned-next-requires c =
     let x = c.args in
-    let h = held_of x.words.now x.scalars.now x.counts.now x.numbers.now x.surfaces.now x.jacobian.now x.values.now
+    let h = held_of x.words.now x.scalars.now x.job.now x.surfaces.now x.jacobian.now x.values.now
     x.residuals.now x.plus_residuals.now x.params.now x.candidate.now x.best_surfaces.now x.best_values.now
     x.best_residuals.now in
     let r = row_from h in
@@ -60,15 +59,14 @@ turned-next-requires c =
     let t = turnable _ (length l) r e
     c.if-refused-gt0.false in record {
       fact_1 = t.long;
-      fact_2 = search rules;
-      fact_3 = ap (λ (k : ℕ). job_taken (held_job x.counts.now x.numbers.now k)) c.kind-kind.ensures ∙ job-taken r t.sound;
-      fact_4 = rw c.head_of-h.ensures (column-below r t.sound);
+      fact_2 = ap (λ (k : ℕ). job_taken (held_job x.job.now.counts x.job.now.numbers k)) c.kind-kind.ensures ∙ job-taken r t.sound;
+      fact_3 = rw c.head_of-h.ensures (column-below r t.sound);
     }
 
 pub zero_first-requires : goal.zero_first-requires
 zero_first-requires c =
     let x = c.args in
-    let h = held_of x.words.now x.scalars.now x.counts.now x.numbers.now x.surfaces.now x.jacobian.now x.values.now
+    let h = held_of x.words.now x.scalars.now x.job.now x.surfaces.now x.jacobian.now x.values.now
     x.residuals.now x.plus_residuals.now x.params.now x.candidate.now x.best_surfaces.now x.best_values.now
     x.best_residuals.now in
     let r = row_from h in
@@ -82,7 +80,7 @@ pub returns : goal.returns
 unfolding turned_row scratch_of Turn.turned advance pending_surfaces
 returns c =
     let x = c.args in
-    let h = held_of x.words.now x.scalars.now x.counts.now x.numbers.now x.surfaces.now x.jacobian.now x.values.now
+    let h = held_of x.words.now x.scalars.now x.job.now x.surfaces.now x.jacobian.now x.values.now
     x.residuals.now x.plus_residuals.now x.params.now x.candidate.now x.best_surfaces.now x.best_values.now
     x.best_residuals.now in
     let r = row_from h in
@@ -90,7 +88,7 @@ returns c =
     let e = c.turn_number-refused.ensures (others_of h) in
     let n = turn_row_number (length l) r in
     let k = c.kind-kind.result in
-    let j = job_record_from x.counts.now x.numbers.now in
+    let j = job_record_from x.job.now.counts x.job.now.numbers in
     let t = c.turned-next.ensures in (
       zero-by _ n e
           c.if-refused-gt0.false,
@@ -101,7 +99,7 @@ returns c =
           (c.kind-kind.ensures i)
           ((ap (λ (m : ℕ). m + 1)
           c.turns-turns.ensures ∙ add-one (turns_from x.words.now)) i)
-          (turned_by (held_job x.counts.now x.numbers.now
+          (turned_by (held_job x.job.now.counts x.job.now.numbers
           (c.kind-kind.ensures i))
           (state_from
           (c.head_of-h.ensures i) x.surfaces.now x.jacobian.now

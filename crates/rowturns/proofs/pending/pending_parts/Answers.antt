@@ -29,7 +29,7 @@ pub returns-then-number-gt0 : goal.returns-then-number-gt0
 unfolding pending_of
 returns-then-number-gt0 c = λ jacobian values residuals plus bv br.
     let x = c.args in
-    let h = held_of x.words.now x.scalars.now x.counts.now x.numbers.now x.surfaces.now jacobian values residuals plus x.params.now
+    let h = held_of x.words.now x.scalars.now x.job.now x.surfaces.now jacobian values residuals plus x.params.now
     x.candidate.now x.best_surfaces.now bv br in
     let r = row_from h in
     let n = turn_row_number scratch_length r in
@@ -43,13 +43,13 @@ returns-then-number-gt0 c = λ jacobian values residuals plus bv br.
 pub pending_surfaces-requires : goal.pending_surfaces-requires
 pending_surfaces-requires c =
     let x = c.args in
-    let h = held_of x.words.now x.scalars.now x.counts.now x.numbers.now x.surfaces.now [] [] [] [] x.params.now x.candidate.now
+    let h = held_of x.words.now x.scalars.now x.job.now x.surfaces.now [] [] [] [] x.params.now x.candidate.now
     x.best_surfaces.now [] [] in
     let r = row_from h in
     let t = turnable _ scratch_length r (c.turn_number-number.ensures (others_of h))
     c.if-number-gt0.false in
     let n = (passed (job_of_row r) (job-taken r t.sound)).counted in
-    record { fact_1 = n.variables; fact_2 = search rules; fact_3 = rw c.head_of-h.ensures (column-below r t.sound); fact_4 = search rules }
+    record { fact_1 = n.variables; fact_2 = rw c.head_of-h.ensures (column-below r t.sound); fact_3 = search rules }
 
 pub stand-pending-requires : goal.stand-pending-requires
 stand-pending-requires c = omega (arith, c.pending_surfaces.ensures.fact_2.long)
@@ -57,25 +57,25 @@ stand-pending-requires c = omega (arith, c.pending_surfaces.ensures.fact_2.long)
 pub merit_at-requires : goal.merit_at-requires
 merit_at-requires c =
     let x = c.args in
-    let h = held_of x.words.now x.scalars.now x.counts.now x.numbers.now x.surfaces.now [] [] [] [] x.params.now x.candidate.now
+    let h = held_of x.words.now x.scalars.now x.job.now x.surfaces.now [] [] [] [] x.params.now x.candidate.now
     x.best_surfaces.now [] [] in
     let r = row_from h in
     let t = turnable _ scratch_length r (c.turn_number-number.ensures (others_of h))
     c.if-number-gt0.false in
     let n = (passed (job_of_row r) (job-taken r t.sound)).counted in
-    record { fact_1 = n.surfaces; fact_2 = n.operands; fact_3 = search rules; fact_4 = operands-known (job_of_row r) (job-taken r t.sound) }
+    record { fact_1 = n.surfaces; fact_2 = n.operands; fact_3 = operands-known (job_of_row r) (job-taken r t.sound) }
 
 pub returns : goal.returns
 unfolding pending_of pending_surfaces
 returns c = λ jacobian values residuals plus bv br.
     let x = c.args in
-    let h = held_of x.words.now x.scalars.now x.counts.now x.numbers.now x.surfaces.now jacobian values residuals plus x.params.now
+    let h = held_of x.words.now x.scalars.now x.job.now x.surfaces.now jacobian values residuals plus x.params.now
     x.candidate.now x.best_surfaces.now bv br in
     let r = row_from h in
     let n = turn_row_number scratch_length r in
     let e = c.turn_number-number.ensures (others_of h) in
     let going = c.if-number-gt0.false in
-    let job : ℕ → Job = λ kind. held_job x.counts.now x.numbers.now kind in
+    let job : ℕ → Job = λ kind. held_job x.job.now.counts x.job.now.numbers kind in
     let state : RowHead → State =
     λ head. state_from head x.surfaces.now jacobian values residuals plus x.params.now x.candidate.now x.best_surfaces.now bv br in
     let pending : c.stand-pending.result ≡ pending_surfaces r =

@@ -14,61 +14,62 @@ use Rattle.held.specs.JobFrom.{operand_count_from, settings_from, variables_from
 use Rattle.held.specs.RowFrom.{damped_from, state_from}
 use Rattle.runs.specs.JobMerit.{evaluate_of}
 use Rattle.heldmerit.proofs.HeldOver.{merit-held}
+use native.Mathlib.Omega.{arith}
 use Rattle.turns.proofs.advance.advance_annealing.Goals as goal
 
-pub returns-then-phase-eq5 : goal.returns-then-phase-eq5
+pub returns-in-5 : goal.returns-in-5
 unfolding Annealing.advance Annealing.phase_of
-returns-then-phase-eq5 c =
+returns-in-5 c =
     let x = c.args in
-    let a = (annealer_of (held_job x.counts.now x.numbers.now 3) (annealing_config (settings_from x.counts.now x.numbers.now))) in record {
+    let a = (annealer_of (held_job x.job.now.counts x.job.now.numbers 3) (annealing_config (settings_from x.job.now.counts x.job.now.numbers))) in record {
       fact_1 = λ k lens w. c.advance_walk_first.ensures a
           (sym c.annealing_config-config.ensures) refl
-          x.h (evaluate_of (held_job x.counts.now x.numbers.now k) lens)
+          x.h (evaluate_of (held_job x.job.now.counts x.job.now.numbers k) lens)
           (sym (merit-held _ _ _ c.merit_of-merit.ensures k lens w))
           ∙ ap (λ (n : ℕ). Annealing.advance_at a (Annealing.phase_of n)
           (state_from x.h x.surfaces.now x.jacobian.now x.values.now x.residuals.now x.plus_residuals.now x.params.now
           x.candidate.now x.best_surfaces.now x.best_values.now x.best_residuals.now)
-          (evaluate_of (held_job x.counts.now x.numbers.now k) lens))
-          (sym c.if-phase-eq5.true);
+          (evaluate_of (held_job x.job.now.counts x.job.now.numbers k) lens))
+          (sym c.in-5.is);
       fact_2 = kept_same x.scratch.now;
     }
 
-pub returns-then-phase-eq6 : goal.returns-then-phase-eq6
+pub returns-in-6 : goal.returns-in-6
 unfolding Annealing.advance Annealing.phase_of
-returns-then-phase-eq6 c =
+returns-in-6 c =
     let x = c.args in
-    let a = (annealer_of (held_job x.counts.now x.numbers.now 3) (annealing_config (settings_from x.counts.now x.numbers.now))) in record {
+    let a = (annealer_of (held_job x.job.now.counts x.job.now.numbers 3) (annealing_config (settings_from x.job.now.counts x.job.now.numbers))) in record {
       fact_1 = λ k lens w. c.advance_walk.ensures a
           (sym c.annealing_config-config.ensures)
-          refl (evaluate_of (held_job x.counts.now x.numbers.now k) lens)
-          (sym (merit-held _ _ _ c.merit_of-merit-then-phase-eq6.ensures k lens w))
+          refl (evaluate_of (held_job x.job.now.counts x.job.now.numbers k) lens)
+          (sym (merit-held _ _ _ c.merit_of-merit-in-6.ensures k lens w))
           ∙ ap (λ (n : ℕ). Annealing.advance_at a (Annealing.phase_of n)
           (state_from x.h x.surfaces.now x.jacobian.now x.values.now x.residuals.now x.plus_residuals.now x.params.now
           x.candidate.now x.best_surfaces.now x.best_values.now x.best_residuals.now)
-          (evaluate_of (held_job x.counts.now x.numbers.now k) lens))
-          (sym c.if-phase-eq6.true);
+          (evaluate_of (held_job x.job.now.counts x.job.now.numbers k) lens))
+          (sym c.in-6.is);
       fact_2 = kept_same x.scratch.now;
     }
 
-pub returns : goal.returns
+pub returns-in_default : goal.returns-in_default
 unfolding Annealing.advance Annealing.advance_at
-returns c =
+returns-in_default c =
     let x = c.args in
-    let a = (annealer_of (held_job x.counts.now x.numbers.now 3) (annealing_config (settings_from x.counts.now x.numbers.now))) in
+    let a = (annealer_of (held_job x.job.now.counts x.job.now.numbers 3) (annealing_config (settings_from x.job.now.counts x.job.now.numbers))) in
     let p = c.advance_part.ensures in record {
       fact_1 = λ k lens w. p.fact_1 k lens w x.best_surfaces.now x.best_values.now x.best_residuals.now
           ∙ ap (λ (l : DlsConfig). with_damped (state_from x.h x.surfaces.now x.jacobian.now x.values.now x.residuals.now
           x.plus_residuals.now x.params.now x.candidate.now x.best_surfaces.now x.best_values.now x.best_residuals.now)
-          (Damped.advance (optimizer l (variables_from x.counts.now x.numbers.now) (operand_count_from x.counts.now))
+          (Damped.advance (optimizer l (variables_from x.job.now.counts x.job.now.numbers) (operand_count_from x.job.now.counts))
           (damped_from x.h.damped x.surfaces.now x.jacobian.now x.values.now x.residuals.now x.plus_residuals.now x.params.now
-          x.candidate.now) (evaluate_of (held_job x.counts.now x.numbers.now k) lens)))
+          x.candidate.now) (evaluate_of (held_job x.job.now.counts x.job.now.numbers k) lens)))
           c.polish_settings.ensures
           ∙ ap (λ (f : Annealing.Phase). Annealing.advance_at a f
           (state_from x.h x.surfaces.now x.jacobian.now x.values.now x.residuals.now x.plus_residuals.now x.params.now
           x.candidate.now x.best_surfaces.now x.best_values.now x.best_residuals.now)
-          (evaluate_of (held_job x.counts.now x.numbers.now k) lens))
+          (evaluate_of (held_job x.job.now.counts x.job.now.numbers k) lens))
           (sym (polish-phase x.h.damped.phase
-          c.if-phase-eq5.false
-          c.if-phase-eq6.false));
+          (λ e. omega arith)
+          (λ e. omega arith)));
       fact_2 = p.fact_2;
     }

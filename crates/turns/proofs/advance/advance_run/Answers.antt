@@ -10,56 +10,57 @@ use Rattle.kinds.specs.Methods.{is-damped, is-multi-start, is-annealing}
 use Rattle.held.specs.JobFrom.{operand_count_from, settings_from, variables_from, held_job}
 use Rattle.held.specs.RowFrom.{damped_from, state_from}
 use Rattle.runs.specs.JobMerit.{evaluate_of}
+use native.Mathlib.Omega.{arith}
 use Rattle.turns.proofs.advance.advance_run.Goals as goal
 
-pub returns-then-kind-eq1 : goal.returns-then-kind-eq1
+pub returns-in-1 : goal.returns-in-1
 unfolding advance_by
-returns-then-kind-eq1 c =
+returns-in-1 c =
     let x = c.args in
     let a = c.advance_part.ensures in record {
       fact_1 = λ k lens w. a.fact_1 k lens w x.best_surfaces.now x.best_values.now x.best_residuals.now
           ∙ ap (λ (l : DlsConfig). with_damped (state_from x.h x.surfaces.now x.jacobian.now x.values.now x.residuals.now
           x.plus_residuals.now x.params.now x.candidate.now x.best_surfaces.now x.best_values.now x.best_residuals.now)
-          (Damped.advance (optimizer l (variables_from x.counts.now x.numbers.now) (operand_count_from x.counts.now))
+          (Damped.advance (optimizer l (variables_from x.job.now.counts x.job.now.numbers) (operand_count_from x.job.now.counts))
           (damped_from x.h.damped x.surfaces.now x.jacobian.now x.values.now x.residuals.now x.plus_residuals.now x.params.now
-          x.candidate.now) (evaluate_of (held_job x.counts.now x.numbers.now k) lens)))
-          c.dls_config-config.ensures
-          ∙ ap (λ (m : Method). advance_by m (held_job x.counts.now x.numbers.now x.kind)
+          x.candidate.now) (evaluate_of (held_job x.job.now.counts x.job.now.numbers k) lens)))
+          c.dls_config.ensures
+          ∙ ap (λ (m : Method). advance_by m (held_job x.job.now.counts x.job.now.numbers x.kind)
           (state_from x.h x.surfaces.now x.jacobian.now x.values.now x.residuals.now x.plus_residuals.now x.params.now
           x.candidate.now x.best_surfaces.now x.best_values.now x.best_residuals.now)
-          (evaluate_of (held_job x.counts.now x.numbers.now k) lens))
-          (sym (is-damped x.kind (settings_from x.counts.now x.numbers.now)
-          c.if-kind-eq1.true));
+          (evaluate_of (held_job x.job.now.counts x.job.now.numbers k) lens))
+          (sym (is-damped x.kind (settings_from x.job.now.counts x.job.now.numbers)
+          c.in-1.is));
       fact_2 = a.fact_2;
     }
 
-pub returns-then-kind-eq2 : goal.returns-then-kind-eq2
+pub returns-in-2 : goal.returns-in-2
 unfolding advance_by
-returns-then-kind-eq2 c =
+returns-in-2 c =
     let x = c.args in
     let a = c.advance_trials.ensures in record {
       fact_1 = λ k lens w. a.fact_1 k lens w
-          ∙ ap (λ (m : Method). advance_by m (held_job x.counts.now x.numbers.now x.kind)
+          ∙ ap (λ (m : Method). advance_by m (held_job x.job.now.counts x.job.now.numbers x.kind)
           (state_from x.h x.surfaces.now x.jacobian.now x.values.now x.residuals.now x.plus_residuals.now x.params.now
           x.candidate.now x.best_surfaces.now x.best_values.now x.best_residuals.now)
-          (evaluate_of (held_job x.counts.now x.numbers.now k) lens))
-          (sym (is-multi-start x.kind (settings_from x.counts.now x.numbers.now)
-          c.if-kind-eq2.true));
+          (evaluate_of (held_job x.job.now.counts x.job.now.numbers k) lens))
+          (sym (is-multi-start x.kind (settings_from x.job.now.counts x.job.now.numbers)
+          c.in-2.is));
       fact_2 = a.fact_2;
     }
 
-pub returns : goal.returns
+pub returns-in_default : goal.returns-in_default
 unfolding advance_by
-returns c =
+returns-in_default c =
     let x = c.args in
     let a = c.advance_annealing.ensures in record {
       fact_1 = λ k lens w. a.fact_1 k lens w
-          ∙ ap (λ (m : Method). advance_by m (held_job x.counts.now x.numbers.now x.kind)
+          ∙ ap (λ (m : Method). advance_by m (held_job x.job.now.counts x.job.now.numbers x.kind)
           (state_from x.h x.surfaces.now x.jacobian.now x.values.now x.residuals.now x.plus_residuals.now x.params.now
           x.candidate.now x.best_surfaces.now x.best_values.now x.best_residuals.now)
-          (evaluate_of (held_job x.counts.now x.numbers.now k) lens))
-          (sym (is-annealing x.kind (settings_from x.counts.now x.numbers.now)
-          c.if-kind-eq1.false
-          c.if-kind-eq2.false));
+          (evaluate_of (held_job x.job.now.counts x.job.now.numbers k) lens))
+          (sym (is-annealing x.kind (settings_from x.job.now.counts x.job.now.numbers)
+          (λ e. omega arith)
+          (λ e. omega arith)));
       fact_2 = a.fact_2;
     }

@@ -17,23 +17,22 @@ pub pending_surfaces-requires : goal.pending_surfaces-requires
 pending_surfaces-requires c =
     let x = c.args in
     let pre = c.requires in
-    let job = held_job x.counts.now x.numbers.now x.kind in
-    let n = (passed job pre.fact_3).counted in
-    record { fact_1 = n.variables; fact_2 = pre.fact_2; fact_3 = pre.fact_4; fact_4 = omega (arith, pre.fact_1) }
+    let job = held_job x.job.now.counts x.job.now.numbers x.kind in
+    let n = (passed job pre.fact_2).counted in
+    record { fact_1 = n.variables; fact_2 = pre.fact_3; fact_3 = omega (arith, pre.fact_1) }
 
 pub values_of-found-requires : goal.values_of-found-requires
 values_of-found-requires c =
     let x = c.args in
     let pre = c.requires in
-    let job = held_job x.counts.now x.numbers.now x.kind in
-    let n = (passed job pre.fact_3).counted in
+    let job = held_job x.job.now.counts x.job.now.numbers x.kind in
+    let n = (passed job pre.fact_2).counted in
     let k = c.pending_surfaces.ensures.fact_2 in
     record {
       fact_1 = omega (arith, n.surfaces, k.long, pre.fact_1);
       fact_2 = n.surfaces;
       fact_3 = n.operands;
-      fact_4 = pre.fact_2;
-      fact_5 = operands-known job pre.fact_3;
+      fact_4 = operands-known job pre.fact_2;
     }
 
 pub advance_run-requires : goal.advance_run-requires
@@ -41,10 +40,10 @@ advance_run-requires c =
     let x = c.args in
     let pre =
     c.requires in
-    let job = held_job x.counts.now x.numbers.now x.kind in
-    let n = (passed job pre.fact_3).counted in
+    let job = held_job x.job.now.counts x.job.now.numbers x.kind in
+    let n = (passed job pre.fact_2).counted in
     let k = c.pending_surfaces.ensures.fact_2 in
-    record { fact_1 = omega (arith, k.long, pre.fact_1); fact_2 = n.variables; fact_3 = pre.fact_2; fact_4 = n.operands; fact_5 = pre.fact_4 }
+    record { fact_1 = omega (arith, k.long, pre.fact_1); fact_2 = n.variables; fact_3 = n.operands; fact_4 = pre.fact_3 }
 
 pub shape_of-scratch : goal.shape_of-scratch
 shape_of-scratch c =
@@ -55,12 +54,12 @@ returns c =
     let x = c.args in
     let pre =
     c.requires in
-    let job = held_job x.counts.now x.numbers.now x.kind in
-    let n = (passed job pre.fact_3).counted in
+    let job = held_job x.job.now.counts x.job.now.numbers x.kind in
+    let n = (passed job pre.fact_2).counted in
     let laid =
     c.pending_surfaces in
     let l = laid.new.flat in
-    let count = surface_count_from x.counts.now in
+    let count = surface_count_from x.job.now.counts in
     let found =
     c.values_of-found.ensures x.kind
     (standing l) (drop (4 * count) l) (lies l count n.surfaces (omega (arith, laid.ensures.fact_2.long, pre.fact_1))) in

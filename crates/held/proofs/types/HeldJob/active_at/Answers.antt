@@ -1,4 +1,4 @@
--- `held::sets::active_at` meets its contract: the loop's invariant: p of the variables passed are enabled, and p is at most q. Assumes nothing.
+-- `held::types::HeldJob::active_at` meets its contract: the loop's invariant: p of the variables passed are enabled, and p is at most q. Assumes nothing.
 use Prim.Native.Nat.{ℕ, ◌+◌, ◌≤◌}
 use mathlib.Core.Path.{◌≡◌, refl, sym, ap, ◌∙◌}
 use native.Mathlib.Omega.{arith}
@@ -12,8 +12,8 @@ use lib.ListN.{get_or-eq_default}
 use Rattle.floats.specs.Constants.{no_number}
 use Rattle.variables.specs.Active.{no_variable, active, num_active}
 use Rattle.variables.proofs.ActiveLaws.{active-here}
-use Rattle.held.proofs.sets.active_at.Goals as goal
-use Rattle.held.proofs.sets.active_at.Goals.{then-d+else-p-q, else-d}
+use Rattle.held.proofs.types.HeldJob.active_at.Goals as goal
+use Rattle.held.proofs.types.HeldJob.active_at.Goals.{then-d+else-p-q, else-d}
 
 higher : (p q p' : ℕ) → p ≤ q → (p ≡ q → ⊥) → p' ≡ p + 1 → p' ≤ q
 higher p q p' h n e = elim (eq-or-lt_of_le h) [
@@ -23,52 +23,50 @@ higher p q p' h n e = elim (eq-or-lt_of_le h) [
 
 pub loop-i-init : goal.loop-i-init
 unfolding enabled_of
-loop-i-init c = (omega arith, c.variable_count-count.ensures, refl, omega arith)
+loop-i-init c = (c.variable_count-count.ensures, refl, omega arith)
 
 pub returns-then-p-q : goal.returns-then-p-q
 returns-then-p-q c =
     let x = c.args in
-    let v = variables_from x.counts.now x.numbers.now in
+    let v = variables_from x.self.now.counts x.self.now.numbers in
     let e = ap (λ (d : VariableDef). d.enabled) c.variable_at-d.ensures in
     c.variable_at-d.ensures ∙ sym (active-here v c.loop-i.i x.q (omega (
       arith,
-      c.loop-i.invariant.1,
+      c.loop-i.invariant.0,
     )) (sym e ∙ c.if-d.true)
-    (sym c.if-p-q.true ∙ c.loop-i.invariant.2))
+    (sym c.if-p-q.true ∙ c.loop-i.invariant.1))
 
 pub overflow_add-p : goal.overflow_add-p
 overflow_add-p c = let x = c.args in
     omega (
       arith,
-      c.loop-i.invariant.1,
-      count-le (variables_from x.counts.now x.numbers.now)
+      c.loop-i.invariant.0,
+      count-le (variables_from x.self.now.counts x.self.now.numbers)
           c.loop-i.i,
     )
 
 pub loop-i-preserved : goal.loop-i-preserved
 loop-i-preserved c =
     let x = c.args in
-    let v = variables_from x.counts.now x.numbers.now in
+    let v = variables_from x.self.now.counts x.self.now.numbers in
     let e = ap (λ (d : VariableDef). d.enabled) c.variable_at-d.ensures in
     elim c.if-d.branch [
       | then-d+else-p-q w ↦ (
-        omega arith,
-        c.loop-i.invariant.1,
-        omega (arith, w.p-is, c.loop-i.invariant.2, count-more v c.loop-i.i (sym e ∙ w.if-d.true)),
-        higher _ _ _ c.loop-i.invariant.3 w.if-p-q.false w.p-is,
+        c.loop-i.invariant.0,
+        omega (arith, w.p-is, c.loop-i.invariant.1, count-more v c.loop-i.i (sym e ∙ w.if-d.true)),
+        higher _ _ _ c.loop-i.invariant.2 w.if-p-q.false w.p-is,
       )
       | else-d w ↦ (
-        omega arith,
-        c.loop-i.invariant.1,
-        omega (arith, w.p-is, c.loop-i.invariant.2, count_past v c.loop-i.i (sym e ∙ w.if-d.false)),
-        omega (arith, w.p-is, c.loop-i.invariant.3),
+        c.loop-i.invariant.0,
+        omega (arith, w.p-is, c.loop-i.invariant.1, count_past v c.loop-i.i (sym e ∙ w.if-d.false)),
+        omega (arith, w.p-is, c.loop-i.invariant.2),
       )
     ]
 
 pub returns : goal.returns
 returns c =
     let x = c.args in
-    let v = variables_from x.counts.now x.numbers.now in
-    let e : c.loop-i.i ≡ variable_count_from x.counts.now = omega (arith, c.loop-i.invariant.1) in
-    let p : c.loop-i.p ≡ num_active v = rw e at c.loop-i.invariant.2 in
-    simp no_number (sym (get_or-eq_default (active v) no_variable {n = x.q} (omega (arith, p, c.loop-i.invariant.3))))
+    let v = variables_from x.self.now.counts x.self.now.numbers in
+    let e : c.loop-i.i ≡ variable_count_from x.self.now.counts = omega (arith, c.loop-i.invariant.0) in
+    let p : c.loop-i.p ≡ num_active v = rw e at c.loop-i.invariant.1 in
+    simp no_number (sym (get_or-eq_default (active v) no_variable {n = x.q} (omega (arith, p, c.loop-i.invariant.2))))
