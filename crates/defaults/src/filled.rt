@@ -28,9 +28,7 @@ fn local_defaults() -> DlsConfig
     DlsConfig {
         max_iterations: 20,
         initial_damping: 1.0,
-        relative_merit_tolerance: 1e-6,
-        gradient_tolerance: 1e-7,
-        finite_difference_relative_step: 1e-5,
+        ..damped_defaults()
     }
 }
 
@@ -41,9 +39,7 @@ pub fn polish_settings() -> DlsConfig
     DlsConfig {
         max_iterations: 25,
         initial_damping: 1.0,
-        relative_merit_tolerance: 1e-6,
-        gradient_tolerance: 1e-7,
-        finite_difference_relative_step: 1e-5,
+        ..damped_defaults()
     }
 }
 

@@ -19,6 +19,7 @@ fn variable_kind(t: VariableType) -> u64
     }
 }
 
+#[tactic(auto, unfolding(crate::specs::Entries::variable_type))]
 pub fn variable_type(kind: u64, i: usize) -> VariableType
     ensures { result ≡ variable_type kind i }
 {
@@ -50,6 +51,7 @@ fn follower_surface(f: Follower) -> usize
     }
 }
 
+#[tactic(auto, unfolding(crate::specs::Entries::follower_of))]
 pub fn follower_of(follows: u64, i: usize) -> Follower
     ensures { result ≡ follower_of follows i }
 {
@@ -167,6 +169,7 @@ fn limit_of(t: OperandType) -> f64
     }
 }
 
+#[tactic(auto, unfolding(crate::specs::Entries::slot_type))]
 fn slot_type(kind: u64, w: usize) -> OperandType
     ensures { result ≡ slot_type kind w }
 {
@@ -179,6 +182,7 @@ fn slot_type(kind: u64, w: usize) -> OperandType
     }
 }
 
+#[tactic(auto, unfolding(crate::specs::Entries::surface_type))]
 fn surface_type(kind: u64, i: usize, limit: f64) -> OperandType
     ensures { result ≡ surface_type kind i limit }
 {
@@ -198,6 +202,7 @@ fn surface_type(kind: u64, i: usize, limit: f64) -> OperandType
     }
 }
 
+#[tactic(auto, unfolding(crate::specs::Entries::operand_type))]
 pub fn operand_type(kind: u64, at: usize, limit: f64) -> OperandType
     ensures { result ≡ operand_type kind at limit }
 {

@@ -49,57 +49,66 @@ fn annealing_settings(c: SimulatedAnnealingConfig) -> SettingsRecord
     }
 }
 
-fn settings_record(m: Method) -> SettingsRecord
-    ensures { result ≡ settings_record m }
-{
-    match m {
-        Method::Damped(c) => dls_settings(c, 0, 0),
-        Method::MultiStart(c) => dls_settings(c.local_dls_config, c.num_trials, c.seed),
-        Method::Annealing(c) => annealing_settings(c),
+impl From<Method> for SettingsRecord {
+    ghost from_gives = { λ m s. s ≡ settings_record m };
+
+    fn from(m: Method) -> SettingsRecord {
+        match m {
+            Method::Damped(c) => dls_settings(c, 0, 0),
+            Method::MultiStart(c) => dls_settings(c.local_dls_config, c.num_trials, c.seed),
+            Method::Annealing(c) => annealing_settings(c),
+        }
     }
 }
 
-fn dls_config(s: SettingsRecord) -> DlsConfig
-    ensures { result ≡ dls_config s }
-{
-    DlsConfig {
-        max_iterations: s.max_iterations,
-        initial_damping: s.initial_damping,
-        relative_merit_tolerance: s.relative_merit_tolerance,
-        gradient_tolerance: s.gradient_tolerance,
-        finite_difference_relative_step: s.finite_difference_relative_step,
+impl From<SettingsRecord> for DlsConfig {
+    ghost from_gives = { λ s c. c ≡ dls_config s };
+
+    fn from(s: SettingsRecord) -> DlsConfig {
+        DlsConfig {
+            max_iterations: s.max_iterations,
+            initial_damping: s.initial_damping,
+            relative_merit_tolerance: s.relative_merit_tolerance,
+            gradient_tolerance: s.gradient_tolerance,
+            finite_difference_relative_step: s.finite_difference_relative_step,
+        }
     }
 }
 
-fn multi_start_config(s: SettingsRecord) -> MultiStartConfig
-    ensures { result ≡ multi_start_config s }
-{
-    MultiStartConfig {
-        local_dls_config: dls_config(s),
-        num_trials: s.num_trials,
-        seed: s.seed,
+impl From<SettingsRecord> for MultiStartConfig {
+    ghost from_gives = { λ s c. c ≡ multi_start_config s };
+
+    fn from(s: SettingsRecord) -> MultiStartConfig {
+        MultiStartConfig {
+            local_dls_config: s.into(),
+            num_trials: s.num_trials,
+            seed: s.seed,
+        }
     }
 }
 
-fn annealing_config(s: SettingsRecord) -> SimulatedAnnealingConfig
-    ensures { result ≡ annealing_config s }
-{
-    SimulatedAnnealingConfig {
-        initial_temperature: s.initial_temperature,
-        cooling_rate: s.cooling_rate,
-        steps_per_temperature: s.steps_per_temperature,
-        max_cooling_cycles: s.max_cooling_cycles,
-        seed: s.seed,
+impl From<SettingsRecord> for SimulatedAnnealingConfig {
+    ghost from_gives = { λ s c. c ≡ annealing_config s };
+
+    fn from(s: SettingsRecord) -> SimulatedAnnealingConfig {
+        SimulatedAnnealingConfig {
+            initial_temperature: s.initial_temperature,
+            cooling_rate: s.cooling_rate,
+            steps_per_temperature: s.steps_per_temperature,
+            max_cooling_cycles: s.max_cooling_cycles,
+            seed: s.seed,
+        }
     }
 }
 
+#[tactic(auto, unfolding(crate::specs::Records::method))]
 fn method_from(kind: u64, s: SettingsRecord) -> Method
     ensures { result ≡ method kind s }
 {
     match kind {
-        1 => Method::Damped(dls_config(s)),
-        2 => Method::MultiStart(multi_start_config(s)),
-        _ => Method::Annealing(annealing_config(s)),
+        1 => Method::Damped(s.into()),
+        2 => Method::MultiStart(s.into()),
+        _ => Method::Annealing(s.into()),
     }
 }
 
@@ -121,7 +130,7 @@ impl From<Job> for JobRecord {
             variable_count: job.variables.variable_count as u64,
             operand_count: job.merit_function.operand_count as u64,
             entrance_pupil_diameter_mm: job.prescription.entrance_pupil_diameter_mm,
-            settings: settings_record(job.method),
+            settings: job.method.into(),
         }
     }
 }

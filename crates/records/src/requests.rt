@@ -53,6 +53,7 @@ fn annealing_request(s: SettingsRecord, given: u64) -> SimulatedAnnealingRequest
     }
 }
 
+#[tactic(auto, unfolding(crate::specs::Requests::method_request))]
 fn method_request(kind: u64, s: SettingsRecord, given: u64) -> MethodRequest
     ensures { result ≡ method_request kind s given }
 {

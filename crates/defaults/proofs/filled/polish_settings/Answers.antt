@@ -1,6 +1,5 @@
--- `defaults::filled::polish_settings` meets its contract, by the numbers themselves. Assumes nothing.
-use mathlib.Core.Path.{refl}
+-- `defaults::filled::polish_settings` meets its contract: a damped job's defaults, but for the two numbers that differ. Assumes nothing.
 use Rattle.defaults.proofs.filled.polish_settings.Goals as goal
 
 pub returns : goal.returns
-returns c = refl
+returns c = rw c.damped_defaults.ensures

@@ -12,13 +12,11 @@ loop-k-init c = search rules
 
 pub loop-k-preserved : goal.loop-k-preserved
 loop-k-preserved c =
-    let x = c.args in (
-      c.swap.ensures.len ∙ c.loop-k.invariant.0,
-      c.swap.ensures.after
-          ∙ exchange-turn x.scratch.now x.a x.b x.n c.loop-k.k (search rules) (omega arith) c.loop-k.scratch c.loop-k.invariant.1 (omega arith),
-    )
+    let x = c.args in
+    c.swap.ensures.after
+    ∙ exchange-turn x.scratch.now x.a x.b x.n c.loop-k.k (search rules) (omega arith) c.loop-k.scratch c.loop-k.invariant (omega arith)
 
 pub returns : goal.returns
 returns c =
     let e : c.loop-k.k ≡ c.args.n = omega arith in
-    rw e at c.loop-k.invariant.1
+    rw e at c.loop-k.invariant

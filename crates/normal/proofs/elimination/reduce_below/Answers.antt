@@ -1,5 +1,5 @@
 -- `normal::elimination::reduce_below` meets its contract: a turn reduces one row. Assumes nothing.
-use mathlib.Core.Path.{◌≡◌, refl, sym, ap, ◌∙◌}
+use mathlib.Core.Path.{◌≡◌, sym, ap, ◌∙◌}
 use Prim.Native.Nat.{ℕ, suc, ◌+◌, ◌-◌, ◌<◌}
 use native.Mathlib.Omega.{arith}
 use mathlib.Core.List.{List}
@@ -22,19 +22,17 @@ more p c r pivot l h =
 pub loop-r-init : goal.loop-r-init
 loop-r-init c =
     let x = c.args in
-    (refl, none x.p x.c x.pivot x.scratch.now)
+    none x.p x.c x.pivot x.scratch.now
 
 pub loop-r-preserved : goal.loop-r-preserved
 loop-r-preserved c =
     let l = c in
-    let x = l.args in (
-      c.reduce_row.auto.scratch ∙ l.loop-r.invariant.0,
-      c.reduce_row.ensures
-          ∙ ap (row_reduced x.p x.c x.pivot l.loop-r.r) l.loop-r.invariant.1
-          ∙ more x.p x.c l.loop-r.r x.pivot x.scratch.now (omega arith),
-    )
+    let x = l.args in
+    c.reduce_row.ensures
+    ∙ ap (row_reduced x.p x.c x.pivot l.loop-r.r) l.loop-r.invariant
+    ∙ more x.p x.c l.loop-r.r x.pivot x.scratch.now (omega arith)
 
 pub returns : goal.returns
 returns c =
     let e : c.loop-r.r ≡ c.args.p = omega arith in
-    rw e at c.loop-r.invariant.1
+    rw e at c.loop-r.invariant

@@ -1,7 +1,6 @@
 -- `normal::products::gradient` meets its contract: the loop writes the gradient from its first entry on. Assumes nothing.
 use mathlib.Core.Path.{◌≡◌, refl}
 use native.Mathlib.Omega.{arith}
-use lib.ListN.{length-set}
 use Rattle.lists.specs.Tab.{tab}
 use Rattle.normal.proofs.Parts.{part_step}
 use Rattle.std.proofs.Common.{rules}
@@ -12,9 +11,9 @@ unfolding tab
 loop-i-init c = search rules
 
 pub loop-i-preserved : goal.loop-i-preserved
-loop-i-preserved c = (simp length-set (omega arith), part_step _ _ _ _ _ _ _ c.loop-i.invariant.1 refl c.column_gradient.ensures)
+loop-i-preserved c = part_step _ _ _ _ _ _ _ c.loop-i.invariant refl c.column_gradient.ensures
 
 pub returns : goal.returns
 returns c =
     let e : c.loop-i.i ≡ c.args.p = omega arith in
-    rw e at c.loop-i.invariant.1
+    rw e at c.loop-i.invariant

@@ -1,9 +1,8 @@
 -- `normal::products::gradient` meets its contract: the loop writes the gradient from its first entry on. Assumes nothing.
 use mathlib.Core.Path.{◌≡◌}
-use lib.ListN.{length}
 use Rattle.normal.specs.Jacobian.{jacobian_at, residual_at}
 use Rattle.normal.specs.Loops.{with_gradient}
 use Rattle.normal.proofs.products.gradient.Given as goal
 
 abbrev pub invariant-loop-i : goal.invariant-loop-i
-invariant-loop-i l = (length l.scratch ≡ length l.initial.scratch) × (l.scratch ≡ with_gradient l.m (jacobian_at l.jacobian) (residual_at l.residuals) l.i l.initial.scratch)
+invariant-loop-i l = l.scratch ≡ with_gradient l.m (jacobian_at l.jacobian) (residual_at l.residuals) l.i l.initial.scratch

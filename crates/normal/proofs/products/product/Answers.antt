@@ -14,9 +14,9 @@ pub loop-i-preserved : goal.loop-i-preserved
 unfolding with_products
 loop-i-preserved c =
     let l = c in
-    (c.product_row.auto.scratch ∙ l.loop-i.invariant.0, c.product_row.ensures ∙ rw (add-one, l.loop-i.invariant.1))
+    c.product_row.ensures ∙ rw (add-one, l.loop-i.invariant)
 
 pub returns : goal.returns
 returns c =
     let e : c.loop-i.i ≡ c.args.p = omega arith in
-    rw e at c.loop-i.invariant.1
+    rw e at c.loop-i.invariant

@@ -1,9 +1,8 @@
 -- `normal::products::product` meets its contract: a turn writes one row. Assumes nothing.
 use mathlib.Core.Path.{◌≡◌}
-use lib.ListN.{length}
 use Rattle.normal.specs.Jacobian.{jacobian_at}
 use Rattle.normal.specs.Loops.{with_products}
 use Rattle.normal.proofs.products.product.Given as goal
 
 abbrev pub invariant-loop-i : goal.invariant-loop-i
-invariant-loop-i l = (length l.scratch ≡ length l.initial.scratch) × (l.scratch ≡ with_products l.m (jacobian_at l.jacobian) l.i l.initial.scratch)
+invariant-loop-i l = l.scratch ≡ with_products l.m (jacobian_at l.jacobian) l.i l.initial.scratch

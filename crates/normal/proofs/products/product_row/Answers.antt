@@ -15,9 +15,9 @@ pub loop-j-preserved : goal.loop-j-preserved
 unfolding with_product_row
 loop-j-preserved c =
     let l = c in
-    (c.write_product.auto.scratch ∙ l.loop-j.invariant.0, c.write_product.ensures ∙ rw (add-one, l.loop-j.invariant.1))
+    c.write_product.ensures ∙ rw (add-one, l.loop-j.invariant)
 
 pub returns : goal.returns
 returns c =
     let e : c.loop-j.j ≡ suc c.args.i = omega arith in
-    rw e at c.loop-j.invariant.1
+    rw e at c.loop-j.invariant

@@ -14,9 +14,9 @@ pub loop-i-preserved : goal.loop-i-preserved
 unfolding with_system
 loop-i-preserved c =
     let l = c in
-    (c.system_row.auto.scratch ∙ l.loop-i.invariant.0, c.system_row.ensures ∙ rw (add-one, l.loop-i.invariant.1))
+    c.system_row.ensures ∙ rw (add-one, l.loop-i.invariant)
 
 pub returns : goal.returns
 returns c =
     let e : c.loop-i.i ≡ c.args.p = omega arith in
-    rw e at c.loop-i.invariant.1
+    rw e at c.loop-i.invariant

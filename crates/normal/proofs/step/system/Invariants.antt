@@ -1,8 +1,7 @@
 -- `normal::step::system` meets its contract: a turn lays out one row. Assumes nothing.
 use mathlib.Core.Path.{◌≡◌}
-use lib.ListN.{length}
 use Rattle.normal.specs.Loops.{with_system}
 use Rattle.normal.proofs.step.system.Given as goal
 
 abbrev pub invariant-loop-i : goal.invariant-loop-i
-invariant-loop-i l = (length l.scratch ≡ length l.initial.scratch) × (l.scratch ≡ with_system l.p l.damping l.i l.initial.scratch)
+invariant-loop-i l = l.scratch ≡ with_system l.p l.damping l.i l.initial.scratch

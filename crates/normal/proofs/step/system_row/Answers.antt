@@ -2,7 +2,6 @@
 use mathlib.Core.Path.{◌≡◌}
 use Prim.Native.Nat.{◌+◌}
 use native.Mathlib.Omega.{arith}
-use lib.ListN.{length-set}
 use Rattle.lists.specs.Tab.{tab}
 use Rattle.normal.specs.Loops.{with_system_row}
 use Rattle.normal.proofs.System.{row-turn}
@@ -16,14 +15,12 @@ loop-j-init c = search rules
 pub loop-j-preserved : goal.loop-j-preserved
 loop-j-preserved c =
     let l = c in
-    let x = l.args in (
-      simp length-set (omega arith),
-      row-turn x.scratch.now l.loop-j.scratch x.p x.i l.loop-j.j _ x.damping _ (search rules)
-          (omega arith) (search rules) l.system_place-first.ensures l.loop-j.invariant.1 c.system_entry.ensures,
-    )
+    let x = l.args in
+    row-turn x.scratch.now l.loop-j.scratch x.p x.i l.loop-j.j _ x.damping _ (search rules)
+    (omega arith) (search rules) l.system_place-first.ensures l.loop-j.invariant c.system_entry.ensures
 
 pub returns : goal.returns
 unfolding with_system_row
 returns c =
     let e : c.loop-j.j ≡ c.args.p + 1 = omega arith in
-    rw e at c.loop-j.invariant.1
+    rw e at c.loop-j.invariant

@@ -25,5 +25,5 @@ returns c =
       variable_count = j.variables.variable_count;
       operand_count = j.merit_function.operand_count;
       entrance_pupil_diameter_mm = j.prescription.entrance_pupil_diameter_mm;
-      settings = c.settings_record.ensures i;
+      settings = c.into.ensures i;
     }
