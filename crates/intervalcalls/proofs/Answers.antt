@@ -67,7 +67,8 @@ module _ (p : OpticalPrescription) (l : ThicknessLimits) (slot : ℕ) where
     unfolding limits_traced
     limits-kept r e = go (limits_number p l slot) refl e
       where
-        go : (n : ℕ) → limits_number p l slot ≡ n → Err (number_of r) ≡ limited_by n new → (number_of r ≡ limits_number p l slot) × (old ≡ limits_as old p l slot)
+        go : (n : ℕ) → limits_number p l slot ≡ n → Err (number_of r) ≡ limited_by n new
+            → (number_of r ≡ limits_number p l slot) × (old ≡ limits_as old p l slot)
         go zero q f = absurd (cc)
         go (suc n) q f = (cc, sym (ap (λ (k : ℕ). unless_refused k new old) q))
 

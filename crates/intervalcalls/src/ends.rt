@@ -11,22 +11,18 @@ pub(crate) fn exact(x: f64) -> Interval
 }
 
 // The first is kept on ties.
+#[tactic(auto, unfolding(intervals::specs::Interval::lesser))]
 fn lesser_of(a: f64, b: f64) -> f64
     ensures { result ≡ lesser a b }
 {
-    if b < a {
-        return b;
-    }
-    a
+    if b < a { b } else { a }
 }
 
+#[tactic(auto, unfolding(intervals::specs::Interval::greater))]
 fn greater_of(a: f64, b: f64) -> f64
     ensures { result ≡ greater a b }
 {
-    if a < b {
-        return b;
-    }
-    a
+    if a < b { b } else { a }
 }
 
 pub(crate) fn product(a: Interval, b: Interval) -> Interval
@@ -68,6 +64,7 @@ pub(crate) fn quotient(a: Interval, n: f64) -> Interval
     }
 }
 
+#[tactic(auto, unfolding(intervals::specs::Interval::ends_finite))]
 pub(crate) fn ends_finite(a: Interval) -> bool
     ensures { result ≡ ends_finite a }
 {

@@ -32,7 +32,8 @@ pub struct ArrivingLimits {
     pub n: f64,
 }
 
-// The ray as it arrives at the next surface, and whether every interval of the refraction, and of the transfer, has finite ends.
+// The ray as it arrives at the next surface, and whether every interval of the refraction, and of the transfer, has finite ends. No Option: the last
+// surface has the slope, and asks nothing of the transfer behind it.
 #[derive(Clone, Copy)]
 pub struct PassedLimits {
     pub ray: ArrivingLimits,

@@ -1,5 +1,5 @@
 // The two calls that stand alone, lent what is the caller's own: by value, with what stood there before.
-// Stands on `meritcalls`; called by `exports` and `replay`.
+// Stands on `meritcalls`; called by `replay`.
 #![tactic(auto)]
 
 ghost use Rattle.std.specs.Prelude.{◌≡◌, min};

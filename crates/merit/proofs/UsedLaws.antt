@@ -91,7 +91,9 @@ module _ (p q : OpticalPrescription) (s : SameLens p q) where
     trace-answers-same rows = λ i. answer_of (number-agrees rows i) (s.count i)
 
     pub traced-same : (old : List ParaxialRay) → traced_rays p slot old ≡ traced_rays q slot old
-    traced-same old = go (trace_answer p slot (length old)) refl ∙ ap (λ (a : Result Traced ℕ). traced_row a (lens_trace q slot) old) (trace-answers-same (length old))
+    traced-same old =
+        go (trace_answer p slot (length old)) refl
+        ∙ ap (λ (a : Result Traced ℕ). traced_row a (lens_trace q slot) old) (trace-answers-same (length old))
       where
         go : (a : Result Traced ℕ) → trace_answer p slot (length old) ≡ a → traced_row a (lens_trace p slot) old ≡ traced_row a (lens_trace q slot) old
         go (Ok Done) e =

@@ -15,7 +15,8 @@ use Rattle.merit.specs.declared.types.OperandType.TheVariants.{EffectiveFocalLen
 use Rattle.merit.specs.declared.types.OperandType.TheVariants.{MinCenterThickness, MaxCenterThickness, MinEdgeThickness}
 
 -- a value turns on the trace of the slot that its operand names, and on no other
-pub value_same : (earlier : List Float) (slot slot' : ℕ → Option ParaxialProperties) (surface : ℕ → OpticalSurface) (count : ℕ) (kind : OperandType) → T (slot_known kind)
+pub value_same : (earlier : List Float) (slot slot' : ℕ → Option ParaxialProperties) (surface : ℕ → OpticalSurface) (count : ℕ) (kind : OperandType)
+    → T (slot_known kind)
     → (slot_named kind < 4 → slot (slot_named kind) ≡ slot' (slot_named kind))
     → value_of earlier slot surface count kind ≡ value_of earlier slot' surface count kind
 unfolding value_of

@@ -7,7 +7,7 @@ use lib.Ieee.{Float}
 use lib.ListN.{length, replicate, drop, length-append}
 use borrow.Author.Tests.{lt-ltb, le-ltb}
 use Rattle.floats.specs.Constants.{zero64}
-use Rattle.lists.specs.Tab.{tab, length-tab, tab-same}
+use Rattle.lists.specs.Tab.{tab, tab-same}
 use Rattle.optics.specs.Flat.{laid_flat}
 use Rattle.optics.specs.FlatLaws.{length-laid, flat-laid}
 use Rattle.optics.specs.TraceLaws.{ray-same, rays-are}
@@ -104,6 +104,3 @@ module _ (p : OpticalPrescription) (slot : ℕ) (old : List ParaxialRay) where
 
     pub trace-done : 2 ≤ p.surface_count → (Ok Done ≡ trace_answer p slot (length old)) × (lens_trace p slot ≡ traced_rays p slot old)
     trace-done many = answered_as (Ok Done) (lens_trace p slot) (rw (e, le-ltb p.surface_count 2 many) refl) refl
-
-pub row-long : (hs us : List Float) (old : List ParaxialRay) → length (rays_of hs us (length old)) ≡ length old
-row-long hs us old = length-tab _ (length old)

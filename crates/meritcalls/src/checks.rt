@@ -30,6 +30,7 @@ fn kind_taken(slots: usize, kind: OperandType) -> bool
     }
 }
 
+#[tactic(auto, unfolding(merit::specs::Check::weight_taken))]
 fn weight_taken(x: f64) -> bool
     ensures { result ≡ weight_taken x }
 {

@@ -9,6 +9,7 @@ use crate::operands::value_of;
 use merit::{MeritEvaluation, MeritFunction, MeritOperand, WeightRoot};
 
 // A value's distance from the operand's target, at most a million either way.
+#[tactic(auto, unfolding(merit::specs::Evaluation::difference))]
 pub fn difference_of(o: MeritOperand, value: f64) -> f64
     ensures { result ≡ difference o value }
 {

@@ -1,5 +1,5 @@
 // The code of `merit`: operands, evaluations, refusal 5, and the two calls that stand alone, evaluate and trace.
-// Stands on `merit`; called by `heldmerit` for runs, by `lending`, `exports` and `intervals` for callers, by `jobs` and `helddamage` (refusal 5).
+// Stands on `merit`; called by `heldmerit` for runs, by `lending`, `exports` and `intervalcalls` for callers, by `jobs` and `helddamage` (refusal 5).
 #![tactic(auto)]
 
 mod calls;

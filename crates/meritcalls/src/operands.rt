@@ -10,15 +10,14 @@ use merit::OperandType;
 use optics::ParaxialProperties;
 
 // A number where it is finite, else what counts in its place.
+#[tactic(auto, unfolding(merit::specs::Operands::finite_or))]
 fn finite_or(other: f64, x: f64) -> f64
     ensures { result ≡ finite_or other x }
 {
-    if is_finite(x) {
-        return x;
-    }
-    other
+    if is_finite(x) { x } else { other }
 }
 
+#[tactic(auto, unfolding(merit::specs::Operands::is_focal_length))]
 fn is_focal_length(x: f64) -> bool
     ensures { result ≡ is_focal_length x }
 {
@@ -28,10 +27,7 @@ fn is_focal_length(x: f64) -> bool
 fn focal_length_or(other: f64, x: f64) -> f64
     ensures { result ≡ cond (is_focal_length x) x other }
 {
-    if is_focal_length(x) {
-        return x;
-    }
-    other
+    if is_focal_length(x) { x } else { other }
 }
 
 fn focal_length(slot: Option<ParaxialProperties>) -> f64
@@ -61,6 +57,7 @@ fn back_focus(slot: Option<ParaxialProperties>) -> f64
     }
 }
 
+#[tactic(auto, unfolding(merit::specs::Operands::is_magnified))]
 fn is_magnified(q: ParaxialProperties) -> bool
     ensures { result ≡ is_magnified q }
 {
@@ -97,6 +94,7 @@ fn total_track(flat: &[f64], count: usize) -> f64
     sum
 }
 
+#[tactic(auto, unfolding(merit::specs::Operands::shortfall))]
 fn shortfall_of(thickness: f64, limit: f64) -> f64
     ensures { result ≡ shortfall thickness limit }
 {
@@ -106,6 +104,7 @@ fn shortfall_of(thickness: f64, limit: f64) -> f64
     0.0
 }
 
+#[tactic(auto, unfolding(merit::specs::Operands::excess))]
 fn excess_of(thickness: f64, limit: f64) -> f64
     ensures { result ≡ excess thickness limit }
 {

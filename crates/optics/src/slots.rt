@@ -29,6 +29,7 @@ fn arriving_rays(flat: &[f64], indices: &[f64], count: usize, pupil: f64) -> [Ar
 {
     let mut rays = [start_of(pupil); 4];
     for k in 0..count {
+        // under a name: no proof is generated for a call's result that is laid in a local that is lent
         let next = next_rays(rays, flat, indices, k);
         rays = next;
     }

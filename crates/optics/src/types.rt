@@ -11,7 +11,7 @@ pub struct OpticalSurface {
 }
 
 // Surfaces in order, with one refractive index behind each surface for each wavelength slot: that of
-// surface i in slot w stands at `indices[i * 4 + w]`, whatever the slot count.
+// surface i in slot w stands at `indices[i * 4 + w]`, whatever the slot count. Arrays and counts, and no Vec: the calls have fixed memory alone.
 #[derive(Clone, Copy)]
 pub struct OpticalPrescription {
     pub surfaces: [OpticalSurface; 16],

@@ -1,10 +1,15 @@
 -- `floats::basic::is_finite` meets its contract. Assumes nothing.
-use Rattle.floats.specs.Constants.{infinite, minus-infinite}
-use Rattle.floats.specs.BasicLaws.{finite-yes, finite-no}
+use mathlib.Core.Path.{◌≡◌, refl, ◌∙◌}
+use lib.Ieee.{Float, nan, inf, fin}
+use Rattle.std.specs.Float.{float_is_finite}
+use Rattle.floats.specs.Basic.{finite_of}
 use Rattle.floats.proofs.basic.is_finite.Goals as goal
 
-pub returns-then-x : goal.returns-then-x
-returns-then-x c = rw minus-infinite (finite-yes _ (rw infinite at c.if-x.true))
+same : (x : Float) → float_is_finite x ≡ finite_of x
+unfolding float_is_finite finite_of
+same nan = refl
+same (inf s) = refl
+same (fin s m e) = refl
 
-pub returns-else-x : goal.returns-else-x
-returns-else-x c = rw infinite (finite-no _ (rw infinite at c.if-x.false))
+pub returns : goal.returns
+returns c = c.is_finite.ensures.value ∙ same c.args.x

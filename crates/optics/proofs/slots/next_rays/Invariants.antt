@@ -10,4 +10,5 @@ use Rattle.optics.specs.Trace.{onward}
 use Rattle.optics.proofs.slots.next_rays.Given as goal
 
 abbrev pub invariant-loop-w : goal.invariant-loop-w
-invariant-loop-w l = l.next ≡ tab (λ (w : ℕ). onward (flat_surface l.flat l.k) (slot_index l.indices w l.k) (get_or l.rays w no_arriving)) l.w ++ drop l.w l.rays
+invariant-loop-w l =
+    l.next ≡ tab (λ (w : ℕ). onward (flat_surface l.flat l.k) (slot_index l.indices w l.k) (get_or l.rays w no_arriving)) l.w ++ drop l.w l.rays
