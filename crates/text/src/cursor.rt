@@ -1,5 +1,6 @@
 // A line read field by field, without a test at each: at a field that is missing or out of form the cursor stays for good, with
-// what is wrong there, and whoever reads the line asks once, at its end.
+// what is wrong there, and whoever reads the line asks once, at its end. So it is no Result: each of some fifty reads would be a
+// test of its own.
 ghost use Rattle.std.specs.Prelude.{◌≡◌, ◌≤◌, ◌++◌, length, drop};
 ghost use Rattle.lists.specs.Tab.{tab};
 ghost use Rattle.text.specs.Words.{between};
