@@ -1,6 +1,7 @@
 // The settings of the three kinds of run, each of which may be left out, as `d`.
 ghost use Rattle.std.specs.Prelude.{◌≡◌};
-ghost use Rattle.joblines.specs.Settings.{setting_from, count_from, float_setting_from, damped_from, damped_method_from, multi_start_from, annealing_from, method_from};
+ghost use Rattle.joblines.specs.Settings.{setting_from, count_from, float_setting_from};
+ghost use Rattle.joblines.specs.Settings.{damped_from, damped_method_from, multi_start_from, annealing_from, method_from};
 
 use jobs::{DlsRequest, MethodRequest, MultiStartRequest, SimulatedAnnealingRequest};
 use text::cursor;
