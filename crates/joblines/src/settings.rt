@@ -112,7 +112,8 @@ fn read_annealing(line: &[u8], c: Cursor) -> Read<MethodRequest>
     }
 }
 
-// The settings of a kind; of none but the three there are any.
+// The settings of a kind; of none but the three there are any. The kind is the number that the line has, and no enum: a line of
+// another is read on, and told as out of form where its settings begin.
 pub(crate) fn read_method(line: &[u8], c: Cursor, kind: u64) -> Read<MethodRequest>
     ensures { result ≡ method_from line.now c kind }
 {
