@@ -79,7 +79,7 @@ pub fn put_number(
     output::put_decimal(console, out, waiting, number)
 }
 
-// A name, a count, and so many floats of a row.
+// A name, a count, and so many floats of a row. The count is put as it stands, also past the row: so it is no slice's length.
 pub fn put_row(
     console: Console,
     out: &mut [u8],

@@ -46,7 +46,7 @@ fn following(d: VariableDef, follower: Follower) -> VariableDef
     VariableDef { follower, ..d }
 }
 
-// So many followers, of the eight variables that are kept.
+// So many followers, of the eight variables that are kept. A loop of its own: each says itself which variable it goes to.
 fn read_listed(
     line: &[u8],
     c: Cursor,

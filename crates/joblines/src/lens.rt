@@ -56,7 +56,8 @@ fn keep_index(indices: &mut [f64; 64], i: usize, w: usize, x: f64)
     }
 }
 
-// The indices of surface i: one for each slot, of which the first four are kept.
+// The indices of surface i: one for each slot, of which the first four are kept. A loop of its own: they go to the surface's
+// part of one table, and not to the places of a list, as what `read_entries` reads.
 fn read_row(line: &[u8], c: Cursor, indices: &mut [f64; 64], i: usize, slots: usize) -> Cursor
     ensures value { result ≡ past_row line.now slots c }
     ensures indices_after { indices.new ≡ put_row line.now slots i c indices.old }

@@ -1,6 +1,7 @@
 // The settings of the three kinds of run, each of which may be left out, as `d`.
 ghost use Rattle.std.specs.Prelude.{◌≡◌};
-ghost use Rattle.joblines.specs.Settings.{setting_from, count_from, float_setting_from, damped_from, damped_method_from, multi_start_from, annealing_from, method_from};
+ghost use Rattle.joblines.specs.Settings.{setting_from, count_from, float_setting_from};
+ghost use Rattle.joblines.specs.Settings.{damped_from, damped_method_from, multi_start_from, annealing_from, method_from};
 
 use jobs::{DlsRequest, MethodRequest, MultiStartRequest, SimulatedAnnealingRequest};
 use text::cursor;
@@ -111,7 +112,8 @@ fn read_annealing(line: &[u8], c: Cursor) -> Read<MethodRequest>
     }
 }
 
-// The settings of a kind; of none but the three there are any.
+// The settings of a kind; of none but the three there are any. The kind is the number that the line has, and no enum: a line of
+// another is read on, and told as out of form where its settings begin.
 pub(crate) fn read_method(line: &[u8], c: Cursor, kind: u64) -> Read<MethodRequest>
     ensures { result ≡ method_from line.now c kind }
 {

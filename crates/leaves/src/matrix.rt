@@ -18,7 +18,7 @@ fn read_system(line: &[u8], c: Cursor, scratch: &mut [f64], p: usize) -> Cursor
     let mut next = c;
     for i in 0..p {
         let from = system_place(i, 0);
-        next = cursor::floats(line, next, &mut scratch[from..], p);
+        next = cursor::floats(line, next, &mut scratch[from..from + p]);
     }
     read_right_side(line, next, scratch, p)
 }
@@ -78,7 +78,7 @@ fn read_columns(line: &[u8], c: Cursor, jacobian: &mut [f64], m: usize, p: usize
 {
     let mut next = c;
     for q in 0..p {
-        next = cursor::floats(line, next, &mut jacobian[q * 12..], m);
+        next = cursor::floats(line, next, &mut jacobian[q * 12..q * 12 + m]);
     }
     next
 }
@@ -99,7 +99,7 @@ pub(crate) fn normal(
     let mut jacobian = [0.0; 96];
     let mut residuals = [0.0; 12];
     let next = read_columns(line, variables.next, &mut jacobian, m, p);
-    answers::end(line, cursor::floats(line, next, &mut residuals, m))?;
+    answers::end(line, cursor::floats(line, next, &mut residuals[..m]))?;
     let mut scratch = [0.0; 128];
     let norm = normal::normal_equations(&mut scratch, &jacobian, &residuals, m, p);
     let waiting = pieces::put_line(console, out, waiting, line);

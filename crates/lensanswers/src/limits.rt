@@ -51,7 +51,7 @@ fn put_surface(
     output::put_floats(console, out, waiting, &row)
 }
 
-// The ends of each surface's height and slope.
+// The ends of each surface's height and slope, which stand side by side in two arrays.
 fn put_surfaces(
     console: Console,
     out: &mut [u8],

@@ -1,5 +1,6 @@
 -- The lines of the input. Definitions only.
-use Rattle.std.specs.Prelude.{◌≡◌, ℕ, ◌+◌, ◌-◌, ◌%◌, ◌^◌, ◌≤◌, Bool, true, false, cond, List, [], length, take, drop, ◌==◌, nat_lt, slice_index, Some, None, IsSome, IsNone}
+use Rattle.std.specs.Prelude.{◌≡◌, ℕ, ◌+◌, ◌-◌, ◌%◌, ◌^◌, ◌≤◌, Bool, true, false, cond}
+use Rattle.std.specs.Prelude.{List, [], length, take, drop, ◌==◌, nat_lt, slice_index, Some, None, IsSome, IsNone}
 use Rattle.std.specs.Bool.{then_some}
 use Rattle.streams.specs.Parts.{index_of, slice}
 use Rattle.streams.specs.declared.input.Input.{Input}

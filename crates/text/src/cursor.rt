@@ -1,6 +1,7 @@
 // A line read field by field, without a test at each: at a field that is missing or out of form the cursor stays for good, with
-// what is wrong there, and whoever reads the line asks once, at its end.
-ghost use Rattle.std.specs.Prelude.{◌≡◌, ◌≤◌, ◌++◌, length, drop};
+// what is wrong there, and whoever reads the line asks once, at its end. So it is no Result: each of some fifty reads would be a
+// test of its own.
+ghost use Rattle.std.specs.Prelude.{◌≡◌, length};
 ghost use Rattle.lists.specs.Tab.{tab};
 ghost use Rattle.text.specs.Words.{between};
 ghost use Rattle.text.specs.Cursor.{new_cursor, moved_to, out_of_form, field_read, number_from, decimal_from, within_from, float_from};
@@ -139,14 +140,13 @@ pub fn float(line: &[u8], c: Cursor) -> Read<f64>
     field_read(f, 0.0, c, Why::NoHex)
 }
 
-// The next n floats, to the front of `row`.
-pub fn floats(line: &[u8], c: Cursor, row: &mut [f64], n: usize) -> Cursor
-    requires { n ≤ length row.old }
-    ensures value { result ≡ past_floats line.now c n }
-    ensures row_after { row.new ≡ tab (float_at line.now c) n ++ drop n row.old }
+// The next floats, as many as `row` has room for.
+pub fn floats(line: &[u8], c: Cursor, row: &mut [f64]) -> Cursor
+    ensures value { result ≡ past_floats line.now c (length row.old) }
+    ensures row_after { row.new ≡ tab (float_at line.now c) (length row.old) }
 {
     let mut next = c;
-    for x in &mut row[..n] {
+    for x in row {
         let r = float(line, next);
         *x = r.value;
         next = r.next;

@@ -11,13 +11,9 @@ use Rattle.joblines.proofs.followers.read_follower.Goals as goal
 pub returns : goal.returns
 unfolding follower_from
 returns c =
-    let named = c in
-    let third = named in
-    let second = third in
-    let first = second in
-    let a = first.args in
-    let place = first.read_place-place.ensures in
-    let sign = second.within-sign.ensures ∙ ap (λ (r : Read ℕ). within_from 1 2 Range a.line.now r.next) place in
-    let surface = third.decimal-surface.ensures ∙ ap (λ (r : Read ℕ). decimal_from a.line.now r.next) sign in
-    let follower = named.follower_of.ensures ∙ (λ i. follower_of (sign i).value (surface i).value) in
+    let line = c.args.line.now in
+    let place = c.read_place-place.ensures in
+    let sign = c.within-sign.ensures ∙ ap (λ (r : Read ℕ). within_from 1 2 Range line r.next) place in
+    let surface = c.decimal-surface.ensures ∙ ap (λ (r : Read ℕ). decimal_from line r.next) sign in
+    let follower = c.follower_of.ensures ∙ (λ i. follower_of (sign i).value (surface i).value) in
     λ i. record { value = record { place = (place i).value; follower = follower i }; next = (surface i).next }

@@ -11,18 +11,16 @@ use Rattle.joblines.proofs.LeftOut.{left_out, given}
 use Rattle.joblines.proofs.followers.read_followers.Goals as goal
 
 -- what stands behind the letter
-
 abbrev listed : List ℕ → (count : ℕ) → List VariableDef → Cursor → Read (List VariableDef)
 listed line count l marked = followers_listed line count (decimal_from line marked).next (decimal_from line marked).value l
 
 pub returns-then-marked : goal.returns-then-marked
 unfolding followers_from
 returns-then-marked c =
-    let many = c in
-    let a = many.args in
+    let a = c.args in
     c.read_listed.ensures
-    ∙ ap (λ (r : Read ℕ). followers_listed a.line.now a.count r.next r.value a.read) many.decimal-many.ensures
-    ∙ left_out (listed a.line.now a.count a.read) many.tag-marked.ensures _ many.if-marked.true
+    ∙ ap (λ (r : Read ℕ). followers_listed a.line.now a.count r.next r.value a.read) c.decimal-many.ensures
+    ∙ left_out (listed a.line.now a.count a.read) c.tag-marked.ensures _ c.if-marked.true
 
 pub returns : goal.returns
 unfolding followers_from

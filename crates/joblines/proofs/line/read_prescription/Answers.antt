@@ -11,21 +11,12 @@ pub returns : goal.returns
 unfolding prescription_from
 returns c =
     let line = c.args.line.now in
-    let count =
-    c.decimal-count.ensures
-    ∙ ap (decimal_from line) c.tag.ensures in
-    let read =
-    c.read_surfaces-read.ensures
-    ∙ (λ i. surfaces_from line (count i).next (count i).value) in
-    let slots =
-    c.decimal-slots.ensures
-    ∙ ap (decimal_from line) (c.tag-2.ensures
-    ∙ (λ i. past_tag line (read i).next indices_mark)) in
-    let next =
-    c.read_indices-next.ensures.value ∙ (λ i. past_indices line (slots i).next (count i).value (slots i).value) in
+    let count = c.decimal-count.ensures ∙ ap (decimal_from line) c.tag.ensures in
+    let read = c.read_surfaces-read.ensures ∙ (λ i. surfaces_from line (count i).next (count i).value) in
+    let slots = c.decimal-slots.ensures ∙ ap (decimal_from line) (c.tag-2.ensures ∙ (λ i. past_tag line (read i).next indices_mark)) in
+    let next = c.read_indices-next.ensures.value ∙ (λ i. past_indices line (slots i).next (count i).value (slots i).value) in
     let indices =
-    c.read_indices-next.ensures.indices_after
-    ∙ (λ i. with_indices line (slots i).next (count i).value (slots i).value (replicate 64 (no_number i))) in
+    c.read_indices-next.ensures.indices_after ∙ (λ i. with_indices line (slots i).next (count i).value (slots i).value (replicate 64 (no_number i))) in
     let pupil = c.float-pupil.ensures ∙ ap (float_from line) (c.tag-3.ensures ∙ (λ i. past_tag line (next i) pupil_mark)) in
     λ i. record {
       value = record {

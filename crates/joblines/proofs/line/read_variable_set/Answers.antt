@@ -9,11 +9,8 @@ use Rattle.joblines.proofs.line.read_variable_set.Goals as goal
 pub returns : goal.returns
 unfolding variable_set_from
 returns c =
-    let followed = c in
-    let read = followed in
-    let count = read in
-    let line = count.args.line.now in
-    let n = count.decimal-count.ensures ∙ ap (decimal_from line) count.tag.ensures in
-    let v = read.read_variables-read.ensures ∙ (λ i. variables_from line (n i).next (n i).value) in
-    let f = followed.read_followers-followed.ensures ∙ (λ i. followers_from line (n i).value (v i).next (v i).value) in
-    λ i. record { value = record { variables = (f i).value; variable_count = (n i).value }; next = (f i).next }
+    let line = c.args.line.now in
+    let count = c.decimal-count.ensures ∙ ap (decimal_from line) c.tag.ensures in
+    let read = c.read_variables-read.ensures ∙ (λ i. variables_from line (count i).next (count i).value) in
+    let followed = c.read_followers-followed.ensures ∙ (λ i. followers_from line (count i).value (read i).next (read i).value) in
+    λ i. record { value = record { variables = (followed i).value; variable_count = (count i).value }; next = (followed i).next }

@@ -1,5 +1,5 @@
 -- `text::cursor::floats` meets its contract. Assumes nothing.
-use Rattle.std.proofs.Common.{◌≡◌, List, ◌++◌, take, drop, refl, ap, ◌∙◌, add-one, arith, length-take-le, Float}
+use Rattle.std.proofs.Common.{◌≡◌, length, refl, ap, ◌∙◌, add-one, arith}
 use Rattle.std.specs.Float.{nan}
 use Rattle.lists.specs.Tab.{tab, tab-step, tab-full}
 use Rattle.text.specs.Cursor.{float_from, past_floats, float_at}
@@ -17,7 +17,7 @@ loop-x-preserved c =
     let l = c.loop-x in
     let read : c.float-r.result ≡ float_from line (past_floats line from l.x-index) = c.float-r.ensures ∙ ap (float_from line) l.invariant.0 in (
       (λ i. (read i).next) ∙ rw add-one,
-      tab-step (float_at line from) (take c.args.n c.args.row.now) l.x-items l.x-index c.float-r.result.value nan l.invariant.1
+      tab-step (float_at line from) c.args.row.now l.x-items l.x-index c.float-r.result.value nan l.invariant.1
           (λ i. (read i).value) c.loop-x-test.true,
     )
 
@@ -27,9 +27,7 @@ returns c =
     let from = c.args.c in
     let row = c.args.row.now in
     let l = c.loop-x in
-    let n = length-take-le c.args.n row c.requires in
-    let all : l.x-index ≡ c.args.n = omega (arith, n, l.auto.x-index-end, c.loop-x-test.false) in record {
+    let all : l.x-index ≡ length row = omega arith in record {
       value = l.invariant.0 ∙ ap (past_floats line from) all;
-      row_after = ap (λ (xs : List Float). xs ++ drop c.args.n row)
-          (tab-full (float_at line from) (take c.args.n row) l.x-items l.x-index c.args.n l.invariant.1 n (omega (arith, all)) (omega (arith, all)));
+      row_after = tab-full (float_at line from) row l.x-items l.x-index (length row) l.invariant.1 refl (omega (arith, all)) (omega (arith, all));
     }
