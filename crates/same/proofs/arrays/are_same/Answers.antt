@@ -20,7 +20,8 @@ returns-then-not-is_same g c =
     let a = c.args.a.now in
     let b = c.args.b.now in
     let l = c.loop-x in
-    let pair = zip_turn a b l.yielded c.into_iter-x-iterator.result l.x-iterator c.next.new.self c.next.result (search rules) (search rules) l.yielded_by (c.in-Some.x, c.in-Some.y) c.in-Some.is c.next.ensures.steps in
+    let pair = zip_turn a b l.yielded c.into_iter-x-iterator.result l.x-iterator c.next.new.self c.next.result (search rules) (search rules)
+    l.yielded_by (c.in-Some.x, c.in-Some.y) c.in-Some.is c.next.ensures.steps in
     sym (unlike (length a) (length b) (at alike none a b) l.invariant.0 (length l.yielded) pair.0
     (sym (λ k. alike (pair.2 none k) (pair.3 none k)) ∙ sym c.is_same.ensures ∙ c.if-not-is_same.true))
 
@@ -31,7 +32,8 @@ loop-x-preserved g c =
     let a = c.args.a.now in
     let b = c.args.b.now in
     let l = c.loop-x in
-    let pair = zip_turn a b l.yielded c.into_iter-x-iterator.result l.x-iterator c.next.new.self c.next.result (search rules) (search rules) l.yielded_by (c.in-Some.x, c.in-Some.y) c.in-Some.is c.next.ensures.steps in (
+    let pair = zip_turn a b l.yielded c.into_iter-x-iterator.result l.x-iterator c.next.new.self c.next.result (search rules) (search rules)
+    l.yielded_by (c.in-Some.x, c.in-Some.y) c.in-Some.is c.next.ensures.steps in (
       l.invariant.0,
       subst (λ (n : ℕ). all_below (at alike none a b) n ≡ true) (sym (length-append l.yielded ((c.in-Some.x, c.in-Some.y) ∷ [])))
           (all_more (at alike none a b) (length l.yielded) l.invariant.1
