@@ -27,7 +27,7 @@ floats a = all_alike (length a) (length a) _ refl (all _ (length a) (λ i. float
 words : (a : List ℕ) → same_words a a ≡ true
 words a = all_alike (length a) (length a) _ refl (all _ (length a) (λ i. eq-eqb (get_or a i 0) (get_or a i 0) refl))
 
-row : (a : HeldRow) → same_row a a ≡ true
+pub row : (a : HeldRow) → same_row a a ≡ true
 row a =
     and _ _ (and _ _ (words a.job.counts) (floats a.job.numbers)) (and _ _ (and _ _ (words a.words) (floats a.scalars))
     (and _ _ (and _ _ (floats a.surfaces) (and _ _ (floats a.values) (floats a.residuals)))
@@ -37,7 +37,7 @@ row a =
 pub bench-alike : (a : Bench) → same_bench a a ≡ true
 bench-alike a = and _ _ (all _ 4 (λ place. row (held_at a place))) (eq-eqb a.next_place a.next_place refl)
 
-surface : (s : OpticalSurface) → same_surface s s ≡ true
+pub surface : (s : OpticalSurface) → same_surface s s ≡ true
 surface s =
     and _ _ (float s.radius_mm) (and _ _ (float s.conic_constant) (and _ _ (float s.thickness_mm) (float s.semi_diameter_mm)))
 

@@ -14,11 +14,15 @@ use Rattle.bench.specs.Benches.{held_at}
 abbrev pub same_float : Float → Float → Bool
 same_float x y = eqb (bits_of x) (bits_of y)
 
+-- as many entries, each alike; `none` stands for one that there is not
+abbrev pub same_list : {A : Type 0} → (alike : A → A → Bool) → (none : A) → List A → List A → Bool
+same_list alike none a b = eqb (length a) (length b) && all_below (λ (i : ℕ). alike (get_or a i none) (get_or b i none)) (length a)
+
 abbrev pub same_floats : List Float → List Float → Bool
-same_floats a b = eqb (length a) (length b) && all_below (λ (i : ℕ). same_float (get_or a i nan) (get_or b i nan)) (length a)
+same_floats = same_list same_float nan
 
 abbrev pub same_words : List ℕ → List ℕ → Bool
-same_words a b = eqb (length a) (length b) && all_below (λ (i : ℕ). eqb (get_or a i 0) (get_or b i 0)) (length a)
+same_words = same_list eqb 0
 
 -- ---- held rows and benches
 abbrev pub same_job : HeldRow → HeldRow → Bool

@@ -4,8 +4,8 @@ ghost use Rattle.bench.specs.Benches.{empty_bench};
 ghost use Rattle.bench.specs.Calls.{scratch_after};
 ghost use Rattle.benchcalls.specs.Values.{admitted_of, turned_of, fetched_of, released_of};
 
-use crate::play;
 use crate::types::BenchAnswer;
+use crate::{lent, play};
 use bench::Bench;
 use jobs::JobRequest;
 use rows::Fetched;
@@ -16,9 +16,8 @@ pub fn empty_bench() -> Bench
     ensures { result ≡ empty_bench }
 {
     let zero = rows::zero_row();
-    let places = [zero; 4];
     Bench {
-        rows: places,
+        rows: [zero; 4],
         next_place: 0,
     }
 }
@@ -26,21 +25,9 @@ pub fn empty_bench() -> Bench
 pub fn admitted(bench: Bench, place: usize, request: JobRequest) -> BenchAnswer
     ensures { result ≡ admitted_of bench place request }
 {
-    if place > 3 {
-        return BenchAnswer {
-            bench: bench,
-            number: rows::admit_number(place, false, request),
-        };
-    }
-    let row = bench.rows[place];
-    let answer = rows::admit_row(row, place, request);
-    let mut next = bench;
-    let left = answer.row;
-    next.rows[place] = left;
-    BenchAnswer {
-        bench: next,
-        number: answer.number,
-    }
+    let mut b = bench;
+    let number = lent::admit(&mut b, place, request);
+    BenchAnswer { bench: b, number }
 }
 
 // One of the turns that are played: no row is copied for it.
@@ -48,9 +35,8 @@ pub fn turned(bench: Bench, place: usize, scratch: &mut [f64]) -> BenchAnswer
     ensures { (result ≡ turned_of bench place (length scratch.old)) × (scratch.new ≡ scratch_after bench place scratch.old) }
 {
     let played = play::play_turns(bench, place, 1, scratch);
-    let left = played.bench;
     BenchAnswer {
-        bench: left,
+        bench: played.bench,
         number: played.number,
     }
 }
@@ -59,32 +45,18 @@ pub fn turned(bench: Bench, place: usize, scratch: &mut [f64]) -> BenchAnswer
 pub fn fetched(bench: Bench, place: usize, old: OptimizationResult) -> Fetched
     ensures { result ≡ fetched_of bench place old }
 {
-    if place > 3 {
-        return Fetched {
-            result: old,
-            number: 2,
-        };
+    let mut res = old;
+    let number = lent::fetch(&bench, place, &mut res);
+    Fetched {
+        result: res,
+        number,
     }
-    let row = bench.rows[place];
-    rows::fetch_row(row, old)
 }
 
 pub fn released(bench: Bench, place: usize) -> BenchAnswer
     ensures { result ≡ released_of bench place }
 {
-    if place > 3 {
-        return BenchAnswer {
-            bench: bench,
-            number: 2,
-        };
-    }
-    let row = bench.rows[place];
-    let answer = rows::release_row(row);
-    let mut next = bench;
-    let left = answer.row;
-    next.rows[place] = left;
-    BenchAnswer {
-        bench: next,
-        number: answer.number,
-    }
+    let mut b = bench;
+    let number = lent::release(&mut b, place);
+    BenchAnswer { bench: b, number }
 }

@@ -41,9 +41,9 @@ impl Change {
     {
         let mut r = *row;
         match self {
-            Change::Word(at, limit) => set(&mut r.words, at, whole(limit, row, v)),
+            Change::Word(at, limit) => set(&mut r.words, at, past(limit.least(row), v)),
             Change::Count(at, step, limit) => {
-                set(&mut r.job.counts, place(at, step, i), whole(limit, row, v));
+                set(&mut r.job.counts, place(at, step, i), past(limit.least(row), v));
             }
             Change::Positive(at, limit) => {
                 let values = limits::values(limit.least(row), 0);
@@ -59,14 +59,14 @@ impl Change {
                 set(&mut r.best_surfaces, place(at, 4, i), range.values()[v]);
             }
             Change::Crossed => cross(&mut r.job.numbers, place(places::VARIABLE_NUMBERS, 3, i)),
-            Change::Sign => follow(&mut r.job.counts, i, absent(3, v), 0),
+            Change::Sign => follow(&mut r.job.counts, i, past(3, v), 0),
             Change::Plus => {
-                let surface = absent(row.job.counts[places::SURFACE_COUNT], v);
+                let surface = past(row.job.counts[places::SURFACE_COUNT], v);
                 follow(&mut r.job.counts, i, 1, surface);
             }
             Change::Minus => follow(&mut r.job.counts, i, 2, 0),
             Change::NoFollower => {
-                let surface = absent(row.job.counts[places::SURFACE_COUNT], v);
+                let surface = past(row.job.counts[places::SURFACE_COUNT], v);
                 follow(&mut r.job.counts, i, 0, surface);
             }
             Change::Taken => leave_taken(&mut r, v),
@@ -87,14 +87,8 @@ fn set<T: Copy + Drop>(array: &mut [T], at: usize, x: T) {
     }
 }
 
-fn whole(limit: Limit, row: &HeldRow, v: usize) -> u64
-    requires { v < 5 }
-{
-    limits::values(limit.least(row), u64::MAX - 1)[v]
-}
-
-// A number from the least that is none.
-fn absent(least: u64, v: usize) -> u64
+// A number from the least on that is none.
+fn past(least: u64, v: usize) -> u64
     requires { v < 5 }
 {
     limits::values(least, u64::MAX - 1)[v]

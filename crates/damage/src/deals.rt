@@ -3,40 +3,40 @@ use crate::verdict;
 use bench::Bench;
 
 // Damage: 12, with no turn too, and nothing is changed.
-pub(crate) fn refuses(bench: Bench) -> bool {
+pub(crate) fn refuses(bench: &Bench) -> bool {
     answers(bench, 0, 0, 12, bench) && answers(bench, 5, 0, 12, bench)
 }
 
 // No job is left: none is dealt, and nothing is changed.
-pub(crate) fn deals_none(bench: Bench) -> bool {
+pub(crate) fn deals_none(bench: &Bench) -> bool {
     answers(bench, 5, 0, 0, bench)
 }
 
 // A place to go next that is none gives 12.
-pub(crate) fn refuses_past(bench: Bench) -> bool {
+pub(crate) fn refuses_past(bench: &Bench) -> bool {
     [4, 5, usize::MAX]
         .iter()
-        .all(|next| refuses(with_next(bench, *next)))
+        .all(|next| refuses(&with_next(bench, *next)))
 }
 
 // The place, where a turn is taken, is served.
-pub(crate) fn serves(bench: Bench, place: usize) -> bool {
-    let left = benchcalls::turned(bench, place, &mut [0.5; 256]).bench;
-    answers(bench, 1, 1, 0, with_next(left, (place % 4 + 1) % 4))
+pub(crate) fn serves(bench: &Bench, place: usize) -> bool {
+    let left = benchcalls::turned(*bench, place, &mut [0.5; 256]).bench;
+    answers(bench, 1, 1, 0, &with_next(&left, (place % 4 + 1) % 4))
 }
 
-fn with_next(bench: Bench, next: usize) -> Bench {
+fn with_next(bench: &Bench, next: usize) -> Bench {
     Bench {
         next_place: next,
-        ..bench
+        ..*bench
     }
 }
 
 // Whether a dealing of so many turns deals so many, answers the number and leaves that bench, with scratch as its turns leave it.
-fn answers(bench: Bench, turns: u16, dealt: u32, number: u32, after: Bench) -> bool {
+fn answers(bench: &Bench, turns: u16, dealt: u32, number: u32, after: &Bench) -> bool {
     let mut scratch = [0.5; 256];
-    let dealing = benchcalls::dealt(bench, turns, &mut scratch);
-    same::same_benches(dealing.bench, after)
+    let dealing = benchcalls::dealt(*bench, turns, &mut scratch);
+    same::same_benches(&dealing.bench, after)
         && verdict::is_scratch(&scratch, dealt > 0)
         && dealing.dealt == dealt
         && dealing.number == number

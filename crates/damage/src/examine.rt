@@ -51,12 +51,11 @@ fn examine_row(tally: &mut Tally, case: &Case) {
 
 // There are 64 places at most.
 fn examine_entry(count: &mut Count, case: &Case, entry: &Entry) {
-    let Entry(_, uses, change) = *entry;
     for i in 0..64 {
-        if uses.holds(&case.row, i) {
+        if entry.uses.holds(&case.row, i) {
             for v in 0..5 {
-                let changed = change.of(&case.row, i, v);
-                count.add(verdict::is_right(case, changed, change));
+                let changed = entry.change.of(&case.row, i, v);
+                count.add(verdict::is_right(case, changed, entry.change));
             }
         }
     }

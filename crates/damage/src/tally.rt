@@ -39,7 +39,7 @@ fn put_line(
 pub(crate) fn put(console: Console, out: &mut [u8], waiting: Waiting, tally: &Tally) -> Waiting {
     let mut held = waiting;
     for (entry, count) in ENTRIES.iter().zip(tally) {
-        held = put_line(console, out, held, &entry.0, *count);
+        held = put_line(console, out, held, &entry.name, *count);
     }
     held
 }

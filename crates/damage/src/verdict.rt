@@ -9,7 +9,7 @@ use optics::OpticalSurface;
 use runs::OptimizationResult;
 
 pub(crate) fn is_right(case: &Case, changed: HeldRow, change: Change) -> bool {
-    let bench = with_row(case.bench, case.place, changed);
+    let bench = &with_row(&case.bench, case.place, changed);
     match change {
         Change::Taken | Change::NoFollower => is_taken(bench, case.place),
         Change::Emptied => is_empty(bench, case.place, case.request),
@@ -18,46 +18,46 @@ pub(crate) fn is_right(case: &Case, changed: HeldRow, change: Change) -> bool {
 }
 
 // A turn and a fetch give the number and change nothing, and the place is not listed.
-fn is_out(bench: Bench, place: usize, number: u32) -> bool {
+fn is_out(bench: &Bench, place: usize, number: u32) -> bool {
     turn_number(bench, place) == Some(number)
         && fetch_number(bench, place) == Some(number)
         && lists_others(bench, place)
 }
 
 // Whether an admission answers the number and leaves that bench.
-fn admits(bench: Bench, place: usize, request: JobRequest, number: u32, after: Bench) -> bool {
-    let answer = benchcalls::admitted(bench, place, request);
-    answer.number == number && same::same_benches(answer.bench, after)
+fn admits(bench: &Bench, place: usize, request: JobRequest, number: u32, after: &Bench) -> bool {
+    let answer = benchcalls::admitted(*bench, place, request);
+    answer.number == number && same::same_benches(&answer.bench, after)
 }
 
 // The same of a release.
-fn releases(bench: Bench, place: usize, number: u32, after: Bench) -> bool {
-    let answer = benchcalls::released(bench, place);
-    answer.number == number && same::same_benches(answer.bench, after)
+fn releases(bench: &Bench, place: usize, number: u32, after: &Bench) -> bool {
+    let answer = benchcalls::released(*bench, place);
+    answer.number == number && same::same_benches(&answer.bench, after)
 }
 
 // Damage: a turn and a fetch give 12, an admission 10, the place is not listed, and a release empties it.
-fn is_refused(bench: Bench, place: usize, request: JobRequest) -> bool {
+fn is_refused(bench: &Bench, place: usize, request: JobRequest) -> bool {
     let zero = benchcalls::empty_bench().rows[0];
     is_out(bench, place, 12)
         && admits(bench, place, request, 10, bench)
-        && releases(bench, place, 0, with_row(bench, place, zero))
+        && releases(bench, place, 0, &with_row(bench, place, zero))
         && deals::refuses(bench)
 }
 
 // An empty place: a turn, a fetch and a release give 11, and an admission leaves nothing of what the row had.
-fn is_empty(bench: Bench, place: usize, request: JobRequest) -> bool {
+fn is_empty(bench: &Bench, place: usize, request: JobRequest) -> bool {
     let admitted = benchcalls::admitted(benchcalls::empty_bench(), place, request).bench;
     let fresh = admitted.rows[place % 4];
     is_out(bench, place, 11)
         && releases(bench, place, 11, bench)
-        && admits(bench, place, request, 0, with_row(bench, place, fresh))
+        && admits(bench, place, request, 0, &with_row(bench, place, fresh))
         && deals::deals_none(bench)
 }
 
 // No damage: a place is at its end or not, and all calls say the same of it.
-fn is_taken(bench: Bench, place: usize) -> bool {
-    let count = finished::listed(bench).count;
+fn is_taken(bench: &Bench, place: usize) -> bool {
+    let count = finished::listed(*bench).count;
     let agree = match (turn_number(bench, place), fetch_number(bench, place)) {
         (Some(0), Some(14)) => count == 3 && deals::serves(bench, place),
         (Some(13), Some(0)) => count == 4 && deals::deals_none(bench),
@@ -67,31 +67,30 @@ fn is_taken(bench: Bench, place: usize) -> bool {
 }
 
 // The number of a turn, if it leaves what it must: nothing is changed where it is refused, and else scratch is cleared.
-fn turn_number(bench: Bench, place: usize) -> Option<u32> {
+fn turn_number(bench: &Bench, place: usize) -> Option<u32> {
     let mut scratch = [0.5; 256];
-    let turn = benchcalls::turned(bench, place, &mut scratch);
+    let turn = benchcalls::turned(*bench, place, &mut scratch);
     let is_done = turn.number == 0;
-    let is_kept = is_done || same::same_benches(turn.bench, bench);
+    let is_kept = is_done || same::same_benches(&turn.bench, bench);
     (is_kept && is_scratch(&scratch, is_done)).then_some(turn.number)
 }
 
 // As a call leaves it: the first 128 are +0.0 if a turn was taken, and all others what they were (request 11).
 pub(crate) fn is_scratch(scratch: &[f64; 256], is_cleared: bool) -> bool {
     let first = if is_cleared { 0.0 } else { 0.5 };
-    same::same_floats(&scratch[..128], &[first; 128])
-        && same::same_floats(&scratch[128..], &[0.5; 128])
+    same::are_same(&scratch[..128], &[first; 128]) && same::are_same(&scratch[128..], &[0.5; 128])
 }
 
 // The number of a fetch, if it leaves what it must: the result is not changed where it is refused.
-fn fetch_number(bench: Bench, place: usize) -> Option<u32> {
-    let fetch = benchcalls::fetched(bench, place, marked());
-    let is_kept = fetch.number == 0 || same::same_results(fetch.result, marked());
+fn fetch_number(bench: &Bench, place: usize) -> Option<u32> {
+    let fetch = benchcalls::fetched(*bench, place, marked());
+    let is_kept = fetch.number == 0 || same::same_results(&fetch.result, &marked());
     is_kept.then_some(fetch.number)
 }
 
 // The listing has the three other places: 0 to 3 but this one make 6 less this one.
-fn lists_others(bench: Bench, place: usize) -> bool {
-    let finished = finished::listed(bench);
+fn lists_others(bench: &Bench, place: usize) -> bool {
+    let finished = finished::listed(*bench);
     let sum = finished
         .places
         .iter()
@@ -99,10 +98,10 @@ fn lists_others(bench: Bench, place: usize) -> bool {
     finished.count == 3 && sum == 6
 }
 
-fn with_row(bench: Bench, place: usize, row: HeldRow) -> Bench {
-    let mut b = bench;
-    b.rows[place % 4] = row;
-    b
+fn with_row(bench: &Bench, place: usize, row: HeldRow) -> Bench {
+    let mut changed = *bench;
+    changed.rows[place % 4] = row;
+    changed
 }
 
 // A result that no run leaves.

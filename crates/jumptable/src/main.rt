@@ -15,10 +15,8 @@ fn put_word(console: Console, out: &mut [u8], waiting: Waiting, word: u64) -> Wa
 // Adds the words, and answers what waits.
 fn put_words(console: Console, out: &mut [u8], words: &[u64]) -> Waiting {
     let mut waiting = Waiting::new();
-    let mut i = 0;
-    while i < words.len() {
-        waiting = put_word(console, out, waiting, words[i]);
-        i += 1;
+    for word in words {
+        waiting = put_word(console, out, waiting, *word);
     }
     waiting
 }

@@ -1,68 +1,61 @@
-// Arrays entry by entry.
-ghost use Rattle.std.specs.Prelude.{◌≡◌, ◌&&◌};
-ghost use Rattle.alike.specs.Same.{same_float, same_floats, same_words};
+// Lists, entry by entry.
+ghost use Rattle.std.specs.Prelude.{◌≡◌, refl, Bool, true, eqb};
+ghost use Rattle.std.proofs.Common.{eq-eqb};
+ghost use Rattle.std.specs.Float.{nan};
+ghost use Rattle.alike.specs.Same.{same_float, same_list};
+ghost use Rattle.alike.proofs.FloatItself.{float};
 
 use text::numbers::bits_of;
 
-pub(crate) fn both(a: bool, b: bool) -> bool
-    ensures { result ≡ (a && b) }
-{
-    a && b
+// What is compared bit by bit.
+pub trait SameBits {
+    // Whether two are alike, and what stands for an entry where a list has none.
+    ghost alike: { Self → Self → Bool };
+
+    ghost none: { Self };
+
+    fn is_same(&self, other: &Self) -> bool
+        ensures { result ≡ alike self.now other.now };
+
+    // What is compared with itself is the same.
+    ghost itself: { (x : Self) → alike x x ≡ true };
 }
 
-pub(crate) fn same_float(a: f64, b: f64) -> bool
-    ensures { result ≡ same_float a b }
-{
-    bits_of(a) == bits_of(b)
+impl SameBits for u64 {
+    ghost alike = { eqb };
+
+    ghost none = { 0 };
+
+    fn is_same(&self, other: &u64) -> bool {
+        *self == *other
+    }
+
+    ghost itself = { λ x. eq-eqb x x refl };
 }
 
-pub fn same_floats<'a>(a: &'a [f64], b: &'a [f64]) -> bool
-    ensures { result ≡ same_floats a.now b.now }
+// A derive's `==` would take -0.0 for 0.0, and no NaN for another.
+impl SameBits for f64 {
+    ghost alike = { same_float };
+
+    ghost none = { nan };
+
+    fn is_same(&self, other: &f64) -> bool {
+        bits_of(*self) == bits_of(*other)
+    }
+
+    ghost itself = { float };
+}
+
+pub fn are_same<T: SameBits>(a: &[T], b: &[T]) -> bool
+    ensures { result ≡ same_list T.alike T.none a.now b.now }
 {
     if a.len() != b.len() {
         return false;
     }
-    let mut i = 0;
-    while i < a.len() {
-        if !same_float(a[i], b[i]) {
+    for (x, y) in a.iter().zip(b) {
+        if !x.is_same(y) {
             return false;
         }
-        i += 1;
     }
     true
-}
-
-pub(crate) fn same_words<'a>(a: &'a [u64], b: &'a [u64]) -> bool
-    ensures { result ≡ same_words a.now b.now }
-{
-    if a.len() != b.len() {
-        return false;
-    }
-    let mut i = 0;
-    while i < a.len() {
-        if a[i] != b[i] {
-            return false;
-        }
-        i += 1;
-    }
-    true
-}
-
-// Arrays that a row has several of: a function of its own for each length, since the proof looks for an array's length no deeper in a row.
-pub(crate) fn same_eight(a: [f64; 8], b: [f64; 8]) -> bool
-    ensures { result ≡ same_floats a b }
-{
-    same_floats(&a, &b)
-}
-
-pub(crate) fn same_twelve(a: [f64; 12], b: [f64; 12]) -> bool
-    ensures { result ≡ same_floats a b }
-{
-    same_floats(&a, &b)
-}
-
-pub(crate) fn same_flat(a: [f64; 64], b: [f64; 64]) -> bool
-    ensures { result ≡ same_floats a b }
-{
-    same_floats(&a, &b)
 }

@@ -1,112 +1,74 @@
 // Held rows array by array, and benches row by row.
 ghost use Rattle.std.specs.Prelude.{◌≡◌};
+ghost use Rattle.bench.specs.Benches.{no_row};
 ghost use Rattle.alike.specs.Same.{same_job, same_head, same_lens, same_step, same_best, same_row, same_rows, same_bench};
+ghost use Rattle.alike.proofs.Itself.{row};
 
-use crate::arrays::{both, same_eight, same_flat, same_floats, same_twelve, same_words};
+use crate::arrays::{SameBits, are_same};
 use bench::Bench;
 use held::HeldRow;
 
-fn same_job(a: HeldRow, b: HeldRow) -> bool
-    ensures { result ≡ same_job a b }
+fn same_job(a: &HeldRow, b: &HeldRow) -> bool
+    ensures { result ≡ same_job a.now b.now }
 {
-    let counts_a = a.job.counts;
-    let counts_b = b.job.counts;
-    let numbers_a = a.job.numbers;
-    let numbers_b = b.job.numbers;
-    let counts = same_words(&counts_a, &counts_b);
-    let numbers = same_floats(&numbers_a, &numbers_b);
-    both(counts, numbers)
+    are_same(&a.job.counts, &b.job.counts) && are_same(&a.job.numbers, &b.job.numbers)
 }
 
-fn same_head(a: HeldRow, b: HeldRow) -> bool
-    ensures { result ≡ same_head a b }
+fn same_head(a: &HeldRow, b: &HeldRow) -> bool
+    ensures { result ≡ same_head a.now b.now }
 {
-    let words_a = a.words;
-    let words_b = b.words;
-    let scalars_a = a.scalars;
-    let scalars_b = b.scalars;
-    let words = same_words(&words_a, &words_b);
-    let scalars = same_floats(&scalars_a, &scalars_b);
-    both(words, scalars)
+    are_same(&a.words, &b.words) && are_same(&a.scalars, &b.scalars)
 }
 
-fn same_lens(a: HeldRow, b: HeldRow) -> bool
-    ensures { result ≡ same_lens a b }
+fn same_lens(a: &HeldRow, b: &HeldRow) -> bool
+    ensures { result ≡ same_lens a.now b.now }
 {
-    let surfaces_a = a.surfaces;
-    let surfaces_b = b.surfaces;
-    let values_a = a.values;
-    let values_b = b.values;
-    let residuals_a = a.residuals;
-    let residuals_b = b.residuals;
-    let surfaces = same_flat(surfaces_a, surfaces_b);
-    let values = same_twelve(values_a, values_b);
-    let residuals = same_twelve(residuals_a, residuals_b);
-    both(surfaces, both(values, residuals))
+    are_same(&a.surfaces, &b.surfaces)
+        && are_same(&a.values, &b.values)
+        && are_same(&a.residuals, &b.residuals)
 }
 
-fn same_step(a: HeldRow, b: HeldRow) -> bool
-    ensures { result ≡ same_step a b }
+fn same_step(a: &HeldRow, b: &HeldRow) -> bool
+    ensures { result ≡ same_step a.now b.now }
 {
-    let jacobian_a = a.jacobian;
-    let jacobian_b = b.jacobian;
-    let plus_residuals_a = a.plus_residuals;
-    let plus_residuals_b = b.plus_residuals;
-    let params_a = a.params;
-    let params_b = b.params;
-    let candidate_a = a.candidate;
-    let candidate_b = b.candidate;
-    let jacobian = same_floats(&jacobian_a, &jacobian_b);
-    let plus_residuals = same_twelve(plus_residuals_a, plus_residuals_b);
-    let params = same_eight(params_a, params_b);
-    let candidate = same_eight(candidate_a, candidate_b);
-    both(jacobian, both(plus_residuals, both(params, candidate)))
+    are_same(&a.jacobian, &b.jacobian)
+        && are_same(&a.plus_residuals, &b.plus_residuals)
+        && are_same(&a.params, &b.params)
+        && are_same(&a.candidate, &b.candidate)
 }
 
-fn same_best(a: HeldRow, b: HeldRow) -> bool
-    ensures { result ≡ same_best a b }
+fn same_best(a: &HeldRow, b: &HeldRow) -> bool
+    ensures { result ≡ same_best a.now b.now }
 {
-    let surfaces_a = a.best_surfaces;
-    let surfaces_b = b.best_surfaces;
-    let values_a = a.best_values;
-    let values_b = b.best_values;
-    let residuals_a = a.best_residuals;
-    let residuals_b = b.best_residuals;
-    let surfaces = same_flat(surfaces_a, surfaces_b);
-    let values = same_twelve(values_a, values_b);
-    let residuals = same_twelve(residuals_a, residuals_b);
-    both(surfaces, both(values, residuals))
+    are_same(&a.best_surfaces, &b.best_surfaces)
+        && are_same(&a.best_values, &b.best_values)
+        && are_same(&a.best_residuals, &b.best_residuals)
 }
 
-fn same_row(a: HeldRow, b: HeldRow) -> bool
-    ensures { result ≡ same_row a b }
-{
-    let lens = same_lens(a, b);
-    let step = same_step(a, b);
-    let best = same_best(a, b);
-    both(
-        same_job(a, b),
-        both(same_head(a, b), both(lens, both(step, best))),
-    )
-}
+impl SameBits for HeldRow {
+    ghost alike = { same_row };
 
-fn same_rows(a: Bench, b: Bench) -> bool
-    ensures { result ≡ same_rows a b }
-{
-    let mut i = 0;
-    while i < 4 {
-        let x = a.rows[i];
-        let y = b.rows[i];
-        if !same_row(x, y) {
-            return false;
-        }
-        i += 1;
+    ghost none = { no_row };
+
+    fn is_same(&self, other: &HeldRow) -> bool {
+        same_job(self, other)
+            && same_head(self, other)
+            && same_lens(self, other)
+            && same_step(self, other)
+            && same_best(self, other)
     }
-    true
+
+    ghost itself = { row };
 }
 
-pub fn same_benches(a: Bench, b: Bench) -> bool
-    ensures { result ≡ same_bench a b }
+fn same_rows(a: &Bench, b: &Bench) -> bool
+    ensures { result ≡ same_rows a.now b.now }
 {
-    both(same_rows(a, b), a.next_place == b.next_place)
+    are_same(&a.rows, &b.rows)
+}
+
+pub fn same_benches(a: &Bench, b: &Bench) -> bool
+    ensures { result ≡ same_bench a.now b.now }
+{
+    same_rows(a, b) && a.next_place == b.next_place
 }

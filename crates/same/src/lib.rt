@@ -6,6 +6,6 @@ mod arrays;
 mod benches;
 mod results;
 
-pub use arrays::same_floats;
+pub use arrays::{SameBits, are_same};
 pub use benches::same_benches;
 pub use results::same_results;
