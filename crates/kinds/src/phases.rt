@@ -8,13 +8,7 @@ ghost use Rattle.kinds.specs.Phases.{InPhase, StateInPhase};
 pub fn is_kind(kind: u64) -> bool
     ensures { result ≡ is_kind kind }
 {
-    if kind == 1 {
-        return true;
-    }
-    if kind == 2 {
-        return true;
-    }
-    kind == 3
+    matches!(kind, 1 | 2 | 3)
 }
 
 // Whether a damped part in this phase is at its end.
@@ -28,11 +22,9 @@ pub fn damped_over(phase: u64) -> bool
 pub fn annealing_over(phase: u64) -> bool
     ensures { StateInPhase phase (λ s. result ≡ Annealing.is_finished s) }
 {
-    if phase == 5 {
-        return false;
+    match phase {
+        5 => false,
+        6 => false,
+        _ => damped_over(phase),
     }
-    if phase == 6 {
-        return false;
-    }
-    damped_over(phase)
 }
