@@ -36,7 +36,7 @@ fn put_fault(console: Console, out: &mut [u8], waiting: Waiting, line: &[u8], c:
 }
 
 // The answer to a line that is out of form: its number, the field where the cursor was left, and what is wrong there.
-pub(crate) fn put_unknown(
+pub fn put_unknown(
     console: Console,
     out: &mut [u8],
     waiting: Waiting,
@@ -55,7 +55,7 @@ pub(crate) fn put_unknown(
 }
 
 // The answer to a line that is too long for the buffer.
-pub(crate) fn put_cut(console: Console, out: &mut [u8], waiting: Waiting, number: u64) -> Waiting
+pub fn put_cut(console: Console, out: &mut [u8], waiting: Waiting, number: u64) -> Waiting
     ensures bytes_in_bounds { result.bytes ≤ length out.new }
     ensures put { Put (one_unknown waiting) out.old (cut_texts number) result out.new }
 {

@@ -2,11 +2,43 @@
 ghost use Rattle.std.specs.Prelude.{◌≡◌};
 ghost use Rattle.jobs.specs.Entries.{variable_kind, variable_type, variable_record, variable_of, operand_kind, slot_or_surface, limit_of, slot_type};
 ghost use Rattle.jobs.specs.Entries.{surface_type, operand_type, operand_record, operand_of, variable_known};
-ghost use Rattle.jobs.specs.Entries.{operand_known, follows_of, follower_surface, follower_of};
+ghost use Rattle.jobs.specs.Entries.{operand_known, follows_of, follower_surface, follower_of, zero_variable_record, zero_operand_record};
 
 use crate::types::{OperandRecord, VariableRecord};
 use merit::{MeritOperand, OperandType};
 use variables::{Follower, VariableDef, VariableType};
+
+// What stands past the counts.
+impl Default for VariableRecord {
+    ghost is_default = { λ r. r ≡ zero_variable_record };
+
+    fn default() -> VariableRecord {
+        VariableRecord {
+            kind: 0,
+            surface_index: 0,
+            enabled: 0,
+            min_value: 0.0,
+            max_value: 0.0,
+            step_size: 0.0,
+            follows: 0,
+            follower: 0,
+        }
+    }
+}
+
+impl Default for OperandRecord {
+    ghost is_default = { λ r. r ≡ zero_operand_record };
+
+    fn default() -> OperandRecord {
+        OperandRecord {
+            kind: 0,
+            at: 0,
+            limit_mm: 0.0,
+            target: 0.0,
+            weight: 0.0,
+        }
+    }
+}
 
 fn variable_kind(t: VariableType) -> u64
     ensures { result ≡ variable_kind t }

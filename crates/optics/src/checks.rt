@@ -30,7 +30,7 @@ pub fn surface_taken(s: OpticalSurface) -> bool
 }
 
 // Check 3 on the surfaces in use.
-fn surfaces_taken(surfaces: &[OpticalSurface], count: usize) -> bool
+pub fn surfaces_taken(surfaces: &[OpticalSurface], count: usize) -> bool
     requires { count ≤ length surfaces.now }
     ensures { result ≡ surfaces_taken surfaces.now count }
 {

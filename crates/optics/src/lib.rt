@@ -11,7 +11,9 @@ mod slots;
 mod trace;
 mod types;
 
-pub use checks::{above_zero_up_to, indices_taken, is_within, lens_taken, surface_taken};
+pub use checks::{
+    above_zero_up_to, indices_taken, is_within, lens_taken, surface_taken, surfaces_taken,
+};
 pub use flat::{lay_flat, surface_at};
 pub use kept::{kept_prescription, lens_counts_taken, zero_surface};
 pub use properties::{paraxial, paraxial_slots};
