@@ -8,6 +8,7 @@ use bench::Bench;
 fn has_damaged(bench: Bench) -> bool
     ensures { result ≡ any_damaged bench }
 {
+    // By place, as the definition has it: over the rows themselves the proof did not close.
     for place in 0..4 {
         if rows::is_damaged(bench.rows[place]) {
             return true;

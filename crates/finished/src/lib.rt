@@ -80,6 +80,7 @@ pub fn listed(bench: Bench) -> Finished
     for place in 0..4 {
         if rows::is_listed(bench.rows[place]) {
             let at = position(turns, places, count, place);
+            // Two steps: no proof is written where a call's result is laid right into an array.
             let next = opened(places, at, place);
             places = next;
             count += 1;
