@@ -1,5 +1,5 @@
 // A step of annealing's walk judged: the arrays that the walk holds are lent, its numbers go by value.
-ghost use Rattle.std.specs.Prelude.{◌≡◌, ◌≤◌, length};
+ghost use Rattle.std.specs.Prelude.{◌≡◌, ◌≤◌};
 ghost use Rattle.runs.specs.AnnealingRun as Run;
 ghost use Rattle.held.specs.JobFrom.{standing, variable_count_from, variables_from};
 ghost use Rattle.draws.specs.Parts.{ForAnnealer, ForAnnealerBy};

@@ -1,5 +1,5 @@
 // The two states that annealing's walk goes on to: just before the merit of a step, and the polish's beginning.
-ghost use Rattle.std.specs.Prelude.{◌≡◌, List, ◌≤◌, Float, length};
+ghost use Rattle.std.specs.Prelude.{◌≡◌, List, ◌≤◌, Float};
 ghost use Rattle.runs.specs.AnnealingRow.{at_polish, at_step};
 ghost use Rattle.runs.specs.DampedRow.{at_first};
 ghost use Rattle.held.specs.JobFrom.{standing, variable_count_from, variables_from};

@@ -1,5 +1,5 @@
 // Annealing's walk, from merit to merit as far as the polish: a step judged and the next one's draws made.
-ghost use Rattle.std.specs.Prelude.{◌≡◌, false, ℕ, ◌≤◌, length};
+ghost use Rattle.std.specs.Prelude.{◌≡◌, false, ℕ, ◌≤◌};
 ghost use Rattle.runs.specs.AnnealingRow.{walk, walk_first, resume_steps, advance_at};
 ghost use Rattle.held.specs.JobFrom.{variable_count_from, variables_from};
 ghost use Rattle.draws.specs.Parts.{ForAnnealerBy};

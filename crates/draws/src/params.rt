@@ -1,5 +1,5 @@
 // The draws for a trial of multi-start and for a step of annealing: one for each enabled variable of a held job, in order.
-ghost use Rattle.std.specs.Prelude.{◌≡◌, ◌≤◌, length};
+ghost use Rattle.std.specs.Prelude.{◌≡◌, ◌≤◌};
 ghost use Rattle.xorshift.specs.Xorshift.{step_times};
 ghost use Rattle.variables.specs.Active.{num_active};
 ghost use Rattle.runs.specs.MultiStartRun.{random_params, after_draws};

@@ -1,5 +1,5 @@
 // The job of a held row, entry by entry.
-ghost use Rattle.std.specs.Prelude.{◌≡◌, List, ◌≤◌, ◌<◌, Float, length};
+ghost use Rattle.std.specs.Prelude.{◌≡◌, List, ◌<◌, Float, length};
 ghost use Rattle.variables.specs.Active.{variable_at};
 ghost use Rattle.merit.specs.OperandTable.{operand_at};
 ghost use Rattle.jobs.specs.Entries.{variable_known, operand_known};

@@ -1,5 +1,5 @@
 // The enabled variables of a held job, in order: the q-th value belongs to the q-th of them.
-ghost use Rattle.std.specs.Prelude.{◌≡◌, ◌≤◌, length};
+ghost use Rattle.std.specs.Prelude.{◌≡◌, ◌≤◌};
 ghost use Rattle.variables.specs.Active.{num_active, active_at};
 ghost use Rattle.held.specs.JobFrom.{variable_count_from, variables_from};
 

@@ -1,5 +1,5 @@
 // What a turn of a row would work out.
-ghost use Rattle.std.specs.Prelude.{◌≡◌, List, ℕ, ◌≤◌, Float, length};
+ghost use Rattle.std.specs.Prelude.{◌≡◌, List, ℕ, ◌≤◌, Float};
 ghost use Rattle.merit.specs.Steps.{SlotsKnown};
 ghost use Rattle.runs.specs.JobMerit.{evaluate_of};
 ghost use Rattle.held.specs.JobFrom.{surface_count_from, operand_count_from, operands_from, held_job};
