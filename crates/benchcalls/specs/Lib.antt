@@ -1,5 +1,3 @@
-pub mod Admission
-pub mod AdmissionLaws
 pub mod Placed
 pub mod Play
 pub mod PlayLaws

@@ -24,9 +24,8 @@ use Rattle.bench.specs.Refusals.{no_place, admit_refusals}
 use Rattle.bench.specs.Calls.{is_vacant, row_release_refusals, admit_number, admitted_bench, turn_number, turned_bench, scratch_after, fetch_number}
 use Rattle.bench.specs.Calls.{fetched_result}
 use Rattle.bench.specs.Calls.{release_number, released_bench}
-use Rattle.rows.specs.declared.types.Fetched.{Fetched}
-use Rattle.rows.specs.declared.types.RowAnswer.{RowAnswer}
-use Rattle.rows.specs.Calls.{answered, turn_row_number, turned_row, scratch_of, admit_row_number, admit_row_of, fetch_row_number, fetch_row_of, release_row_of}
+use Rattle.rows.specs.Calls.{turn_row_number, turned_row, scratch_of, admit_row_number, admitted_row, fetch_row_number, fetched_of_row}
+use Rattle.rows.specs.Calls.{release_row_number, released_row}
 
 -- an entry that is put back where it stands
 put_back : (rs : List HeldRow) (i : ℕ) → set rs i (get_or rs i no_row) ≡ rs
@@ -106,20 +105,20 @@ module _ (b : Bench) (place : ℕ) where
     unfolding fetch_number fetch_row_number
     fetch-at = rw some
 
-    release-at : release_number b place ≡ first_refusal (row_release_refusals (row_at b place))
-    unfolding release_number
+    release-at : release_number b place ≡ release_row_number (row_at b place)
+    unfolding release_number release_row_number
     release-at = rw some
 
     admit-at : (request : JobRequest) → admit_number b place request ≡ admit_row_number (row_at b place) place request
     unfolding admit_number admit_row_number
     admit-at request = refl
 
-    -- what the row's answer says, the bench's call says
-    placed : (n m : ℕ) (new : Row) (r : RowAnswer) → m ≡ n → r ≡ answered n new (held_at b place) →
-        (r.number ≡ m) × (with_held b place r.row ≡ unless_refused m (with_row b place new) b)
-    placed n m new r e a = (
-      ap (λ (z : RowAnswer). z.number) a ∙ sym e,
-      ap (λ (z : RowAnswer). with_held b place z.row) a ∙ stored n new ∙ ap (λ (k : ℕ). unless_refused k (with_row b place new) b) (sym e),
+    -- what the row's call says, the bench's call says
+    placed : (n m : ℕ) (new : Row) (k : ℕ) (z : HeldRow) → m ≡ n → (k ≡ n) × (z ≡ unless_refused n (held_from new) (held_at b place)) →
+        (k ≡ m) × (with_held b place z ≡ unless_refused m (with_row b place new) b)
+    placed n m new k z e a = (
+      a.0 ∙ sym e,
+      ap (λ (x : HeldRow). with_held b place x) a.1 ∙ stored n new ∙ ap (λ (q : ℕ). unless_refused q (with_row b place new) b) (sym e),
     )
 
     -- the row's arrays as a turn leaves them: they are those that the row is written as
@@ -141,21 +140,19 @@ module _ (b : Bench) (place : ℕ) where
           e.2 ∙ ap (λ (k : ℕ). unless_refused k (cleared s) s) same,
         )
 
-    pub admitted-there : (request : JobRequest) (r : RowAnswer) → r ≡ admit_row_of (held_at b place) place request →
-        (r.number ≡ admit_number b place request) × (with_held b place r.row ≡ admitted_bench b place request)
-    unfolding admit_row_of
-    admitted-there request r a =
-        placed (admit_row_number (row_at b place) place request) (admit_number b place request) (admitted (job_from request)) r (admit-at request) a
+    pub admitted-there : (request : JobRequest) (k : ℕ) (z : HeldRow) →
+        (k ≡ admit_row_number (row_at b place) place request) × (z ≡ admitted_row (held_at b place) place request) →
+        (k ≡ admit_number b place request) × (with_held b place z ≡ admitted_bench b place request)
+    unfolding admitted_row
+    admitted-there request k z a =
+        placed (admit_row_number (row_at b place) place request) (admit_number b place request) (admitted (job_from request)) k z (admit-at request) a
 
-    pub released-there : (r : RowAnswer) → r ≡ release_row_of (held_at b place)
-        → (r.number ≡ release_number b place) × (with_held b place r.row ≡ released_bench b place)
-    unfolding release_row_of
-    released-there r a = placed (first_refusal (row_release_refusals (row_at b place))) (release_number b place) zero_row r release-at a
+    pub released-there : (k : ℕ) (z : HeldRow) → (k ≡ release_row_number (row_at b place)) × (z ≡ released_row (held_at b place))
+        → (k ≡ release_number b place) × (with_held b place z ≡ released_bench b place)
+    unfolding released_row
+    released-there k z a = placed (release_row_number (row_at b place)) (release_number b place) zero_row k z release-at a
 
-    pub fetched-there : (old : Result) (r : Fetched) → r ≡ fetch_row_of (held_at b place) old
-        → (r.number ≡ fetch_number b place) × (r.result ≡ fetched_result b place old)
-    unfolding fetch_row_of
-    fetched-there old r a = (
-      ap (λ (z : Fetched). z.number) a ∙ sym fetch-at,
-      ap (λ (z : Fetched). z.result) a ∙ ap (λ (k : ℕ). unless_refused k (result_of (row_at b place)) old) (sym fetch-at),
-    )
+    pub fetched-there : (old z : Result) (k : ℕ) → (k ≡ fetch_row_number (row_at b place)) × (z ≡ fetched_of_row (row_at b place) old)
+        → (k ≡ fetch_number b place) × (z ≡ fetched_result b place old)
+    unfolding fetched_of_row
+    fetched-there old z k a = (a.0 ∙ sym fetch-at, a.1 ∙ ap (λ (q : ℕ). unless_refused q (result_of (row_at b place)) old) (sym fetch-at))

@@ -2,7 +2,7 @@
 use Rattle.std.specs.Prelude.{ℕ}
 use Rattle.jobs.specs.declared.types.JobRequest.{JobRequest}
 use Rattle.runs.specs.JobRun.{Result}
-use Rattle.rows.specs.declared.types.Fetched.{Fetched}
+use Rattle.benchcalls.specs.declared.types.Fetched.{Fetched}
 use Rattle.bench.specs.declared.types.Bench.{Bench}
 use Rattle.bench.specs.Calls.{admit_number, admitted_bench, turn_number, turned_bench, fetch_number, fetched_result, release_number, released_bench, dealt_of}
 use Rattle.bench.specs.Calls.{dealt_bench}

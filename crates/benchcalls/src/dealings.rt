@@ -14,7 +14,7 @@ pub extern "C" fn deal(bench: &mut Bench, turns: u16, scratch: &mut [f64]) -> De
         × (bench.new ≡ dealt_bench bench.old turns (length scratch.old))
         × (scratch.new ≡ dealt_scratch bench.old turns scratch.old) }
 {
-    let mut round = dealing::begun(*bench, turns, scratch.len());
+    let mut round = dealing::begun(bench, turns, scratch.len());
     while round.dealt < round.limit {
         let number = lent::turn(bench, round.at, scratch);
         round = dealing::moved(round, number);

@@ -2,44 +2,44 @@
 ghost use Rattle.std.specs.Prelude.{◌≡◌, length};
 ghost use Rattle.bench.specs.Calls.{admit_number, admitted_bench, turn_number, turned_bench, scratch_after, fetch_number, fetched_result, release_number};
 ghost use Rattle.bench.specs.Calls.{released_bench, listing_of};
+ghost use Rattle.refusals.specs.Numbers.{answered};
 ghost use Rattle.held.specs.RowFrom.{Long};
 ghost use Rattle.records.specs.Exported.{admit_record_number, admitted_record_bench};
 ghost use Rattle.rowturns.specs.Parts.{held_of};
 
-use crate::admission;
 use bench::{Bench, Finished};
 use held::{HeldJob, HeldRow};
 use jobs::JobRequest;
 use records::RequestRecord;
+use refusals::Refusal;
 use runs::OptimizationResult;
 
 // A job comes to an empty place. 1 to 8 and 10.
-pub fn admit(bench: &mut Bench, place: usize, request: JobRequest) -> u32
-    ensures { (result ≡ admit_number bench.old place request) × (bench.new ≡ admitted_bench bench.old place request) }
+pub fn admit(bench: &mut Bench, place: usize, request: JobRequest) -> Result<(), Refusal>
+    ensures { (answered result ≡ admit_number bench.old place request) × (bench.new ≡ admitted_bench bench.old place request) }
 {
     if place > 3 {
-        return rows::admit_number(place, false, request);
+        return rows::admit_refusal(place, false, request);
     }
-    let row = bench.rows[place];
-    let answer = rows::admit_row(row, place, request);
-    bench.rows[place] = answer.row;
-    answer.number
+    rows::admit_row(&mut bench.rows[place], place, request)
 }
 
-// The same for a caller in C: a record of numbers, lent. A number for a kind that is none gives 1.
+// The same by a record of numbers: one that is no request is refused by 1.
+fn admit_asked(bench: &mut Bench, place: usize, asked: RequestRecord) -> Result<(), Refusal>
+    ensures { (answered result ≡ admit_record_number bench.old place asked)
+        × (bench.new ≡ admitted_record_bench bench.old place asked) }
+{
+    Refusal::BadCount.unless(records::is_request(asked))?;
+    admit(bench, place, records::request_of(asked))
+}
+
+// The same for a caller in C: the record lent. A number for a kind that is none gives 1.
 #[unsafe(no_mangle)]
 pub extern "C" fn admit_record(bench: &mut Bench, place: usize, asked: &RequestRecord) -> u32
     ensures { (result ≡ admit_record_number bench.old place asked.now)
         × (bench.new ≡ admitted_record_bench bench.old place asked.now) }
 {
-    let record = *asked;
-    if place > 3 {
-        return admission::record_number(record, place);
-    }
-    let row = bench.rows[place];
-    let answer = admission::admit_record_row(row, place, record);
-    bench.rows[place] = answer.row;
-    answer.number
+    refusals::answered(admit_asked(bench, place, *asked))
 }
 
 // Each array of a row is as long as its type says: for proofs alone, it does nothing.
@@ -84,19 +84,17 @@ fn row_long(row: &HeldRow)
     );
 }
 
-// One merit of the job at the place. 2, 9 and 11 to 13.
-#[unsafe(no_mangle)]
-pub extern "C" fn turn(bench: &mut Bench, place: usize, scratch: &mut [f64]) -> u32
-    ensures { (result ≡ turn_number bench.old place (length scratch.old))
+fn take_turn(bench: &mut Bench, place: usize, scratch: &mut [f64]) -> Result<(), Refusal>
+    ensures { (answered result ≡ turn_number bench.old place (length scratch.old))
         × (bench.new ≡ turned_bench bench.old place (length scratch.old))
         × (scratch.new ≡ scratch_after bench.old place scratch.old) }
 {
     if place > 3 {
-        return 2;
+        return Err(Refusal::NoSuchPlace);
     }
     let row = &mut bench.rows[place];
     row_long(row);
-    let number = rowturns::turn_parts(
+    let done = rowturns::turn_parts(
         &mut row.words,
         &mut row.scalars,
         &row.job,
@@ -113,7 +111,26 @@ pub extern "C" fn turn(bench: &mut Bench, place: usize, scratch: &mut [f64]) -> 
         scratch,
     );
     row_long(row);
-    number
+    done
+}
+
+// One merit of the job at the place. 2, 9 and 11 to 13.
+#[unsafe(no_mangle)]
+pub extern "C" fn turn(bench: &mut Bench, place: usize, scratch: &mut [f64]) -> u32
+    ensures { (result ≡ turn_number bench.old place (length scratch.old))
+        × (bench.new ≡ turned_bench bench.old place (length scratch.old))
+        × (scratch.new ≡ scratch_after bench.old place scratch.old) }
+{
+    refusals::answered(take_turn(bench, place, scratch))
+}
+
+fn fetch_at(bench: &Bench, place: usize, res: &mut OptimizationResult) -> Result<(), Refusal>
+    ensures { (answered result ≡ fetch_number bench.now place) × (res.new ≡ fetched_result bench.now place res.old) }
+{
+    if place > 3 {
+        return Err(Refusal::NoSuchPlace);
+    }
+    rows::fetch_row(&bench.rows[place], res)
 }
 
 // The result of a finished job; its row stays. 2, 11, 12 and 14.
@@ -121,14 +138,16 @@ pub extern "C" fn turn(bench: &mut Bench, place: usize, scratch: &mut [f64]) -> 
 pub extern "C" fn fetch(bench: &Bench, place: usize, res: &mut OptimizationResult) -> u32
     ensures { (result ≡ fetch_number bench.now place) × (res.new ≡ fetched_result bench.now place res.old) }
 {
+    refusals::answered(fetch_at(bench, place, res))
+}
+
+fn release_at(bench: &mut Bench, place: usize) -> Result<(), Refusal>
+    ensures { (answered result ≡ release_number bench.old place) × (bench.new ≡ released_bench bench.old place) }
+{
     if place > 3 {
-        return 2;
+        return Err(Refusal::NoSuchPlace);
     }
-    let row = bench.rows[place];
-    let old = *res;
-    let fetched = rows::fetch_row(row, old);
-    *res = fetched.result;
-    fetched.number
+    rows::release_row(&mut bench.rows[place])
 }
 
 // The place becomes empty, all zero. 2 and 11.
@@ -136,13 +155,7 @@ pub extern "C" fn fetch(bench: &Bench, place: usize, res: &mut OptimizationResul
 pub extern "C" fn release(bench: &mut Bench, place: usize) -> u32
     ensures { (result ≡ release_number bench.old place) × (bench.new ≡ released_bench bench.old place) }
 {
-    if place > 3 {
-        return 2;
-    }
-    let row = bench.rows[place];
-    let answer = rows::release_row(row);
-    bench.rows[place] = answer.row;
-    answer.number
+    refusals::answered(release_at(bench, place))
 }
 
 // The places whose jobs are finished, fewest working turns first, equal ones by rising place. Refuses nothing.
@@ -150,6 +163,5 @@ pub extern "C" fn release(bench: &mut Bench, place: usize) -> u32
 pub extern "C" fn finished_places(bench: &Bench) -> Finished
     ensures { result ≡ listing_of bench.now }
 {
-    let all = *bench;
-    finished::listed(all)
+    finished::listed(bench)
 }

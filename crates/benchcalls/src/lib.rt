@@ -2,7 +2,6 @@
 // Stands on `rows`, `finished`, `dealing` and `records`; called by programs, and from C or Rust as it is exported.
 #![tactic(auto)]
 
-mod admission;
 mod dealings;
 mod lent;
 mod play;
@@ -12,5 +11,5 @@ mod values;
 pub use dealings::{deal, dealt};
 pub use lent::{admit, admit_record, fetch, finished_places, release, turn};
 pub use play::play_turns;
-pub use types::{BenchAnswer, Dealing, Played};
+pub use types::{BenchAnswer, Dealing, Fetched, Played};
 pub use values::{admitted, empty_bench, fetched, released, turned};

@@ -1,10 +1,18 @@
 // What the calls by value answer, the bench, which is big, first.
 use bench::Bench;
+use runs::OptimizationResult;
 
 // The bench that a call leaves, and 01's number, 0 where the call is done.
 #[derive(Clone, Copy)]
 pub struct BenchAnswer {
     pub bench: Bench,
+    pub number: u32,
+}
+
+// The result as fetched, and the number.
+#[derive(Clone, Copy)]
+pub struct Fetched {
+    pub result: OptimizationResult,
     pub number: u32,
 }
 

@@ -4,11 +4,10 @@ ghost use Rattle.bench.specs.Benches.{empty_bench};
 ghost use Rattle.bench.specs.Calls.{scratch_after};
 ghost use Rattle.benchcalls.specs.Values.{admitted_of, turned_of, fetched_of, released_of};
 
-use crate::types::BenchAnswer;
+use crate::types::{BenchAnswer, Fetched};
 use crate::{lent, play};
 use bench::Bench;
 use jobs::JobRequest;
-use rows::Fetched;
 use runs::OptimizationResult;
 
 // "the empty bench from which others are reached is all zero"
@@ -26,7 +25,7 @@ pub fn admitted(bench: Bench, place: usize, request: JobRequest) -> BenchAnswer
     ensures { result ≡ admitted_of bench place request }
 {
     let mut b = bench;
-    let number = lent::admit(&mut b, place, request);
+    let number = refusals::answered(lent::admit(&mut b, place, request));
     BenchAnswer { bench: b, number }
 }
 

@@ -22,7 +22,7 @@ pub(crate) fn answer(
             output::put(console, out, waiting, b"Z\n")
         }
         Call::Admit { place, request } => {
-            let number = benchcalls::admit(bench, place, request);
+            let number = refusals::answered(benchcalls::admit(bench, place, request));
             pieces::put_answer(console, out, waiting, b"A", number, &[])
         }
         Call::Turn { place, room, turns } => {

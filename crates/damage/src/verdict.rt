@@ -57,7 +57,7 @@ fn is_empty(bench: &Bench, place: usize, request: JobRequest) -> bool {
 
 // No damage: a place is at its end or not, and all calls say the same of it.
 fn is_taken(bench: &Bench, place: usize) -> bool {
-    let count = finished::listed(*bench).count;
+    let count = finished::listed(bench).count;
     let agree = match (turn_number(bench, place), fetch_number(bench, place)) {
         (Some(0), Some(14)) => count == 3 && deals::serves(bench, place),
         (Some(13), Some(0)) => count == 4 && deals::deals_none(bench),
@@ -90,7 +90,7 @@ fn fetch_number(bench: &Bench, place: usize) -> Option<u32> {
 
 // The listing has the three other places: 0 to 3 but this one make 6 less this one.
 fn lists_others(bench: &Bench, place: usize) -> bool {
-    let finished = finished::listed(*bench);
+    let finished = finished::listed(bench);
     let sum = finished
         .places
         .iter()

@@ -1,33 +1,28 @@
 // What refuses a dealing before its first turn: 9, then 12.
 ghost use Rattle.std.specs.Prelude.{◌≡◌};
+ghost use Rattle.refusals.specs.Numbers.{answered};
 ghost use Rattle.bench.specs.Calls.{any_damaged, deal_number};
 
 use bench::Bench;
+use refusals::Refusal;
 
 // Whether a taken row is damaged.
-fn has_damaged(bench: Bench) -> bool
-    ensures { result ≡ any_damaged bench }
+fn has_damaged(bench: &Bench) -> bool
+    ensures { result ≡ any_damaged bench.now }
 {
     // By place, as the definition has it: over the rows themselves the proof did not close.
     for place in 0..4 {
-        if rows::is_damaged(bench.rows[place]) {
+        if rows::is_damaged(&bench.rows[place]) {
             return true;
         }
     }
     false
 }
 
-pub(crate) fn deal_number(bench: Bench, room: usize) -> u32
-    ensures { result ≡ deal_number bench room }
+#[tactic(auto, unfolding(bench::specs::Calls::deal_number))]
+pub(crate) fn deal_refusal(bench: &Bench, room: usize) -> Result<(), Refusal>
+    ensures { answered result ≡ deal_number bench.now room }
 {
-    if room < normal::SCRATCH {
-        return 9;
-    }
-    if bench.next_place > 3 {
-        return 12;
-    }
-    if has_damaged(bench) {
-        return 12;
-    }
-    0
+    Refusal::ShortScratch.unless(room >= normal::SCRATCH)?;
+    Refusal::Damaged.unless(bench.next_place < 4 && !has_damaged(bench))
 }

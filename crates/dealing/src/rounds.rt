@@ -16,10 +16,10 @@ fn place_after(place: usize) -> usize
 }
 
 // Before the first place is tried. Where the dealing is refused there is none to try.
-pub fn begun(bench: Bench, turns: u16, room: usize) -> Round
-    ensures { result ≡ begun_of bench turns room }
+pub fn begun(bench: &Bench, turns: u16, room: usize) -> Round
+    ensures { result ≡ begun_of bench.now turns room }
 {
-    let number = checks::deal_number(bench, room);
+    let number = refusals::answered(checks::deal_refusal(bench, room));
     Round {
         at: bench.next_place,
         next: bench.next_place,

@@ -1,5 +1,5 @@
 // The finished places by working turns used, fewest first, equal ones by rising place (request 10).
-// Stands on `rows`; called by `benchcalls`, and by value by programs.
+// Stands on `rows`; called by `benchcalls` and by programs.
 #![tactic(auto)]
 
 ghost use Rattle.std.specs.Prelude.{◌≡◌, ◌≤◌};
@@ -10,18 +10,22 @@ ghost use Rattle.finished.specs.Inserted.{turns_of, turns_in, position_from, ent
 use bench::{Bench, Finished};
 use held::HeldRow;
 
-fn row_turns(held: HeldRow) -> u64
-    ensures { result ≡ turns_from held.words }
+fn row_turns(row: &HeldRow) -> u64
+    ensures { result ≡ turns_from row.now.words }
 {
-    let words = held.words;
-    held::turns(&words)
+    held::turns(&row.words)
 }
 
 // Each place's working turns.
-fn turns_of(bench: Bench) -> [u64; 4]
-    ensures { result ≡ turns_of bench }
+fn turns_of(bench: &Bench) -> [u64; 4]
+    ensures { result ≡ turns_of bench.now }
 {
-    bench.rows.map(|row| row_turns(row))
+    [
+        row_turns(&bench.rows[0]),
+        row_turns(&bench.rows[1]),
+        row_turns(&bench.rows[2]),
+        row_turns(&bench.rows[3]),
+    ]
 }
 
 fn turns_at(turns: [u64; 4], place: usize) -> u64
@@ -71,14 +75,14 @@ fn opened(places: [usize; 4], at: usize, place: usize) -> [usize; 4]
     ]
 }
 
-pub fn listed(bench: Bench) -> Finished
-    ensures { result ≡ listing_of bench }
+pub fn listed(bench: &Bench) -> Finished
+    ensures { result ≡ listing_of bench.now }
 {
     let turns = turns_of(bench);
     let mut places = [0; 4];
     let mut count: usize = 0;
     for place in 0..4 {
-        if rows::is_listed(bench.rows[place]) {
+        if rows::is_listed(&bench.rows[place]) {
             let at = position(turns, places, count, place);
             // Two steps: no proof is written where a call's result is laid right into an array.
             let next = opened(places, at, place);

@@ -2,6 +2,7 @@
 ghost use Rattle.std.specs.Prelude.{◌<◌};
 
 use bench::Bench;
+use refusals::Refusal;
 
 // The digest and the number of a job's turns.
 #[derive(Clone, Copy)]
@@ -11,13 +12,13 @@ pub(crate) struct Turns {
 }
 
 // The digest with the surfaces and the merit that the place's next turn works out.
-fn with_pending(hash: u64, bench: &Bench, place: usize) -> u64
+fn with_pending(hash: u64, bench: &Bench, place: usize) -> Result<u64, Refusal>
     requires { place < 4 }
 {
-    let row = bench.rows[place];
-    let pending = rowturns::pending_of(row);
+    let row = &bench.rows[place];
+    let pending = rowturns::pending_of(row)?;
     let h = answers::with_surfaces(hash, pending.surfaces, row.job.surface_count());
-    answers::with_float(h, pending.merit)
+    Ok(answers::with_float(h, pending.merit))
 }
 
 // One of the three other places, in rotation.
@@ -30,7 +31,7 @@ fn other_place(place: usize, turns: u64) -> usize {
 fn step(bench: &mut Bench, place: usize, turns: Turns) -> Option<Turns>
     requires { place < 4 }
 {
-    let hash = with_pending(turns.hash, bench, place);
+    let hash = with_pending(turns.hash, bench, place).ok()?;
     let mut scratch = [0.0; 128];
     if benchcalls::turn(bench, place, &mut scratch) > 0 {
         return None;

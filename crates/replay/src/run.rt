@@ -6,6 +6,7 @@ use crate::play;
 use crate::play::Turns;
 use bench::Bench;
 use jobs::JobRequest;
+use refusals::Refusal;
 use streams::console::Console;
 use streams::output::Waiting;
 
@@ -20,18 +21,17 @@ pub(crate) fn answer(
 ) -> Waiting
     requires { place < 4 }
 {
-    let number = admit(bench, place, request);
-    if number > 0 {
-        return answers::put_refused(console, out, waiting, number, true);
+    if let Err(refusal) = admit(bench, place, request) {
+        return answers::put_refused(console, out, waiting, refusal.number(), true);
     }
     let turns = play::play(bench, place);
     let waiting = put_played(console, out, waiting, bench, place, turns, request);
-    admit(bench, place, request);
+    let _ = admit(bench, place, request);
     waiting
 }
 
 // Admits the job to the place, from which another's may have to go.
-fn admit(bench: &mut Bench, place: usize, request: JobRequest) -> u32 {
+fn admit(bench: &mut Bench, place: usize, request: JobRequest) -> Result<(), Refusal> {
     benchcalls::release(bench, place);
     benchcalls::admit(bench, place, request)
 }

@@ -17,6 +17,12 @@ use Rattle.runs.specs.Damage.{damaged}
 use Rattle.runs.specs.Rows.{finished_by, is_finished}
 use Rattle.runs.specs.State.{state_of}
 use Rattle.kinds.specs.Phases.{StateInPhase}
+use Rattle.refusals.specs.Numbers.{number_of, answered}
+use Rattle.refusals.proofs.Laws.{number-distinct}
+use Rattle.refusals.specs.declared.Refusal.{Refusal as Cause}
+use Rattle.refusals.specs.declared.Refusal.TheVariants.{Finished, Unfinished}
+use Rattle.std.specs.Prelude.{Result, Ok, Err, is_ok, ⊤}
+use borrow.Author.Tests.{ne_eqb}
 use Rattle.bench.specs.Calls.{row_turn_refusals, row_fetch_refusals}
 use Rattle.rows.specs.Calls.{turn_row_number, fetch_row_number}
 
@@ -28,11 +34,16 @@ module _ {A : Type 0} (n m : ℕ) (e : n ≡ m) (new old : A) where
   pub made_by : n ≤ 0 → new ≡ unless_refused m new old
   made_by h = ap (λ (k : ℕ). unless_refused k new old) (sym (none n h) ∙ e)
 
-pub zero-by : (n m : ℕ) → n ≡ m → n ≤ 0 → 0 ≡ m
-zero-by n m e h = sym (none n h) ∙ e
-
 nonzero : (n : ℕ) → n ≡ 0 → 0 < n → ⊥
 nonzero n e h = omega arith
+
+pub above-zero : (c : Cause) → 0 < number_of c
+above-zero c = (number-distinct c).0
+
+-- a call is done exactly where 0 is its number
+pub done-is : {A : Type 0} (r : Result A Cause) → is_ok r ≡ eqb (answered r) 0
+done-is (Ok x) = refl
+done-is (Err c) = sym (ne_eqb (number_of c) 0 (λ e. nonzero _ e (above-zero c)))
 
 -- ---- 11 and 12 come first
 pub first_two : (a b : Bool) (n rest : ℕ) → n ≡ cond a 11 (cond b 12 0) → 0 < n → n ≡ cond a 11 (cond b 12 rest)
@@ -64,6 +75,17 @@ module _ (r : Row) {kind phase : ℕ} {b t : Bool} (over : (c : SettingsRecord) 
   unfolding is_finished
   finished-is k p h = sym (over r.job.settings (state_of r) (sym p) ∙ ap (λ (n : ℕ). finished_by (method n r.job.settings) (state_of r)) k) ∙ h
 
+abbrev gate : Bool → Cause → Result ⊤ Cause
+gate holds c = cond holds (Ok tt) (Err c)
+
+pub thirteen : (over : Bool) → answered (gate (not over) Finished) ≡ cond over 13 0
+thirteen true = refl
+thirteen false = refl
+
+pub fourteen : (over : Bool) → answered (gate over Unfinished) ≡ cond (not over) 14 0
+fourteen true = refl
+fourteen false = refl
+
 -- ---- no number
 pub record Turnable (length : ℕ) (r : Row) : Type 0 where
   pub long : scratch_length ≤ length
@@ -86,9 +108,3 @@ listed true h f = refl
 listed false true f = refl
 listed false false true = refl
 listed false false false = refl
-
-pub harmed : (vacant harmed finished : Bool) → eqb (cond vacant 11 (cond harmed 12 (cond (not finished) 14 0))) 12 ≡ not vacant && harmed
-harmed true h f = refl
-harmed false true f = refl
-harmed false false true = refl
-harmed false false false = refl

@@ -16,12 +16,6 @@ use Rattle.held.specs.declared.types.HeldRow.{HeldRow}
 use Rattle.bench.specs.Benches.{zero_row}
 use Rattle.bench.specs.Refusals.{admit_refusals}
 use Rattle.bench.specs.Calls.{is_vacant, row_turn_refusals, row_fetch_refusals, row_release_refusals}
-use Rattle.rows.specs.declared.types.Fetched.{Fetched}
-use Rattle.rows.specs.declared.types.RowAnswer.{RowAnswer}
-
--- a row changed unless a number refuses it
-abbrev pub answered : (number : ℕ) (new : Row) (old : HeldRow) → RowAnswer
-answered n new old = record { row = unless_refused n (held_from new) old; number = n }
 
 -- 11 and 12, which turn and fetch have in common
 abbrev pub usable_number : Row → ℕ
@@ -39,14 +33,18 @@ scratch_of r s = unless_refused (turn_row_number (length s) r) (cleared s) s
 unfoldable pub admit_row_number : Row → (place : ℕ) → JobRequest → ℕ
 admit_row_number r place request = first_refusal (admit_refusals place request (not (is_vacant r)))
 
-unfoldable pub admit_row_of : HeldRow → (place : ℕ) → JobRequest → RowAnswer
-admit_row_of h place request = answered (admit_row_number (row_from h) place request) (admitted (job_from request)) h
+-- the row of the place, unless a number refuses the call
+unfoldable pub admitted_row : HeldRow → (place : ℕ) → JobRequest → HeldRow
+admitted_row h place request = unless_refused (admit_row_number (row_from h) place request) (held_from (admitted (job_from request))) h
 
 unfoldable pub fetch_row_number : Row → ℕ
 fetch_row_number r = first_refusal (row_fetch_refusals r)
 
-unfoldable pub fetch_row_of : HeldRow → (old : Result) → Fetched
-fetch_row_of h old = record { result = unless_refused (fetch_row_number (row_from h)) (result_of (row_from h)) old; number = fetch_row_number (row_from h) }
+unfoldable pub fetched_of_row : Row → (old : Result) → Result
+fetched_of_row r old = unless_refused (fetch_row_number r) (result_of r) old
 
-unfoldable pub release_row_of : HeldRow → RowAnswer
-release_row_of h = answered (first_refusal (row_release_refusals (row_from h))) zero_row h
+unfoldable pub release_row_number : Row → ℕ
+release_row_number r = first_refusal (row_release_refusals r)
+
+unfoldable pub released_row : HeldRow → HeldRow
+released_row h = unless_refused (release_row_number (row_from h)) (held_from zero_row) h

@@ -1,71 +1,46 @@
-// Admission to the place that holds a row, and its release: the row that each leaves, by value, and its number.
+// Admission to the place that holds a row, and its release: the row is lent, and stays as it is where the call is refused.
 ghost use Rattle.std.specs.Prelude.{◌≡◌};
 ghost use Rattle.lists.specs.Refusals.{first_refusal};
+ghost use Rattle.refusals.specs.Numbers.{answered};
+ghost use Rattle.held.specs.RowFrom.{row_from};
 ghost use Rattle.bench.specs.Refusals.{admit_refusals};
-ghost use Rattle.rows.specs.Calls.{admit_row_of, release_row_of};
+ghost use Rattle.rows.specs.Calls.{admit_row_number, admitted_row, release_row_number, released_row};
 
 use crate::began::began;
-use crate::types::RowAnswer;
 use crate::zeros;
 use held::HeldRow;
 use jobs::{JobRecord, JobRequest};
+use refusals::Refusal;
 
-// What refuses an admission: 1, 2, 3 to 8, and 10 where the place is occupied.
-pub fn admit_number(place: usize, occupied: bool, request: JobRequest) -> u32
-    ensures { result ≡ first_refusal (admit_refusals place request occupied) }
+// Why an admission is refused: 1, 2, 3 to 8, and 10 where the place is occupied.
+pub fn admit_refusal(place: usize, occupied: bool, request: JobRequest) -> Result<(), Refusal>
+    ensures { answered result ≡ first_refusal (admit_refusals place request occupied) }
 {
-    let number = refusals::answered(defaults::refusal_of(request));
-    if number == 1 {
-        return 1;
+    let asked = defaults::refusal_of(request);
+    if matches!(asked, Err(Refusal::BadCount)) {
+        return asked;
     }
-    if place > 3 {
-        return 2;
-    }
-    if number > 0 {
-        return number;
-    }
-    if occupied {
-        return 10;
-    }
-    0
+    Refusal::NoSuchPlace.unless(place < 4)?;
+    asked?;
+    Refusal::Taken.unless(!occupied)
 }
 
 // An admission to the place that holds the row.
-pub fn admit_row(held: HeldRow, place: usize, request: JobRequest) -> RowAnswer
-    ensures { result ≡ admit_row_of held place request }
+pub fn admit_row(row: &mut HeldRow, place: usize, request: JobRequest) -> Result<(), Refusal>
+    ensures { (answered result ≡ admit_row_number (row_from row.old) place request) × (row.new ≡ admitted_row row.old place request) }
 {
-    let words = held.words;
-    let number = admit_number(place, held::kind(&words) != 0, request);
-    if number > 0 {
-        return RowAnswer {
-            row: held,
-            number: number,
-        };
-    }
+    admit_refusal(place, held::kind(&row.words) != 0, request)?;
     let job = defaults::job_from(request);
-    let record = JobRecord::from(job);
-    let admitted = began(record, job);
-    let left = heldrows::held_of(admitted);
-    RowAnswer {
-        row: left,
-        number: 0,
-    }
+    *row = heldrows::held_of(began(JobRecord::from(job), job));
+    Ok(())
 }
 
 // A release.
-pub fn release_row(held: HeldRow) -> RowAnswer
-    ensures { result ≡ release_row_of held }
+#[tactic(auto, unfolding(crate::specs::Calls::release_row_number, crate::specs::Calls::released_row))]
+pub fn release_row(row: &mut HeldRow) -> Result<(), Refusal>
+    ensures { (answered result ≡ release_row_number (row_from row.old)) × (row.new ≡ released_row row.old) }
 {
-    let words = held.words;
-    if held::kind(&words) == 0 {
-        return RowAnswer {
-            row: held,
-            number: 11,
-        };
-    }
-    let zero = zeros::zero_row();
-    RowAnswer {
-        row: zero,
-        number: 0,
-    }
+    Refusal::Empty.unless(held::kind(&row.words) != 0)?;
+    *row = zeros::zero_row();
+    Ok(())
 }

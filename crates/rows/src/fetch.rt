@@ -1,49 +1,42 @@
 // A fetch from the place that holds a row, whether the listing has that place, and whether its row is damaged.
 ghost use Rattle.std.specs.Prelude.{◌≡◌};
+ghost use Rattle.refusals.specs.Numbers.{answered};
 ghost use Rattle.held.specs.RowFrom.{row_from};
 ghost use Rattle.bench.specs.Calls.{is_listed, taken_damaged};
-ghost use Rattle.rows.specs.Calls.{fetch_row_number, fetch_row_of};
+ghost use Rattle.rows.specs.Calls.{fetch_row_number, fetched_of_row};
 
-use crate::numbers::fetch_number;
+use crate::numbers::fetch_refusal;
 use crate::results::result_of;
-use crate::types::Fetched;
 use held::HeldRow;
+use refusals::Refusal;
 use runs::OptimizationResult;
 
-fn number_of(held: HeldRow) -> u32
-    ensures { result ≡ fetch_row_number (row_from held) }
+fn refusal_of(row: &HeldRow) -> Result<(), Refusal>
+    ensures { answered result ≡ fetch_row_number (row_from row.now) }
 {
-    fetch_number(&held.words, &held.job, &held.surfaces, &held.best_surfaces)
+    fetch_refusal(&row.words, &row.job, &row.surfaces, &row.best_surfaces)
 }
 
-// The result of the row's run, or `old` where the fetch is refused.
-pub fn fetch_row(held: HeldRow, old: OptimizationResult) -> Fetched
-    ensures { result ≡ fetch_row_of held old }
+// The result of the row's run; what is lent for it stays where the fetch is refused.
+pub fn fetch_row(row: &HeldRow, res: &mut OptimizationResult) -> Result<(), Refusal>
+    ensures { (answered result ≡ fetch_row_number (row_from row.now)) × (res.new ≡ fetched_of_row (row_from row.now) res.old) }
 {
-    let number = number_of(held);
-    if number > 0 {
-        return Fetched {
-            result: old,
-            number: number,
-        };
-    }
-    let result = result_of(held);
-    Fetched {
-        result: result,
-        number: 0,
-    }
+    refusal_of(row)?;
+    *res = result_of(row);
+    Ok(())
 }
 
 // Whether the listing has the row's place.
-pub fn is_listed(held: HeldRow) -> bool
-    ensures { result ≡ is_listed (row_from held) }
+pub fn is_listed(row: &HeldRow) -> bool
+    ensures { result ≡ is_listed (row_from row.now) }
 {
-    number_of(held) == 0
+    refusal_of(row).is_ok()
 }
 
 // Whether the place is taken and its row damaged.
-pub fn is_damaged(held: HeldRow) -> bool
-    ensures { result ≡ taken_damaged (row_from held) }
+pub fn is_damaged(row: &HeldRow) -> bool
+    ensures { result ≡ taken_damaged (row_from row.now) }
 {
-    number_of(held) == 12
+    held::kind(&row.words) != 0
+        && helddamage::is_damaged(&row.words, &row.job, &row.surfaces, &row.best_surfaces)
 }

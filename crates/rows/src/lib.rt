@@ -1,4 +1,4 @@
-// The calls on one row but for a turn: admission, fetch, release, listing; and the number that a turn is refused with (01's bench).
+// The calls on one row but for a turn: admission, fetch, release, listing; and why a turn is refused (01's bench).
 // Stands on `helddamage`, `heldrows` and `bench`; called by `benchcalls`, `finished`, `dealing` and `rowturns`.
 #![tactic(auto)]
 
@@ -7,11 +7,9 @@ mod calls;
 mod fetch;
 mod numbers;
 mod results;
-mod types;
 mod zeros;
 
-pub use calls::{admit_number, admit_row, release_row};
+pub use calls::{admit_refusal, admit_row, release_row};
 pub use fetch::{fetch_row, is_damaged, is_listed};
-pub use numbers::turn_number;
-pub use types::{Fetched, RowAnswer};
+pub use numbers::turn_refusal;
 pub use zeros::{zero_result, zero_row, zero_surfaces};

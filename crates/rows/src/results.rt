@@ -32,62 +32,52 @@ fn result_from(
 }
 
 // That of the damped part.
-fn damped_result(h: Head, held: HeldRow) -> OptimizationResult
-    ensures { let state = damped_from h held.surfaces held.jacobian held.values held.residuals held.plus_residuals held.params
-        held.candidate in
+fn damped_result(h: Head, row: &HeldRow) -> OptimizationResult
+    ensures { let state = damped_from h row.now.surfaces row.now.jacobian row.now.values row.now.residuals row.now.plus_residuals row.now.params
+        row.now.candidate in
         result ≡ Damped.result_of state }
 {
-    let surfaces = held.surfaces;
-    let values = held.values;
-    let residuals = held.residuals;
     let b = BestHead {
         initial_merit: h.initial_merit,
         final_merit: h.total_merit,
         iterations: h.iteration,
         converged: h.converged,
     };
-    result_from(b, &surfaces, values, residuals)
+    result_from(b, &row.surfaces, row.values, row.residuals)
 }
 
 // The best of all trials.
-fn best_result(b: BestHead, held: HeldRow) -> OptimizationResult
-    ensures { result ≡ result_from b held.best_surfaces held.best_values held.best_residuals }
+fn best_result(b: BestHead, row: &HeldRow) -> OptimizationResult
+    ensures { result ≡ result_from b row.now.best_surfaces row.now.best_values row.now.best_residuals }
 {
-    let surfaces = held.best_surfaces;
-    let values = held.best_values;
-    let residuals = held.best_residuals;
-    result_from(b, &surfaces, values, residuals)
+    result_from(b, &row.best_surfaces, row.best_values, row.best_residuals)
 }
 
 // Annealing's: the polish's, with the first merit and the steps of the walk.
-fn polished(h: RowHead, held: HeldRow) -> OptimizationResult
-    requires { (max_cooling_cycles_from held.job.counts ≤ 1000) × (steps_per_temperature_from held.job.counts ≤ 1000) × (h.damped.iteration ≤ 1000) }
-    ensures { (a : Annealer) → a.config ≡ annealing_config (settings_from held.job.counts held.job.numbers) →
-        let state = damped_from h.damped held.surfaces held.jacobian held.values held.residuals held.plus_residuals held.params
-        held.candidate in
+fn polished(h: RowHead, row: &HeldRow) -> OptimizationResult
+    requires { (max_cooling_cycles_from row.now.job.counts ≤ 1000) × (steps_per_temperature_from row.now.job.counts ≤ 1000) × (h.damped.iteration ≤ 1000) }
+    ensures { (a : Annealer) → a.config ≡ annealing_config (settings_from row.now.job.counts row.now.job.numbers) →
+        let state = damped_from h.damped row.now.surfaces row.now.jacobian row.now.values row.now.residuals row.now.plus_residuals row.now.params
+        row.now.candidate in
         result ≡ with_prior a h.best.initial_merit (Damped.result_of state) }
 {
-    let job = held.job;
-    let damped = h.damped;
-    let mut result = damped_result(damped, held);
+    let mut result = damped_result(h.damped, row);
     result.initial_merit = h.best.initial_merit;
-    let steps = job.max_cooling_cycles() * job.steps_per_temperature();
-    result.iterations = steps + damped.iteration;
+    let steps = row.job.max_cooling_cycles() * row.job.steps_per_temperature();
+    result.iterations = steps + h.damped.iteration;
     result
 }
 
 // By kind.
-pub(crate) fn result_of(held: HeldRow) -> OptimizationResult
-    requires { CountsWithin (job_of_row (row_from held)).method × ((row_from held).damped.iteration ≤ 1000) }
-    ensures { result ≡ result_of (row_from held) }
+pub(crate) fn result_of(row: &HeldRow) -> OptimizationResult
+    requires { CountsWithin (job_of_row (row_from row.now)).method × ((row_from row.now).damped.iteration ≤ 1000) }
+    ensures { result ≡ result_of (row_from row.now) }
 {
-    let words = held.words;
-    let scalars = held.scalars;
-    let h = held::head_of(&words, &scalars);
+    let h = held::head_of(&row.words, &row.scalars);
     // A kind stays a number: what is neither 1 nor 2 counts as annealing.
-    match held::kind(&words) {
-        1 => damped_result(h.damped, held),
-        2 => best_result(h.best, held),
-        _ => polished(h, held),
+    match held::kind(&row.words) {
+        1 => damped_result(h.damped, row),
+        2 => best_result(h.best, row),
+        _ => polished(h, row),
     }
 }

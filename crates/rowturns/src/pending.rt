@@ -2,6 +2,7 @@
 ghost use Rattle.std.specs.Prelude.{◌≡◌, List, ℕ, ◌≤◌, Float};
 ghost use Rattle.merit.specs.Steps.{SlotsKnown};
 ghost use Rattle.runs.specs.JobMerit.{evaluate_of};
+ghost use Rattle.refusals.specs.Numbers.{numbered};
 ghost use Rattle.held.specs.JobFrom.{surface_count_from, operand_count_from, operands_from, held_job};
 ghost use Rattle.held.specs.RowFrom.{row_from};
 ghost use Rattle.rowturns.specs.Next.{pending_of};
@@ -10,7 +11,8 @@ ghost use Rattle.rowturns.specs.Parts.{held_of};
 use crate::types::Pending;
 use held::{HeldJob, HeldRow};
 use optics::OpticalSurface;
-use rows::{turn_number, zero_surfaces};
+use refusals::Refusal;
+use rows::turn_refusal;
 
 // The merit of surfaces under a held job, worked out where they are laid flat.
 fn merit_at(lens: [OpticalSurface; 16], job: &HeldJob) -> f64
@@ -34,44 +36,35 @@ fn pending_parts(
     params: &[f64; 8],
     candidate: &[f64; 8],
     best_surfaces: &[f64; 64],
-) -> Pending
+) -> Result<Pending, Refusal>
     ensures { (jacobian values residuals plus bv br : List Float) →
         let row = row_from (held_of words.now scalars.now job.now surfaces.now
         jacobian values residuals plus params.now candidate.now best_surfaces.now bv br) in
-        result ≡ pending_of row }
+        numbered result ≡ pending_of row }
 {
-    let number = turn_number(normal::SCRATCH, words, job, surfaces, best_surfaces);
-    if number > 0 {
-        let zero = zero_surfaces();
-        return Pending {
-            surfaces: zero,
-            merit: 0.0,
-            number: number,
-        };
-    }
+    turn_refusal(normal::SCRATCH, words, job, surfaces, best_surfaces)?;
     let h = held::head_of(words, scalars);
     let kind = held::kind(words);
     let mut flat = [0.0; 64];
     turns::pending_surfaces(h, kind, job, surfaces, params, candidate, &mut flat);
     let pending = held::stand(&flat);
-    Pending {
+    Ok(Pending {
         surfaces: pending,
         merit: merit_at(pending, job),
-        number: 0,
-    }
+    })
 }
 
-// The same, of a row by value.
-pub fn pending_of(held: HeldRow) -> Pending
-    ensures { result ≡ pending_of (row_from held) }
+// The same, of a row; or why its next turn, with scratch enough, is refused.
+pub fn pending_of(row: &HeldRow) -> Result<Pending, Refusal>
+    ensures { numbered result ≡ pending_of (row_from row.now) }
 {
     pending_parts(
-        &held.words,
-        &held.scalars,
-        &held.job,
-        &held.surfaces,
-        &held.params,
-        &held.candidate,
-        &held.best_surfaces,
+        &row.words,
+        &row.scalars,
+        &row.job,
+        &row.surfaces,
+        &row.params,
+        &row.candidate,
+        &row.best_surfaces,
     )
 }

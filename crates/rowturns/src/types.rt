@@ -1,10 +1,9 @@
 // What is said of the next turn. The big field stands first.
 use optics::OpticalSurface;
 
-// The surfaces whose merit comes next, that merit, and the number of a turn with scratch enough; zero where it is refused.
+// The surfaces whose merit comes next, and that merit.
 #[derive(Clone, Copy)]
 pub struct Pending {
     pub surfaces: [OpticalSurface; 16],
     pub merit: f64,
-    pub number: u32,
 }

@@ -40,5 +40,5 @@ loop-place-preserved c =
 pub returns : goal.returns
 returns c =
     gathered-all _ _ _
-    (subst (λ (k : ℕ). Gathered c.args.bench k c.loop-place.places c.loop-place.count)
+    (subst (λ (k : ℕ). Gathered c.args.bench.now k c.loop-place.places c.loop-place.count)
     (four _ (omega arith) (omega arith)) c.loop-place.invariant)

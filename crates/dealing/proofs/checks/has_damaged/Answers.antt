@@ -15,11 +15,11 @@ loop-place-init c = search rules
 
 pub returns-then-is_damaged : goal.returns-then-is_damaged
 returns-then-is_damaged c =
-    sym (ap not (not-all (sound c.args.bench) 4 c.loop-place.place (omega arith) (ap not (sym c.is_damaged.ensures ∙ c.if-is_damaged.true))))
+    sym (ap not (not-all (sound c.args.bench.now) 4 c.loop-place.place (omega arith) (ap not (sym c.is_damaged.ensures ∙ c.if-is_damaged.true))))
 
 pub loop-place-preserved : goal.loop-place-preserved
 loop-place-preserved c =
-    all_more (sound c.args.bench) c.loop-place.place c.loop-place.invariant (ap not (sym c.is_damaged.ensures ∙ c.if-is_damaged.false))
+    all_more (sound c.args.bench.now) c.loop-place.place c.loop-place.invariant (ap not (sym c.is_damaged.ensures ∙ c.if-is_damaged.false))
 
 pub returns : goal.returns
 returns c =

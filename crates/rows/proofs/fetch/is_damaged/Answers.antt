@@ -1,17 +1,11 @@
--- `rows::fetch::is_damaged` meets its contract: where 12 refuses a fetch. Assumes nothing.
-use Prim.Native.Nat.{ℕ}
-use mathlib.Core.Path.{ap, ◌∙◌}
-use lib.Dec.{eqb}
-use Rattle.runs.specs.Damage.{damaged}
-use Rattle.runs.specs.Rows.{is_finished}
-use Rattle.held.specs.RowFrom.{row_from}
-use Rattle.bench.specs.Calls.{is_vacant}
-use Rattle.rows.specs.Calls.{fetch_row_number}
-use Rattle.rows.proofs.Refused.{harmed}
+-- `rows::fetch::is_damaged` meets its contract: past a kind that is one, the damage test decides. Assumes nothing.
+use mathlib.Core.Path.{sym, ◌∙◌}
+use borrow.Author.Tests.{ne_eqb}
+use Rattle.held.specs.RowFrom.{kind_from}
+use Rattle.rows.specs.Others.{others_of}
 use Rattle.rows.proofs.fetch.is_damaged.Goals as goal
 
-pub returns : goal.returns
-unfolding fetch_row_number
-returns c =
-    let r = row_from c.args.held in
-    ap (λ (k : ℕ). eqb k 12) c.number_of.ensures ∙ harmed (is_vacant r) (damaged r) (is_finished r)
+pub returns-then-kind-ne0 : goal.returns-then-kind-ne0
+returns-then-kind-ne0 c =
+    let h = c.args.row.now in
+    rw (ne_eqb (kind_from h.words) 0 (λ z. c.if-kind-ne0.true (c.kind.ensures ∙ z))) (c.is_damaged.ensures (others_of h))

@@ -7,11 +7,11 @@ use Rattle.runs.specs.Rows.{is_finished}
 use Rattle.held.specs.RowFrom.{row_from}
 use Rattle.bench.specs.Calls.{is_vacant}
 use Rattle.rows.specs.Calls.{fetch_row_number}
-use Rattle.rows.proofs.Refused.{listed}
+use Rattle.rows.proofs.Refused.{done-is, listed}
 use Rattle.rows.proofs.fetch.is_listed.Goals as goal
 
 pub returns : goal.returns
 unfolding fetch_row_number
 returns c =
-    let r = row_from c.args.held in
-    ap (λ (k : ℕ). eqb k 0) c.number_of.ensures ∙ listed (is_vacant r) (damaged r) (is_finished r)
+    let r = row_from c.args.row.now in
+    c.is_ok.ensures.value ∙ done-is c.refusal_of.result ∙ ap (λ (k : ℕ). eqb k 0) c.refusal_of.ensures ∙ listed (is_vacant r) (damaged r) (is_finished r)

@@ -18,7 +18,7 @@ use Rattle.rows.proofs.results.result_of.Goals as goal
 pub returns-in-1 : goal.returns-in-1
 unfolding result_of result_by
 returns-in-1 c =
-    let x = c.args.held in
+    let x = c.args.row.now in
     let r = row_from x in
     c.damped_result.ensures
     ∙ ap (λ (h : RowHead). Damped.result_of (damped_from h.damped x.surfaces x.jacobian x.values x.residuals x.plus_residuals x.params
@@ -30,7 +30,7 @@ returns-in-1 c =
 pub returns-in-2 : goal.returns-in-2
 unfolding result_of result_by
 returns-in-2 c =
-    let x = c.args.held in
+    let x = c.args.row.now in
     let r = row_from x in
     c.best_result.ensures
     ∙ ap (λ (h : RowHead). result_from h.best x.best_surfaces x.best_values x.best_residuals)
@@ -41,7 +41,7 @@ returns-in-2 c =
 
 pub polished-requires : goal.polished-requires
 polished-requires c =
-    let x = c.args.held in
+    let x = c.args.row.now in
     let pre = c.requires in
     let m = is-annealing (kind_from x.words) (settings_from x.job.counts x.job.numbers) (λ z. omega (arith, c.kind.ensures))
     (λ z. omega (arith, c.kind.ensures)) in
@@ -51,7 +51,7 @@ polished-requires c =
 pub returns-in_default : goal.returns-in_default
 unfolding result_of result_by
 returns-in_default c =
-    let x = c.args.held in
+    let x = c.args.row.now in
     let r = row_from x in
     let s = settings_from x.job.counts x.job.numbers in
     let a = annealer_of (job_of_row r) (annealing_config s) in

@@ -16,24 +16,26 @@ use Rattle.held.specs.JobFrom.{job_record_from, held_job}
 use Rattle.held.specs.RowFrom.{row_from, turns_from, state_from}
 use Rattle.turns.specs.Turned.{turned_by}
 use Rattle.rows.specs.Calls.{turn_row_number, turned_row, scratch_of}
-use Rattle.rows.proofs.Refused.{kept_by, made_by, zero-by, turnable}
+use Rattle.rows.proofs.Refused.{kept_by, made_by, above-zero, turnable}
+use Rattle.std.proofs.lemmas.Result.{err_from_is_err_and}
 use Rattle.rows.proofs.Undamaged.{job-taken, column-below, turns-below}
 use Rattle.rows.specs.Others.{others_of}
 use Rattle.rowturns.specs.Parts.{held_of}
 use Rattle.rowturns.proofs.parts.turn_parts.Goals as goal
 
-pub returns-then-refused-gt0 : goal.returns-then-refused-gt0
+pub returns-in_err-turn_refusal : goal.returns-in_err-turn_refusal
 unfolding turned_row scratch_of
-returns-then-refused-gt0 c =
+returns-in_err-turn_refusal c =
     let x = c.args in
     let h = held_of x.words.now x.scalars.now x.job.now x.surfaces.now x.jacobian.now x.values.now
     x.residuals.now x.plus_residuals.now x.params.now x.candidate.now x.best_surfaces.now x.best_values.now
     x.best_residuals.now in
     let r = row_from h in
     let l = x.scratch.now in
-    let e = c.turn_number-refused.ensures (others_of h) in
+    let e = c.in_err-turn_refusal.ensures (others_of h) in
     let n = turn_row_number (length l) r in
-    (e, kept_by _ n e (Turn.turned r) r c.if-refused-gt0.true, kept_by _ n e (cleared l) l c.if-refused-gt0.true)
+    let p = err_from_is_err_and c.from_residual.result c.from_residual.ensures.1 in
+    rw (p.1, p.2) (e, kept_by _ n e (Turn.turned r) r (above-zero _), kept_by _ n e (cleared l) l (above-zero _))
 
 pub overflow_add-turns : goal.overflow_add-turns
 overflow_add-turns c =
@@ -43,8 +45,8 @@ overflow_add-turns c =
     x.best_residuals.now in
     let r = row_from h in
     let l = x.scratch.now in
-    let e = c.turn_number-refused.ensures (others_of h) in
-    let t = turnable _ (length l) r e c.if-refused-gt0.false in
+    let e = c.in_ok-turn_refusal.ensures (others_of h) in
+    let t = turnable _ (length l) r e (omega arith) in
     omega (arith, c.turns-turns.ensures, turns-below r t.sound t.going)
 
 pub turned-next-requires : goal.turned-next-requires
@@ -55,9 +57,9 @@ turned-next-requires c =
     x.best_residuals.now in
     let r = row_from h in
     let l = x.scratch.now in
-    let e = c.turn_number-refused.ensures (others_of h) in
+    let e = c.in_ok-turn_refusal.ensures (others_of h) in
     let t = turnable _ (length l) r e
-    c.if-refused-gt0.false in record {
+    (omega arith) in record {
       fact_1 = t.long;
       fact_2 = ap (λ (k : ℕ). job_taken (held_job x.job.now.counts x.job.now.numbers k)) c.kind-kind.ensures ∙ job-taken r t.sound;
       fact_3 = rw c.head_of-h.ensures (column-below r t.sound);
@@ -71,9 +73,9 @@ zero_first-requires c =
     x.best_residuals.now in
     let r = row_from h in
     let l = x.scratch.now in
-    let e = c.turn_number-refused.ensures (others_of h) in
+    let e = c.in_ok-turn_refusal.ensures (others_of h) in
     let t = turnable _ (length l) r e
-    c.if-refused-gt0.false in
+    (omega arith) in
     omega (arith, t.long, c.turned-next.ensures.fact_2.long)
 
 pub returns : goal.returns
@@ -85,13 +87,12 @@ returns c =
     x.best_residuals.now in
     let r = row_from h in
     let l = x.scratch.now in
-    let e = c.turn_number-refused.ensures (others_of h) in
+    let e = c.in_ok-turn_refusal.ensures (others_of h) in
     let n = turn_row_number (length l) r in
     let k = c.kind-kind.result in
     let j = job_record_from x.job.now.counts x.job.now.numbers in
     let t = c.turned-next.ensures in (
-      zero-by _ n e
-          c.if-refused-gt0.false,
+      e,
       rw (c.put_words.ensures, c.put_scalars.ensures)
           (ap (λ (s : State). row_of j k
           (c.turns-turns.result + 1) s) t.fact_1
@@ -106,8 +107,8 @@ returns c =
           x.values.now x.residuals.now x.plus_residuals.now x.params.now x.candidate.now x.best_surfaces.now x.best_values.now
           x.best_residuals.now)))
           ∙ made_by _ n e (Turn.turned r) r
-          c.if-refused-gt0.false),
+          (omega arith)),
       c.zero_first.ensures ∙ (λ i. replicate scratch_length zero64 ++ t.fact_2.rest i)
           ∙ made_by _ n e (cleared l) l
-          c.if-refused-gt0.false,
+          (omega arith),
     )

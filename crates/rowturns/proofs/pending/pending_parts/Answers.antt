@@ -1,9 +1,8 @@
 -- `rowturns::pending::pending_parts` meets its contract. Assumes nothing.
 use mathlib.Core.Path.{◌≡◌, ap, ◌∙◌}
 use mathlib.Core.List.{[]}
-use Prim.Native.Nat.{ℕ}
+use Prim.Native.Nat.{ℕ, zero, suc}
 use native.Mathlib.Omega.{arith}
-use Rattle.floats.specs.Constants.{zero64}
 use Rattle.normal.specs.Layout.{scratch_length}
 use Rattle.jobs.specs.declared.types.Job.{Job}
 use Rattle.jobs.specs.Passed.{passed}
@@ -11,7 +10,6 @@ use Rattle.runs.specs.Run.{Surfaces}
 use Rattle.runs.specs.Rows.{job_of_row, pending_by, pending_surfaces}
 use Rattle.runs.specs.JobMerit.{evaluate_of}
 use Rattle.runs.specs.State.{State}
-use Rattle.runs.specs.Zeros.{zero_surfaces}
 use Rattle.held.specs.JobFrom.{held_job}
 use Rattle.held.specs.RowFrom.{kind_from, state_from, row_from}
 use Rattle.held.specs.declared.types.RowHead.{RowHead}
@@ -19,26 +17,34 @@ use Rattle.turns.proofs.Laid.{operands-known}
 use Rattle.rows.specs.Calls.{turn_row_number}
 use Rattle.rows.specs.Others.{others_of}
 use Rattle.rowturns.specs.Parts.{held_of}
-use Rattle.rowturns.specs.Next.{pending_of}
-use Rattle.rows.proofs.Refused.{kept_by, made_by, zero-by, turnable}
+use Rattle.rowturns.specs.Next.{pending_unless, next_of, pending_of}
+use Rattle.rows.proofs.Refused.{above-zero, turnable}
+use Rattle.std.proofs.lemmas.Result.{err_from_is_err_and}
+use Rattle.std.specs.Prelude.{Result, Ok, Err}
+use Rattle.refusals.specs.Numbers.{number_of}
+use Rattle.refusals.specs.declared.Refusal.{Refusal as Cause}
+use Rattle.rowturns.specs.declared.types.Pending.{Pending}
 use Rattle.rows.proofs.Undamaged.{job-taken, column-below}
 use Rattle.std.proofs.Common.{rules}
 use Rattle.rowturns.proofs.pending.pending_parts.Goals as goal
 
-pub returns-then-number-gt0 : goal.returns-then-number-gt0
+refused : (q : Cause) (n : ℕ) (next : Pending) → number_of q ≡ n → Err (number_of q) ≡ pending_unless n next
+refused q zero next e = absurd (omega (arith, above-zero q, e))
+refused q (suc n) next e = ap Err e
+
+done : (n : ℕ) (p next : Pending) → 0 ≡ n → p ≡ next → Ok p ≡ pending_unless n next
+done zero p next e h = ap Ok h
+done (suc n) p next e h = absurd (omega (arith, e))
+
+pub returns-in_err-turn_refusal : goal.returns-in_err-turn_refusal
 unfolding pending_of
-returns-then-number-gt0 c = λ jacobian values residuals plus bv br.
+returns-in_err-turn_refusal c = λ jacobian values residuals plus bv br.
     let x = c.args in
     let h = held_of x.words.now x.scalars.now x.job.now x.surfaces.now jacobian values residuals plus x.params.now
     x.candidate.now x.best_surfaces.now bv br in
     let r = row_from h in
-    let n = turn_row_number scratch_length r in
-    let e = c.turn_number-number.ensures (others_of h) in
-    λ i. record {
-      surfaces = (c.zero_surfaces-zero.ensures ∙ kept_by _ n e (pending_surfaces r) zero_surfaces c.if-number-gt0.true) i;
-      merit = kept_by _ n e (evaluate_of (job_of_row r) (pending_surfaces r)).total_merit zero64 c.if-number-gt0.true i;
-      number = e i;
-    }
+    let p = err_from_is_err_and c.from_residual.result c.from_residual.ensures.1 in
+    rw (p.1, p.2) (refused _ (turn_row_number scratch_length r) (next_of r) (c.in_err-turn_refusal.ensures (others_of h)))
 
 pub pending_surfaces-requires : goal.pending_surfaces-requires
 pending_surfaces-requires c =
@@ -46,8 +52,7 @@ pending_surfaces-requires c =
     let h = held_of x.words.now x.scalars.now x.job.now x.surfaces.now [] [] [] [] x.params.now x.candidate.now
     x.best_surfaces.now [] [] in
     let r = row_from h in
-    let t = turnable _ scratch_length r (c.turn_number-number.ensures (others_of h))
-    c.if-number-gt0.false in
+    let t = turnable _ scratch_length r (c.in_ok-turn_refusal.ensures (others_of h)) (omega arith) in
     let n = (passed (job_of_row r) (job-taken r t.sound)).counted in
     record { fact_1 = n.variables; fact_2 = rw c.head_of-h.ensures (column-below r t.sound); fact_3 = search rules }
 
@@ -60,8 +65,7 @@ merit_at-requires c =
     let h = held_of x.words.now x.scalars.now x.job.now x.surfaces.now [] [] [] [] x.params.now x.candidate.now
     x.best_surfaces.now [] [] in
     let r = row_from h in
-    let t = turnable _ scratch_length r (c.turn_number-number.ensures (others_of h))
-    c.if-number-gt0.false in
+    let t = turnable _ scratch_length r (c.in_ok-turn_refusal.ensures (others_of h)) (omega arith) in
     let n = (passed (job_of_row r) (job-taken r t.sound)).counted in
     record { fact_1 = n.surfaces; fact_2 = n.operands; fact_3 = operands-known (job_of_row r) (job-taken r t.sound) }
 
@@ -73,8 +77,7 @@ returns c = λ jacobian values residuals plus bv br.
     x.candidate.now x.best_surfaces.now bv br in
     let r = row_from h in
     let n = turn_row_number scratch_length r in
-    let e = c.turn_number-number.ensures (others_of h) in
-    let going = c.if-number-gt0.false in
+    let e = c.in_ok-turn_refusal.ensures (others_of h) in
     let job : ℕ → Job = λ kind. held_job x.job.now.counts x.job.now.numbers kind in
     let state : RowHead → State =
     λ head. state_from head x.surfaces.now jacobian values residuals plus x.params.now x.candidate.now x.best_surfaces.now bv br in
@@ -85,8 +88,4 @@ returns c = λ jacobian values residuals plus bv br.
     (job (c.kind-kind.ensures i))
     (state (c.head_of-h.ensures i))) in
     let merit = c.merit_at.ensures (kind_from x.words.now) ∙ ap (λ (s : Surfaces). (evaluate_of (job_of_row r) s).total_merit) pending in
-    λ i. record {
-      surfaces = (pending ∙ made_by _ n e (pending_surfaces r) zero_surfaces going) i;
-      merit = (merit ∙ made_by _ n e (evaluate_of (job_of_row r) (pending_surfaces r)).total_merit zero64 going) i;
-      number = zero-by _ n e going i;
-    }
+    done n _ (next_of r) e (λ i. record { surfaces = pending i; merit = merit i })
