@@ -43,7 +43,11 @@ impl Change {
         match self {
             Change::Word(at, limit) => set(&mut r.words, at, past(limit.least(row), v)),
             Change::Count(at, step, limit) => {
-                set(&mut r.job.counts, place(at, step, i), past(limit.least(row), v));
+                set(
+                    &mut r.job.counts,
+                    place(at, step, i),
+                    past(limit.least(row), v),
+                );
             }
             Change::Positive(at, limit) => {
                 let values = limits::values(limit.least(row), 0);
