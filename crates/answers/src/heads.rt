@@ -1,64 +1,47 @@
 // The first and the last words of an answer.
-ghost use Rattle.std.specs.Prelude.{◌≤◌, true, [], ◌∷◌, length};
-ghost use Rattle.streams.specs.Output.{Put, one_refused};
+ghost use Rattle.std.specs.Prelude.{true, [], ◌∷◌};
+ghost use Rattle.streams.specs.Output.{Puts, with_refused};
 ghost use Rattle.answers.specs.Heads.{head_texts, kept_text, refused_texts, digest_texts};
 
 use crate::pieces::put_number;
-use streams::console::Console;
-use streams::output;
-use streams::output::Waiting;
+use streams::output::Output;
 use text::words;
 
 // R id kind, of a line that is in form: its id is its second word.
-pub fn put_head(
-    console: Console,
-    out: &mut [u8],
-    waiting: Waiting,
-    line: &[u8],
-    kind: u64,
-) -> Waiting
-    ensures bytes_in_bounds { result.bytes ≤ length out.new }
-    ensures put { Put waiting out.old (head_texts line.now kind) result out.new }
+pub fn put_head(output: &mut Output, line: &[u8], kind: u64)
+    ensures { Puts output.old (head_texts line.now kind) output.new }
 {
     let tag = words::next_word(line, 0);
     let id = words::next_word(line, tag.to);
-    let waiting = output::put(console, out, waiting, b"R ");
-    put_number(console, out, waiting, &line[id.from..id.to], kind)
+    output.put(b"R ");
+    put_number(output, &line[id.from..id.to], kind);
 }
 
 // The line's end, after `changed` where what was lent is not as it was, which the oracle never says.
-pub fn put_kept(console: Console, out: &mut [u8], waiting: Waiting, is_kept: bool) -> Waiting
-    ensures bytes_in_bounds { result.bytes ≤ length out.new }
-    ensures put { Put waiting out.old (kept_text is_kept ∷ []) result out.new }
+pub fn put_kept(output: &mut Output, is_kept: bool)
+    ensures { Puts output.old (kept_text is_kept ∷ []) output.new }
 {
     if is_kept {
-        return output::put(console, out, waiting, b"\n");
+        output.put(b"\n");
+    } else {
+        output.put(b" changed\n");
     }
-    output::put(console, out, waiting, b" changed\n")
 }
 
 // refused N, of a line that is counted so.
-pub fn put_refused(
-    console: Console,
-    out: &mut [u8],
-    waiting: Waiting,
-    number: u32,
-    is_kept: bool,
-) -> Waiting
-    ensures bytes_in_bounds { result.bytes ≤ length out.new }
-    ensures put { Put (one_refused true waiting) out.old (refused_texts number is_kept) result out.new }
+pub fn put_refused(output: &mut Output, number: u32, is_kept: bool)
+    ensures { Puts (with_refused true output.old) (refused_texts number is_kept) output.new }
 {
-    let waiting = waiting.counted(true);
-    let waiting = put_number(console, out, waiting, b" refused", number as u64);
-    put_kept(console, out, waiting, is_kept)
+    output.count(true);
+    put_number(output, b" refused", number as u64);
+    put_kept(output, is_kept);
 }
 
 // H digest
-pub fn put_digest(console: Console, out: &mut [u8], waiting: Waiting, hash: u64) -> Waiting
-    ensures bytes_in_bounds { result.bytes ≤ length out.new }
-    ensures put { Put waiting out.old (digest_texts hash) result out.new }
+pub fn put_digest(output: &mut Output, hash: u64)
+    ensures { Puts output.old (digest_texts hash) output.new }
 {
-    let waiting = output::put(console, out, waiting, b" H ");
-    let waiting = output::put_hex(console, out, waiting, hash);
-    output::put(console, out, waiting, b"\n")
+    output.put(b" H ");
+    output.put_hex(hash);
+    output.put(b"\n");
 }

@@ -1,11 +1,9 @@
 // Pieces of answers.
-ghost use Rattle.std.specs.Prelude.{◌≡◌, ◌≤◌, [], ◌∷◌, length};
-ghost use Rattle.streams.specs.Output.{Put, one_unknown};
+ghost use Rattle.std.specs.Prelude.{◌≡◌, [], ◌∷◌};
+ghost use Rattle.streams.specs.Output.{Puts, with_unknown};
 ghost use Rattle.answers.specs.Pieces.{wrong_text, fault_text, unknown_texts, cut_texts, number_texts, row_texts};
 
-use streams::console::Console;
-use streams::output;
-use streams::output::Waiting;
+use streams::output::Output;
 use text::cursor::{Cursor, Why};
 use text::words;
 
@@ -25,72 +23,50 @@ fn wrong_text(why: Why) -> &'static [u8]
 }
 
 // What is wrong where a cursor was left.
-fn put_fault(console: Console, out: &mut [u8], waiting: Waiting, line: &[u8], c: Cursor) -> Waiting
-    ensures bytes_in_bounds { result.bytes ≤ length out.new }
-    ensures put { Put waiting out.old (fault_text line.now c ∷ []) result out.new }
+fn put_fault(output: &mut Output, line: &[u8], c: Cursor)
+    ensures { Puts output.old (fault_text line.now c ∷ []) output.new }
 {
     if words::is_end(line, c.at) {
-        return output::put(console, out, waiting, b"missing\n");
+        output.put(b"missing\n");
+    } else {
+        output.put(wrong_text(c.why));
     }
-    output::put(console, out, waiting, wrong_text(c.why))
 }
 
 // The answer to a line that is out of form: its number, the field where the cursor was left, and what is wrong there.
-pub fn put_unknown(
-    console: Console,
-    out: &mut [u8],
-    waiting: Waiting,
-    line: &[u8],
-    number: u64,
-    c: Cursor,
-) -> Waiting
-    ensures bytes_in_bounds { result.bytes ≤ length out.new }
-    ensures put { Put (one_unknown waiting) out.old (unknown_texts line.now number c) result out.new }
+pub fn put_unknown(output: &mut Output, line: &[u8], number: u64, c: Cursor)
+    ensures { Puts (with_unknown output.old) (unknown_texts line.now number c) output.new }
 {
     let field = words::words_before(line, c.at).wrapping_add(1);
-    let waiting = put_number(console, out, waiting.counted_unknown(), b"?", number);
-    let waiting = put_number(console, out, waiting, b" field", field);
-    let waiting = output::put(console, out, waiting, b": ");
-    put_fault(console, out, waiting, line, c)
+    output.count_unknown();
+    put_number(output, b"?", number);
+    put_number(output, b" field", field);
+    output.put(b": ");
+    put_fault(output, line, c);
 }
 
 // The answer to a line that is too long for the buffer.
-pub fn put_cut(console: Console, out: &mut [u8], waiting: Waiting, number: u64) -> Waiting
-    ensures bytes_in_bounds { result.bytes ≤ length out.new }
-    ensures put { Put (one_unknown waiting) out.old (cut_texts number) result out.new }
+pub fn put_cut(output: &mut Output, number: u64)
+    ensures { Puts (with_unknown output.old) (cut_texts number) output.new }
 {
-    let waiting = put_number(console, out, waiting.counted_unknown(), b"?", number);
-    output::put(console, out, waiting, b" too long\n")
+    output.count_unknown();
+    put_number(output, b"?", number);
+    output.put(b" too long\n");
 }
 
 // A name, a blank and a number.
-pub fn put_number(
-    console: Console,
-    out: &mut [u8],
-    waiting: Waiting,
-    name: &[u8],
-    number: u64,
-) -> Waiting
-    ensures bytes_in_bounds { result.bytes ≤ length out.new }
-    ensures put { Put waiting out.old (number_texts name.now number) result out.new }
+pub fn put_number(output: &mut Output, name: &[u8], number: u64)
+    ensures { Puts output.old (number_texts name.now number) output.new }
 {
-    let waiting = output::put(console, out, waiting, name);
-    let waiting = output::put(console, out, waiting, b" ");
-    output::put_decimal(console, out, waiting, number)
+    output.put(name);
+    output.put(b" ");
+    output.put_decimal(number);
 }
 
 // A name, a count, and so many floats of a row. The count is put as it stands, also past the row: so it is no slice's length.
-pub fn put_row(
-    console: Console,
-    out: &mut [u8],
-    waiting: Waiting,
-    name: &[u8],
-    row: [f64; 12],
-    count: usize,
-) -> Waiting
-    ensures bytes_in_bounds { result.bytes ≤ length out.new }
-    ensures put { Put waiting out.old (row_texts name.now row count) result out.new }
+pub fn put_row(output: &mut Output, name: &[u8], row: [f64; 12], count: usize)
+    ensures { Puts output.old (row_texts name.now row count) output.new }
 {
-    let waiting = put_number(console, out, waiting, name, count as u64);
-    output::put_floats(console, out, waiting, &row[..count.min(12)])
+    put_number(output, name, count as u64);
+    output.put_floats(&row[..count.min(12)]);
 }

@@ -1,74 +1,54 @@
 // A run's result, written.
-ghost use Rattle.std.specs.Prelude.{◌≤◌, min, length};
-ghost use Rattle.streams.specs.Output.{Put};
+ghost use Rattle.std.specs.Prelude.{min};
+ghost use Rattle.streams.specs.Output.{Puts};
 ghost use Rattle.answers.specs.Pieces.{outcome_texts, surface_texts, surfaces_texts, lens_texts};
 
 use crate::pieces::{put_number, put_row};
 use optics::OpticalSurface;
 use runs::OptimizationResult;
-use streams::console::Console;
-use streams::output;
-use streams::output::Waiting;
+use streams::output::Output;
 
 // M first final N iterations converged
-pub fn put_outcome(
-    console: Console,
-    out: &mut [u8],
-    waiting: Waiting,
-    res: OptimizationResult,
-) -> Waiting
-    ensures bytes_in_bounds { result.bytes ≤ length out.new }
-    ensures put { Put waiting out.old (outcome_texts res) result out.new }
+pub fn put_outcome(output: &mut Output, res: OptimizationResult)
+    ensures { Puts output.old (outcome_texts res) output.new }
 {
     let merits = [res.initial_merit, res.final_merit];
-    let waiting = output::put(console, out, waiting, b" M");
-    let waiting = output::put_floats(console, out, waiting, &merits);
-    let waiting = put_number(console, out, waiting, b" N", res.iterations);
-    put_number(console, out, waiting, b"", res.converged)
+    output.put(b" M");
+    output.put_floats(&merits);
+    put_number(output, b" N", res.iterations);
+    put_number(output, b"", res.converged);
 }
 
 // S n {surface} V m {values} D m {residuals}
 pub fn put_lens(
-    console: Console,
-    out: &mut [u8],
-    waiting: Waiting,
+    output: &mut Output,
     res: OptimizationResult,
     surface_count: usize,
     operand_count: usize,
-) -> Waiting
-    ensures bytes_in_bounds { result.bytes ≤ length out.new }
-    ensures put { Put waiting out.old (lens_texts res surface_count operand_count) result out.new }
+)
+    ensures { Puts output.old (lens_texts res surface_count operand_count) output.new }
 {
     let surfaces = res.surfaces;
     let values = res.values;
     let residuals = res.residuals;
-    let waiting = put_number(console, out, waiting, b" S", surface_count as u64);
-    let waiting = put_surfaces(console, out, waiting, surfaces, surface_count);
-    let waiting = put_row(console, out, waiting, b" V", values, operand_count);
-    put_row(console, out, waiting, b" D", residuals, operand_count)
+    put_number(output, b" S", surface_count as u64);
+    put_surfaces(output, surfaces, surface_count);
+    put_row(output, b" V", values, operand_count);
+    put_row(output, b" D", residuals, operand_count);
 }
 
 // So many surfaces.
-fn put_surfaces(
-    console: Console,
-    out: &mut [u8],
-    waiting: Waiting,
-    surfaces: [OpticalSurface; 16],
-    count: usize,
-) -> Waiting
-    ensures bytes_in_bounds { result.bytes ≤ length out.new }
-    ensures put { Put waiting out.old (surfaces_texts surfaces (min count 16)) result out.new }
+fn put_surfaces(output: &mut Output, surfaces: [OpticalSurface; 16], count: usize)
+    ensures { Puts output.old (surfaces_texts surfaces (min count 16)) output.new }
 {
-    let mut held = waiting.within(out.len());
+    output.clip();
     for s in &surfaces[..count.min(16)] {
-        held = put_surface(console, out, held, *s);
+        put_surface(output, *s);
     }
-    held
 }
 
-fn put_surface(console: Console, out: &mut [u8], waiting: Waiting, s: OpticalSurface) -> Waiting
-    ensures bytes_in_bounds { result.bytes ≤ length out.new }
-    ensures put { Put waiting out.old (surface_texts s) result out.new }
+fn put_surface(output: &mut Output, s: OpticalSurface)
+    ensures { Puts output.old (surface_texts s) output.new }
 {
     let row = [
         s.radius_mm,
@@ -76,5 +56,5 @@ fn put_surface(console: Console, out: &mut [u8], waiting: Waiting, s: OpticalSur
         s.thickness_mm,
         s.semi_diameter_mm,
     ];
-    output::put_floats(console, out, waiting, &row)
+    output.put_floats(&row);
 }

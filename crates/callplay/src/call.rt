@@ -67,8 +67,7 @@ fn a_place<F: Fn(usize) -> Call>(line: &[u8], c: Cursor, call: F) -> Result<Call
 // place J id kind ..
 fn admission(line: &[u8], c: Cursor) -> Result<Call, Cursor> {
     let place = cursor::decimal(line, c);
-    let named = cursor::word(line, cursor::tag(line, place.next, b"J"));
-    let kind = cursor::within(line, named, 1, 3, Why::Kind);
+    let kind = joblines::read_kind(line, place.next, 3);
     let read = joblines::read_request(line, kind.value, joblines::read_job(line, kind.next));
     answers::end(line, read.next)?;
     Ok(Call::Admit {

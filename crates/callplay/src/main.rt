@@ -12,7 +12,7 @@ use answers::Program;
 use bench::Bench;
 use call::Call;
 use streams::console::Console;
-use streams::output::Waiting;
+use streams::output::Output;
 use text::cursor::Cursor;
 
 // The bench as the calls so far have left it.
@@ -22,16 +22,10 @@ struct Played {
 }
 
 impl Program for Played {
-    fn answer(
-        &mut self,
-        console: Console,
-        out: &mut [u8],
-        waiting: Waiting,
-        line: &[u8],
-        _number: u64,
-    ) -> Result<Waiting, Cursor> {
+    fn answer(&mut self, output: &mut Output, line: &[u8], _number: u64) -> Result<(), Cursor> {
         let call = Call::read(line)?;
-        Ok(answer::answer(console, out, waiting, &mut self.bench, call))
+        answer::answer(output, &mut self.bench, call);
+        Ok(())
     }
 }
 

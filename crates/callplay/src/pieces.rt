@@ -1,36 +1,21 @@
 // Pieces of answers.
-use streams::console::Console;
-use streams::output;
-use streams::output::Waiting;
+use streams::output::Output;
 
 // A call's name and its number.
-pub(crate) fn put_name(
-    console: Console,
-    out: &mut [u8],
-    waiting: Waiting,
-    name: &[u8],
-    number: u32,
-) -> Waiting {
-    let waiting = waiting.counted(number > 0);
-    answers::put_number(console, out, waiting, name, number as u64)
+pub(crate) fn put_name(output: &mut Output, name: &[u8], number: u32) {
+    output.count(number > 0);
+    answers::put_number(output, name, number as u64);
 }
 
 // name number {more}
-pub(crate) fn put_answer(
-    console: Console,
-    out: &mut [u8],
-    waiting: Waiting,
-    name: &[u8],
-    number: u32,
-    more: &[u64],
-) -> Waiting {
-    let mut held = put_name(console, out, waiting, name, number);
+pub(crate) fn put_answer(output: &mut Output, name: &[u8], number: u32, more: &[u64]) {
+    put_name(output, name, number);
     for x in more {
-        held = answers::put_number(console, out, held, b"", *x);
+        answers::put_number(output, b"", *x);
     }
-    end_line(console, out, held)
+    end_line(output);
 }
 
-pub(crate) fn end_line(console: Console, out: &mut [u8], waiting: Waiting) -> Waiting {
-    output::put(console, out, waiting, b"\n")
+pub(crate) fn end_line(output: &mut Output) {
+    output.put(b"\n");
 }

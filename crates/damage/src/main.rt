@@ -17,10 +17,9 @@ mod verdict;
 
 use answers::Program;
 use streams::console::Console;
-use streams::output::Waiting;
+use streams::output::Output;
 use tally::Tally;
-use text::cursor;
-use text::cursor::{Cursor, Why};
+use text::cursor::Cursor;
 
 // What the lines so far have come to.
 #[derive(Clone, Copy)]
@@ -30,29 +29,22 @@ struct Examined {
 
 impl Program for Examined {
     // J id kind ..: nothing is put. A job that is refused is counted, and leaves no rows.
-    fn answer(
-        &mut self,
-        _console: Console,
-        _out: &mut [u8],
-        waiting: Waiting,
-        line: &[u8],
-        _number: u64,
-    ) -> Result<Waiting, Cursor> {
-        let named = cursor::word(line, cursor::tag(line, Cursor::new(0), b"J"));
-        let kind = cursor::within(line, named, 1, 3, Why::Kind);
+    fn answer(&mut self, output: &mut Output, line: &[u8], _number: u64) -> Result<(), Cursor> {
+        let kind = joblines::read_kind(line, Cursor::new(0), 3);
         let job = joblines::read_job(line, kind.next);
         let read = joblines::read_request(line, kind.value, job);
         answers::end(line, read.next)?;
         let admitted = benchcalls::admitted(benchcalls::empty_bench(), 0, read.value);
         if admitted.number > 0 {
-            return Ok(waiting.counted(true));
+            output.count(true);
+        } else {
+            examine::examine_job(&mut self.tally, admitted.bench, read.value);
         }
-        examine::examine_job(&mut self.tally, admitted.bench, read.value);
-        Ok(waiting)
+        Ok(())
     }
 
-    fn sum_up(&self, console: Console, out: &mut [u8], waiting: Waiting) -> Waiting {
-        tally::put(console, out, waiting, &self.tally)
+    fn sum_up(&self, output: &mut Output) {
+        tally::put(output, &self.tally);
     }
 }
 

@@ -1,8 +1,6 @@
 // How many rows were tried, and how many answered right, for each entry; and what is printed of that.
 use crate::entries::ENTRIES;
-use streams::console::Console;
-use streams::output;
-use streams::output::Waiting;
+use streams::output::Output;
 
 #[derive(Clone, Copy)]
 pub(crate) struct Count {
@@ -24,22 +22,14 @@ pub(crate) type Tally = [Count; 56];
 pub(crate) const NONE: Tally = [Count { tried: 0, right: 0 }; 56];
 
 // A name and its two numbers.
-fn put_line(
-    console: Console,
-    out: &mut [u8],
-    waiting: Waiting,
-    name: &[u8],
-    count: Count,
-) -> Waiting {
-    let waiting = answers::put_number(console, out, waiting, name, count.tried);
-    let waiting = answers::put_number(console, out, waiting, b"", count.right);
-    output::put(console, out, waiting, b"\n")
+fn put_line(output: &mut Output, name: &[u8], count: Count) {
+    answers::put_number(output, name, count.tried);
+    answers::put_number(output, b"", count.right);
+    output.put(b"\n");
 }
 
-pub(crate) fn put(console: Console, out: &mut [u8], waiting: Waiting, tally: &Tally) -> Waiting {
-    let mut held = waiting;
+pub(crate) fn put(output: &mut Output, tally: &Tally) {
     for (entry, count) in ENTRIES.iter().zip(tally) {
-        held = put_line(console, out, held, &entry.name, *count);
+        put_line(output, &entry.name, *count);
     }
-    held
 }

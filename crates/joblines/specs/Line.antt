@@ -1,8 +1,9 @@
--- A job line from its surfaces up to its settings. Counts are kept as they stand, also past the limits. Definitions only.
+-- A job line: its kind, and the part from its surfaces up to its settings. Counts are kept as they stand, also past the limits. Definitions only.
 use Rattle.std.specs.Prelude.{ℕ, List, [], ◌∷◌, replicate}
 use Rattle.std.specs.Float.{nan}
 use Rattle.text.specs.declared.cursor.Cursor.{Cursor}
-use Rattle.text.specs.Cursor.{decimal_from, float_from, past_tag}
+use Rattle.text.specs.declared.cursor.Why.TheVariants.{Kind}
+use Rattle.text.specs.Cursor.{decimal_from, within_from, float_from, past_tag, past_word}
 use Rattle.optics.specs.declared.types.OpticalPrescription.{OpticalPrescription}
 use Rattle.variables.specs.declared.types.VariableSet.{VariableSet}
 use Rattle.merit.specs.declared.types.MeritFunction.{MeritFunction}
@@ -12,6 +13,13 @@ use Rattle.joblines.specs.Followers.{followers_from}
 use Rattle.joblines.specs.Lens.{surfaces_from, past_indices, with_indices}
 use Rattle.joblines.specs.Operands.{operands_from}
 use Rattle.joblines.specs.Sets.{variables_from}
+
+-- J id kind, of the kinds from 1 to `last`: the id is any word
+abbrev pub job_mark : List ℕ
+job_mark = 74 ∷ []
+
+abbrev pub kind_from : (last : ℕ) → List ℕ → Cursor → Read ℕ
+kind_from last line c = within_from 1 last Kind line (past_word line (past_tag line c job_mark))
 
 -- the letters before the parts of a line: S, I, P, V, O and C
 abbrev pub surfaces_mark : List ℕ

@@ -15,5 +15,5 @@ mod sets;
 mod settings;
 
 pub use limits::{LimitsRead, read_limits};
-pub use line::{JobLine, read_job};
+pub use line::{JobLine, read_job, read_kind};
 pub use request::read_request;

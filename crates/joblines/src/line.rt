@@ -1,13 +1,21 @@
-// A job line from its surfaces up to its settings.
+// A job line: its kind, and the part from its surfaces up to its settings.
 ghost use Rattle.std.specs.Prelude.{◌≡◌};
-ghost use Rattle.joblines.specs.Line.{prescription_from, variable_set_from, merit_function_from, job_line_from};
+ghost use Rattle.joblines.specs.Line.{kind_from, prescription_from, variable_set_from, merit_function_from, job_line_from};
 
 use crate::{followers, lens, operands, sets};
 use merit::MeritFunction;
 use optics::OpticalPrescription;
 use text::cursor;
-use text::cursor::{Cursor, Read};
+use text::cursor::{Cursor, Read, Why};
 use variables::VariableSet;
+
+// J id kind, of the kinds from 1 to `last`
+pub fn read_kind(line: &[u8], c: Cursor, last: u64) -> Read<u64>
+    ensures { result ≡ kind_from last line.now c }
+{
+    let named = cursor::word(line, cursor::tag(line, c, b"J"));
+    cursor::within(line, named, 1, last, Why::Kind)
+}
 
 // S n {surface} I slots {index, surface-major} P pupil
 fn read_prescription(line: &[u8], c: Cursor) -> Read<OpticalPrescription>

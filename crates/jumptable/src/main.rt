@@ -1,24 +1,15 @@
 // Prints the words of the tables that `jump` stores, from the step alone, as they stand in jump/src/table.rt: a line each.
-// Stands on `jump` and `text`; a program that only tests.
+// Stands on `jump` and `streams`; a program that only tests.
 #![tactic(auto)]
 
 use streams::console::Console;
-use streams::output::{Waiting, flush, put, put_hex};
+use streams::output::Output;
 
 // Adds a word, as a line of the source.
-fn put_word(console: Console, out: &mut [u8], waiting: Waiting, word: u64) -> Waiting {
-    let waiting = put(console, out, waiting, b"    0x");
-    let waiting = put_hex(console, out, waiting, word);
-    put(console, out, waiting, b",\n")
-}
-
-// Adds the words, and answers what waits.
-fn put_words(console: Console, out: &mut [u8], words: &[u64]) -> Waiting {
-    let mut waiting = Waiting::new();
-    for word in words {
-        waiting = put_word(console, out, waiting, *word);
-    }
-    waiting
+fn put_word(output: &mut Output, word: u64) {
+    output.put(b"    0x");
+    output.put_hex(word);
+    output.put(b",\n");
 }
 
 fn main(rt: HostRuntime) {
@@ -27,8 +18,10 @@ fn main(rt: HostRuntime) {
         output: rt.stdout(),
         errors: rt.stderr(),
     };
-    let words = jump::drawn();
     let mut out = io::large_buffer();
-    let waiting = put_words(console, &mut out, &words);
-    flush(console, &out, waiting);
+    let mut output = Output::new(console, &mut out);
+    for word in &jump::drawn() {
+        put_word(&mut output, *word);
+    }
+    output.flush();
 }

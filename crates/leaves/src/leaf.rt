@@ -1,9 +1,7 @@
 // The leaf lines: a name, and the numbers that the function of that name is asked at.
 use crate::names::Leaf;
 use crate::pieces;
-use streams::console::Console;
-use streams::output;
-use streams::output::Waiting;
+use streams::output::Output;
 use text::cursor;
 use text::cursor::{Cursor, Why};
 
@@ -88,29 +86,28 @@ fn apply_clamp(x: f64, lo: f64, hi: f64) -> f64 {
     if x != x { lo } else { floats::clamp(x, lo, hi) }
 }
 
-fn put_reply(console: Console, out: &mut [u8], waiting: Waiting, reply: Reply) -> Waiting {
+fn put_reply(output: &mut Output, reply: Reply) {
     match reply {
-        Reply::One(x) => output::put_floats(console, out, waiting, &[x]),
-        Reply::Two(x, y) => output::put_floats(console, out, waiting, &[x, y]),
+        Reply::One(x) => output.put_floats(&[x]),
+        Reply::Two(x, y) => output.put_floats(&[x, y]),
         Reply::Draw(state, unit) => {
-            let waiting = pieces::put_state(console, out, waiting, state);
-            output::put_floats(console, out, waiting, &[unit])
+            pieces::put_state(output, state);
+            output.put_floats(&[unit]);
         }
-        Reply::State(state) => pieces::put_state(console, out, waiting, state),
+        Reply::State(state) => pieces::put_state(output, state),
     }
 }
 
 // Answers a line of that name, from where the name ends.
 pub(crate) fn answer(
-    console: Console,
-    out: &mut [u8],
-    waiting: Waiting,
+    output: &mut Output,
     line: &[u8],
     c: Cursor,
     leaf: Leaf,
-) -> Result<Waiting, Cursor> {
+) -> Result<(), Cursor> {
     let reply = reply_to(line, c, leaf)?;
-    let waiting = pieces::put_line(console, out, waiting, line);
-    let waiting = put_reply(console, out, waiting, reply);
-    Ok(pieces::end_line(console, out, waiting))
+    pieces::put_line(output, line);
+    put_reply(output, reply);
+    pieces::end_line(output);
+    Ok(())
 }

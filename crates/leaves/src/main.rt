@@ -12,7 +12,7 @@ mod pieces;
 use answers::Program;
 use names::Name;
 use streams::console::Console;
-use streams::output::Waiting;
+use streams::output::Output;
 use text::cursor::Cursor;
 use text::words;
 
@@ -21,20 +21,13 @@ use text::words;
 struct Leaves;
 
 impl Program for Leaves {
-    fn answer(
-        &mut self,
-        console: Console,
-        out: &mut [u8],
-        waiting: Waiting,
-        line: &[u8],
-        _number: u64,
-    ) -> Result<Waiting, Cursor> {
+    fn answer(&mut self, output: &mut Output, line: &[u8], _number: u64) -> Result<(), Cursor> {
         let word = words::next_word(line, 0);
         let c = Cursor::new(word.to);
         match Name::of(&line[word.from..word.to])? {
-            Name::Leaf(leaf) => leaf::answer(console, out, waiting, line, c, leaf),
-            Name::Solve => matrix::solve(console, out, waiting, line, c),
-            Name::Normal => matrix::normal(console, out, waiting, line, c),
+            Name::Leaf(leaf) => leaf::answer(output, line, c, leaf),
+            Name::Solve => matrix::solve(output, line, c),
+            Name::Normal => matrix::normal(output, line, c),
         }
     }
 }

@@ -4,9 +4,7 @@ ghost use Rattle.normal.specs.Layout.{scratch_length, most_operands, most_variab
 
 use crate::pieces;
 use normal::{GRADIENT, PRODUCT, STEP, place, system_place};
-use streams::console::Console;
-use streams::output;
-use streams::output::Waiting;
+use streams::output::Output;
 use text::cursor;
 use text::cursor::{Cursor, Why};
 
@@ -37,37 +35,27 @@ fn read_right_side(line: &[u8], c: Cursor, scratch: &mut [f64], p: usize) -> Cur
 }
 
 // SOLVE p {entries by rows} {right side}: the solution, or `none`. A size out of range is out of form, whatever is read after it.
-pub(crate) fn solve(
-    console: Console,
-    out: &mut [u8],
-    waiting: Waiting,
-    line: &[u8],
-    c: Cursor,
-) -> Result<Waiting, Cursor> {
+pub(crate) fn solve(output: &mut Output, line: &[u8], c: Cursor) -> Result<(), Cursor> {
     let size = cursor::within(line, c, 1, 8, Why::Range);
     let p = (size.value as usize).min(8);
     let mut scratch = [0.0; 128];
     answers::end(line, read_system(line, size.next, &mut scratch, p))?;
-    let waiting = pieces::put_line(console, out, waiting, line);
-    Ok(put_solved(console, out, waiting, &mut scratch, p))
+    pieces::put_line(output, line);
+    put_solved(output, &mut scratch, p);
+    Ok(())
 }
 
 // The solution of the system that stands in scratch.
-fn put_solved(
-    console: Console,
-    out: &mut [u8],
-    waiting: Waiting,
-    scratch: &mut [f64],
-    p: usize,
-) -> Waiting
+fn put_solved(output: &mut Output, scratch: &mut [f64], p: usize)
     requires fact_1 { scratch_length ≤ length scratch.old }
     requires fact_2 { p ≤ most_variables }
 {
     if !normal::solve(scratch, p) {
-        return output::put(console, out, waiting, b" none\n");
+        output.put(b" none\n");
+        return;
     }
-    let waiting = output::put_floats(console, out, waiting, &scratch[STEP..STEP + p]);
-    pieces::end_line(console, out, waiting)
+    output.put_floats(&scratch[STEP..STEP + p]);
+    pieces::end_line(output);
 }
 
 // The Jacobian of m operands, a column for each of p variables.
@@ -85,13 +73,7 @@ fn read_columns(line: &[u8], c: Cursor, jacobian: &mut [f64], m: usize, p: usize
 
 // NORMAL m p {entries by columns} {residuals}: J^T J by rows, J^T r, and its norm. A size out of range is out of form, whatever
 // is read after it.
-pub(crate) fn normal(
-    console: Console,
-    out: &mut [u8],
-    waiting: Waiting,
-    line: &[u8],
-    c: Cursor,
-) -> Result<Waiting, Cursor> {
+pub(crate) fn normal(output: &mut Output, line: &[u8], c: Cursor) -> Result<(), Cursor> {
     let operands = cursor::within(line, c, 1, 12, Why::Range);
     let variables = cursor::within(line, operands.next, 1, 8, Why::Range);
     let m = (operands.value as usize).min(12);
@@ -102,61 +84,38 @@ pub(crate) fn normal(
     answers::end(line, cursor::floats(line, next, &mut residuals[..m]))?;
     let mut scratch = [0.0; 128];
     let norm = normal::normal_equations(&mut scratch, &jacobian, &residuals, m, p);
-    let waiting = pieces::put_line(console, out, waiting, line);
-    Ok(put_equations(console, out, waiting, &scratch, p, norm))
+    pieces::put_line(output, line);
+    put_equations(output, &scratch, p, norm);
+    Ok(())
 }
 
-fn put_equations(
-    console: Console,
-    out: &mut [u8],
-    waiting: Waiting,
-    scratch: &[f64],
-    p: usize,
-    norm: f64,
-) -> Waiting
+fn put_equations(output: &mut Output, scratch: &[f64], p: usize, norm: f64)
     requires fact_1 { scratch_length ≤ length scratch.now }
     requires fact_2 { p ≤ most_variables }
 {
-    let waiting = put_product(console, out, waiting, scratch, p);
-    let waiting = output::put_floats(console, out, waiting, &scratch[GRADIENT..GRADIENT + p]);
-    let waiting = output::put_floats(console, out, waiting, &[norm]);
-    pieces::end_line(console, out, waiting)
+    put_product(output, scratch, p);
+    output.put_floats(&scratch[GRADIENT..GRADIENT + p]);
+    output.put_floats(&[norm]);
+    pieces::end_line(output);
 }
 
 // Entry by entry: scratch has the lower triangle alone.
-fn put_product(
-    console: Console,
-    out: &mut [u8],
-    waiting: Waiting,
-    scratch: &[f64],
-    p: usize,
-) -> Waiting
+fn put_product(output: &mut Output, scratch: &[f64], p: usize)
     requires fact_1 { scratch_length ≤ length scratch.now }
     requires fact_2 { p ≤ most_variables }
 {
-    let mut held = waiting;
     for i in 0..p {
-        held = put_product_row(console, out, held, scratch, p, i);
+        put_product_row(output, scratch, p, i);
     }
-    held
 }
 
-fn put_product_row(
-    console: Console,
-    out: &mut [u8],
-    waiting: Waiting,
-    scratch: &[f64],
-    p: usize,
-    i: usize,
-) -> Waiting
+fn put_product_row(output: &mut Output, scratch: &[f64], p: usize, i: usize)
     requires fact_1 { scratch_length ≤ length scratch.now }
     requires fact_2 { p ≤ most_variables }
     requires fact_3 { i < p }
 {
-    let mut held = waiting;
     for j in 0..p {
         let entry = scratch[PRODUCT + place(i, j)];
-        held = output::put_floats(console, out, held, &[entry]);
+        output.put_floats(&[entry]);
     }
-    held
 }

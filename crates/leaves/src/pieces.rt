@@ -1,20 +1,18 @@
 // Pieces of answers.
-use streams::console::Console;
-use streams::output;
-use streams::output::Waiting;
+use streams::output::Output;
 
 // A line that is in form, up to its answer.
-pub(crate) fn put_line(console: Console, out: &mut [u8], waiting: Waiting, line: &[u8]) -> Waiting {
-    let waiting = output::put(console, out, waiting, line);
-    output::put(console, out, waiting, b" =")
+pub(crate) fn put_line(output: &mut Output, line: &[u8]) {
+    output.put(line);
+    output.put(b" =");
 }
 
 // A blank and a state.
-pub(crate) fn put_state(console: Console, out: &mut [u8], waiting: Waiting, x: u64) -> Waiting {
-    let waiting = output::put(console, out, waiting, b" ");
-    output::put_hex(console, out, waiting, x)
+pub(crate) fn put_state(output: &mut Output, x: u64) {
+    output.put(b" ");
+    output.put_hex(x);
 }
 
-pub(crate) fn end_line(console: Console, out: &mut [u8], waiting: Waiting) -> Waiting {
-    output::put(console, out, waiting, b"\n")
+pub(crate) fn end_line(output: &mut Output) {
+    output.put(b"\n");
 }

@@ -1,72 +1,47 @@
 // A trace within limits, written.
-ghost use Rattle.std.specs.Prelude.{◌≤◌, min, length};
-ghost use Rattle.streams.specs.Output.{Put};
+ghost use Rattle.std.specs.Prelude.{min};
+ghost use Rattle.streams.specs.Output.{Puts};
 ghost use Rattle.lensanswers.specs.Lens.{track_texts, ends_texts, all_ends_texts, limits_texts};
 
 use answers::put_number;
 use intervals::{Interval, TraceLimits};
-use streams::console::Console;
-use streams::output;
-use streams::output::Waiting;
+use streams::output::Output;
 
 // K least greatest T n {surface}
-pub fn put_limits(
-    console: Console,
-    out: &mut [u8],
-    waiting: Waiting,
-    traced: TraceLimits,
-    count: usize,
-) -> Waiting
-    ensures bytes_in_bounds { result.bytes ≤ length out.new }
-    ensures put { Put waiting out.old (limits_texts traced count) result out.new }
+pub fn put_limits(output: &mut Output, traced: TraceLimits, count: usize)
+    ensures { Puts output.old (limits_texts traced count) output.new }
 {
-    let waiting = put_track(console, out, waiting, traced.track);
-    let waiting = put_number(console, out, waiting, b" T", count as u64);
-    let waiting = put_surfaces(console, out, waiting, traced, count);
-    output::put(console, out, waiting, b"\n")
+    put_track(output, traced.track);
+    put_number(output, b" T", count as u64);
+    put_surfaces(output, traced, count);
+    output.put(b"\n");
 }
 
 // K least greatest
-fn put_track(console: Console, out: &mut [u8], waiting: Waiting, track: Interval) -> Waiting
-    ensures bytes_in_bounds { result.bytes ≤ length out.new }
-    ensures put { Put waiting out.old (track_texts track) result out.new }
+fn put_track(output: &mut Output, track: Interval)
+    ensures { Puts output.old (track_texts track) output.new }
 {
     let row = [track.low, track.high];
-    let waiting = output::put(console, out, waiting, b" K");
-    output::put_floats(console, out, waiting, &row)
+    output.put(b" K");
+    output.put_floats(&row);
 }
 
 // least-height greatest-height least-slope greatest-slope
-fn put_surface(
-    console: Console,
-    out: &mut [u8],
-    waiting: Waiting,
-    height: Interval,
-    slope: Interval,
-) -> Waiting
-    ensures bytes_in_bounds { result.bytes ≤ length out.new }
-    ensures put { Put waiting out.old (ends_texts height slope) result out.new }
+fn put_surface(output: &mut Output, height: Interval, slope: Interval)
+    ensures { Puts output.old (ends_texts height slope) output.new }
 {
     let row = [height.low, height.high, slope.low, slope.high];
-    output::put_floats(console, out, waiting, &row)
+    output.put_floats(&row);
 }
 
 // The ends of each surface's height and slope, which stand side by side in two arrays.
-fn put_surfaces(
-    console: Console,
-    out: &mut [u8],
-    waiting: Waiting,
-    traced: TraceLimits,
-    count: usize,
-) -> Waiting
-    ensures bytes_in_bounds { result.bytes ≤ length out.new }
-    ensures put { Put waiting out.old (all_ends_texts traced.heights traced.slopes (min count 16)) result out.new }
+fn put_surfaces(output: &mut Output, traced: TraceLimits, count: usize)
+    ensures { Puts output.old (all_ends_texts traced.heights traced.slopes (min count 16)) output.new }
 {
     let heights = traced.heights;
     let slopes = traced.slopes;
-    let mut held = waiting.within(out.len());
+    output.clip();
     for i in 0..count.min(16) {
-        held = put_surface(console, out, held, heights[i], slopes[i]);
+        put_surface(output, heights[i], slopes[i]);
     }
-    held
 }

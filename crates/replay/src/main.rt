@@ -14,9 +14,8 @@ mod trace;
 use answers::Program;
 use bench::Bench;
 use streams::console::Console;
-use streams::output::Waiting;
-use text::cursor;
-use text::cursor::{Cursor, Why};
+use streams::output::Output;
+use text::cursor::Cursor;
 
 // The bench that the jobs are played on.
 #[derive(Clone, Copy)]
@@ -26,28 +25,21 @@ struct Replay {
 
 // J id kind ..: runs are played on the bench, evaluations and traces stand by themselves.
 impl Program for Replay {
-    fn answer(
-        &mut self,
-        console: Console,
-        out: &mut [u8],
-        waiting: Waiting,
-        line: &[u8],
-        number: u64,
-    ) -> Result<Waiting, Cursor> {
-        let named = cursor::word(line, cursor::tag(line, Cursor::new(0), b"J"));
-        let kind = cursor::within(line, named, 1, 6, Why::Kind);
+    fn answer(&mut self, output: &mut Output, line: &[u8], number: u64) -> Result<(), Cursor> {
+        let kind = joblines::read_kind(line, Cursor::new(0), 6);
         let job = joblines::read_job(line, kind.next);
         match kind.value {
-            4 => evaluate::answer(console, out, waiting, line, job),
-            5 => trace::answer(console, out, waiting, line, job),
-            6 => limits::answer(console, out, waiting, line, job),
+            4 => evaluate::answer(output, line, job),
+            5 => trace::answer(output, line, job),
+            6 => limits::answer(output, line, job),
             _ => {
                 let read = joblines::read_request(line, kind.value, job);
                 answers::end(line, read.next)?;
                 // Each line has the place of its number.
                 let place = (number % 4) as usize;
-                let waiting = answers::put_head(console, out, waiting, line, kind.value);
-                Ok(run::answer(console, out, waiting, &mut self.bench, place, read.value))
+                answers::put_head(output, line, kind.value);
+                run::answer(output, &mut self.bench, place, read.value);
+                Ok(())
             }
         }
     }

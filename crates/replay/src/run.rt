@@ -7,27 +7,19 @@ use crate::play::Turns;
 use bench::Bench;
 use jobs::JobRequest;
 use refusals::Refusal;
-use streams::console::Console;
-use streams::output::Waiting;
+use streams::output::Output;
 
 // Plays the job at the place, and leaves it there at its start.
-pub(crate) fn answer(
-    console: Console,
-    out: &mut [u8],
-    waiting: Waiting,
-    bench: &mut Bench,
-    place: usize,
-    request: JobRequest,
-) -> Waiting
+pub(crate) fn answer(output: &mut Output, bench: &mut Bench, place: usize, request: JobRequest)
     requires { place < 4 }
 {
     if let Err(refusal) = admit(bench, place, request) {
-        return answers::put_refused(console, out, waiting, refusal.number(), true);
+        answers::put_refused(output, refusal.number(), true);
+        return;
     }
     let turns = play::play(bench, place);
-    let waiting = put_played(console, out, waiting, bench, place, turns, request);
+    put_played(output, bench, place, turns, request);
     let _ = admit(bench, place, request);
-    waiting
 }
 
 // Admits the job to the place, from which another's may have to go.
@@ -37,29 +29,20 @@ fn admit(bench: &mut Bench, place: usize, request: JobRequest) -> Result<(), Ref
 }
 
 // M first final N iterations converged turns S .. V .. D .. H digest
-fn put_played(
-    console: Console,
-    out: &mut [u8],
-    waiting: Waiting,
-    bench: &Bench,
-    place: usize,
-    turns: Turns,
-    request: JobRequest,
-) -> Waiting {
+fn put_played(output: &mut Output, bench: &Bench, place: usize, turns: Turns, request: JobRequest) {
     let mut found = rows::zero_result();
     let number = benchcalls::fetch(bench, place, &mut found);
     if number > 0 {
-        return answers::put_refused(console, out, waiting, number, true);
+        answers::put_refused(output, number, true);
+        return;
     }
-    let waiting = answers::put_outcome(console, out, waiting, found);
-    let waiting = answers::put_number(console, out, waiting, b"", turns.count);
-    let waiting = answers::put_lens(
-        console,
-        out,
-        waiting,
+    answers::put_outcome(output, found);
+    answers::put_number(output, b"", turns.count);
+    answers::put_lens(
+        output,
         found,
         request.prescription.surface_count,
         request.merit_function.operand_count,
     );
-    answers::put_digest(console, out, waiting, turns.hash)
+    answers::put_digest(output, turns.hash);
 }

@@ -4,62 +4,47 @@ use joblines::JobLine;
 use merit::Traced;
 use optics::{OpticalPrescription, ParaxialProperties, ParaxialRay};
 use refusals::Refusal;
-use streams::console::Console;
-use streams::output;
-use streams::output::Waiting;
+use streams::output::Output;
 use text::cursor;
 use text::cursor::Cursor;
 
 // Kind 5 has a slot as its setting.
-pub(crate) fn answer(
-    console: Console,
-    out: &mut [u8],
-    waiting: Waiting,
-    line: &[u8],
-    job: JobLine,
-) -> Result<Waiting, Cursor> {
+pub(crate) fn answer(output: &mut Output, line: &[u8], job: JobLine) -> Result<(), Cursor> {
     let slot = cursor::decimal(line, job.next);
     answers::end(line, slot.next)?;
-    let waiting = answers::put_head(console, out, waiting, line, 5);
+    answers::put_head(output, line, 5);
     let slot = slot.value as usize;
-    Ok(put_trace(console, out, waiting, job.prescription, slot))
+    put_trace(output, job.prescription, slot);
+    Ok(())
 }
 
-fn put_trace(
-    console: Console,
-    out: &mut [u8],
-    waiting: Waiting,
-    prescription: OpticalPrescription,
-    slot: usize,
-) -> Waiting {
+fn put_trace(output: &mut Output, prescription: OpticalPrescription, slot: usize) {
     let count = prescription.surface_count;
     let t = lending::trace_over(prescription, slot, marks::marked_rays(), count);
     let is_kept = marks::are_marked(&t.rays);
     match t.answer {
-        Err(refusal) => answers::put_refused(console, out, waiting, refusal.number(), is_kept),
-        Ok(Traced::Failed) => lensanswers::put_failed(console, out, waiting, is_kept),
-        Ok(Traced::Done) => put_done(console, out, waiting, prescription, slot, t.rays),
+        Err(refusal) => answers::put_refused(output, refusal.number(), is_kept),
+        Ok(Traced::Failed) => lensanswers::put_failed(output, is_kept),
+        Ok(Traced::Done) => put_done(output, prescription, slot, t.rays),
     }
 }
 
 // ok T n {height slope} P ..
 fn put_done(
-    console: Console,
-    out: &mut [u8],
-    waiting: Waiting,
+    output: &mut Output,
     prescription: OpticalPrescription,
     slot: usize,
     rays: [ParaxialRay; 16],
-) -> Waiting {
+) {
     let count = prescription.surface_count;
     if !marks::are_marked(&rays[count.min(16)..]) || !are_others_refused(prescription, slot) {
-        return output::put(console, out, waiting, b" changed\n");
+        output.put(b" changed\n");
+        return;
     }
-    let waiting = lensanswers::put_traced(console, out, waiting, rays, count);
-    let Some(properties) = paraxial(prescription, slot) else {
-        return waiting;
-    };
-    lensanswers::put_paraxial(console, out, waiting, properties)
+    lensanswers::put_traced(output, rays, count);
+    if let Some(properties) = paraxial(prescription, slot) {
+        lensanswers::put_paraxial(output, properties);
+    }
 }
 
 // Whether a row of every other length gives 1, and stays as it was.

@@ -4,6 +4,7 @@ use Rattle.std.specs.Prelude.{to_bits, Float}
 use Rattle.std.specs.Float.{binary64}
 use Rattle.io.specs.Digits.{last_digits}
 use Rattle.streams.specs.declared.output.Waiting.{Waiting}
+use Rattle.streams.specs.declared.output.Output.{Output}
 
 -- nothing waits, and no line is answered
 abbrev pub new_waiting : Waiting
@@ -63,6 +64,25 @@ pub record Put (w : Waiting) (out : List ℕ) (texts : List (List ℕ)) (r : Wai
   pub held : take r.bytes left ≡ after w.bytes out texts
   pub fits : length (take w.bytes out) + total texts ≤ length out → r.is_good ≡ w.is_good
   pub onward : Onward w r
+
+-- the same output, of which this waits
+abbrev pub with_waiting : Waiting → Output → Output
+with_waiting w o = record { console = o.console; buffer = o.buffer; waiting = w }
+
+-- a line more, which is refused or is not
+abbrev pub with_refused : Bool → Output → Output
+with_refused is o = with_waiting (one_refused is o.waiting) o
+
+-- a line more that is out of form
+abbrev pub with_unknown : Output → Output
+with_unknown o = with_waiting (one_unknown o.waiting) o
+
+-- after texts are put, what waits lies in the buffer, which is the one that was lent
+pub record Puts (o : Output) (texts : List (List ℕ)) (n : Output) : Type 0 where
+  pub put : Put o.waiting o.buffer.now texts n.waiting n.buffer.now
+  pub within : n.waiting.bytes ≤ length n.buffer.now
+  pub room : length n.buffer.now ≡ length o.buffer.now
+  pub lent : n.buffer.ghost_name ≡ o.buffer.ghost_name
 
 abbrev pub blank : List ℕ
 blank = 32 ∷ []

@@ -2,8 +2,9 @@
 use Rattle.std.specs.Prelude.{◌≡◌, ℕ, suc, ◌+◌, ◌<◌, ◌≤◌, List, [], ◌∷◌, ◌++◌, length, take, slice_index_or, refl, Float}
 use Rattle.std.proofs.Common.{arith, sym, ap, subst, ◌∙◌, length-append, take-suc, le-leb}
 use Rattle.std.proofs.lemmas.List.{take_min}
+use Rattle.streams.specs.declared.output.Output.{Output}
 use Rattle.streams.specs.declared.output.Waiting.{Waiting}
-use Rattle.streams.specs.Output.{with_bytes, clipped, added, added_all, total, Onward, Put, blank, float_text, float_texts}
+use Rattle.streams.specs.Output.{with_bytes, clipped, with_waiting, added, added_all, total, Onward, Put, Puts, blank, float_text, float_texts}
 
 added-append : (room : ℕ) (held : List ℕ) (ts us : List (List ℕ)) → added_all room held (ts ++ us) ≡ added_all room (added_all room held ts) us
 unfolding added_all
@@ -71,6 +72,25 @@ put_as {w} {r} {out} {left} e p = subst (λ (texts : List (List ℕ)). Put w out
 
 pub put-from : {w z r : Waiting} {out left : List ℕ} {ts : List (List ℕ)} → w ≡ z → Put w out ts r left → Put z out ts r left
 put-from {r = r} {out = out} {left = left} {ts = ts} e p = subst (λ (x : Waiting). Put x out ts r left) e p
+
+-- the same over outputs: the texts of one call, and then those of the next
+pub puts_then : {o m n : Output} {ts us : List (List ℕ)} → Puts o ts m → Puts m us n → Puts o (ts ++ us) n
+puts_then a b = record { put = then a.put b.put a.room; within = b.within; room = b.room ∙ a.room; lent = b.lent ∙ a.lent }
+
+pub puts_as : {o n : Output} {ts us : List (List ℕ)} → ts ≡ us → Puts o ts n → Puts o us n
+puts_as e p = record { put = put_as e p.put; within = p.within; room = p.room; lent = p.lent }
+
+pub puts_from : {o z n : Output} {ts : List (List ℕ)} → o ≡ z → Puts o ts n → Puts z ts n
+puts_from {n = n} {ts = ts} e p = subst (λ (x : Output). Puts x ts n) e p
+
+pub nothing_puts : (o : Output) → o.waiting.bytes ≤ length o.buffer.now → Puts o [] o
+nothing_puts o h = record { put = nothing_put o.waiting o.buffer.now; within = h; room = refl; lent = refl }
+
+clip_puts : (o : Output) → Puts o [] (with_waiting (clipped (length o.buffer.now) o.waiting) o)
+clip_puts o = record { put = put-from-clip o.waiting o.buffer.now refl; within = omega arith; room = refl; lent = refl }
+
+pub puts_clipped : {o n : Output} → n ≡ with_waiting (clipped (length o.buffer.now) o.waiting) o → Puts o [] n
+puts_clipped {o} e = subst (λ (x : Output). Puts o [] x) (sym e) (clip_puts o)
 
 floats-append : (row more : List Float) → float_texts (row ++ more) ≡ float_texts row ++ float_texts more
 unfolding float_texts

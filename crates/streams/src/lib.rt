@@ -7,4 +7,4 @@ pub mod input;
 mod moves;
 pub mod output;
 mod parts;
-pub mod session;
+mod session;

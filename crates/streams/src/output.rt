@@ -1,7 +1,7 @@
 // The output, gathered in a buffer.
-ghost use Rattle.std.specs.Prelude.{◌≡◌, ◌≤◌, min, [], ◌∷◌, length};
-ghost use Rattle.streams.specs.Output.{new_waiting, one_refused, one_unknown, with_bytes, clipped, Written, Put, hex_text, decimal_text, float_text};
-ghost use Rattle.streams.specs.Output.{float_texts};
+ghost use Rattle.std.specs.Prelude.{◌≡◌, min, [], ◌∷◌, length};
+ghost use Rattle.streams.specs.Output.{new_waiting, one_refused, one_unknown, with_bytes, clipped, with_waiting, with_refused};
+ghost use Rattle.streams.specs.Output.{with_unknown, Written, Puts, hex_text, decimal_text, float_text, float_texts};
 
 use crate::console::Console;
 use crate::{moves, parts};
@@ -20,7 +20,7 @@ pub struct Waiting {
 }
 
 impl Waiting {
-    pub fn new() -> Waiting
+    fn new() -> Waiting
         ensures { result ≡ new_waiting }
     {
         Waiting {
@@ -38,14 +38,14 @@ impl Waiting {
     }
 
     // No more waits than a buffer of so many bytes holds.
-    pub fn within(self, length: usize) -> Waiting
+    fn within(self, length: usize) -> Waiting
         ensures { result ≡ clipped length self }
     {
         self.with_bytes(self.bytes.min(length))
     }
 
     // One more line refused, where it is.
-    pub fn counted(self, is_refused: bool) -> Waiting
+    fn counted(self, is_refused: bool) -> Waiting
         ensures { result ≡ one_refused is_refused self }
     {
         Waiting {
@@ -55,7 +55,7 @@ impl Waiting {
     }
 
     // One more line out of form.
-    pub fn counted_unknown(self) -> Waiting
+    fn counted_unknown(self) -> Waiting
         ensures { result ≡ one_unknown self }
     {
         Waiting {
@@ -79,71 +79,118 @@ fn written(console: Console, waiting: Waiting, text: &[u8]) -> Waiting
     }
 }
 
-// Writes what waits.
-pub fn flush(console: Console, out: &[u8], waiting: Waiting) -> Waiting
-    ensures { Written (min waiting.bytes (length out.now)) waiting result }
-{
-    let n = waiting.bytes.min(out.len());
-    written(console, waiting, &out[..n])
+// Where the output goes, the buffer that it is gathered in, and what waits there.
+#[derive(Drop)]
+pub struct Output<'a> {
+    pub console: Console,
+    pub buffer: &'a mut [u8],
+    pub waiting: Waiting,
 }
 
-// Adds text to what waits. What there is no room for beside it is written first.
-pub fn put(console: Console, out: &mut [u8], waiting: Waiting, text: &[u8]) -> Waiting
-    ensures bytes_in_bounds { result.bytes ≤ length out.new }
-    ensures put { Put waiting out.old (text.now ∷ []) result out.new }
-{
-    if text.len() > out.len() {
-        return written(console, flush(console, out, waiting), text);
+impl<'a> Output<'a> {
+    pub fn new(console: Console, buffer: &'a mut [u8]) -> Output<'a>
+        ensures lent { result.buffer.ghost_name ≡ buffer.entry.ghost_name }
+        ensures empty { (result.waiting ≡ new_waiting) × (result.buffer.now ≡ buffer.old) }
+    {
+        Output {
+            console,
+            buffer,
+            waiting: Waiting::new(),
+        }
     }
-    let held = waiting.bytes.min(out.len());
-    if held > out.len() - text.len() {
-        let flushed = flush(console, out, waiting);
-        return flushed.with_bytes(parts::copy(text, out));
+
+    // No more waits than the buffer holds.
+    pub fn clip(&mut self)
+        ensures { self.new ≡ with_waiting (clipped (length self.old.buffer.now) self.old.waiting) self.old }
+    {
+        self.waiting = self.waiting.within(self.buffer.len());
     }
-    waiting.with_bytes(held + parts::copy(text, &mut out[held..]))
-}
 
-// Adds a number's sixteen hexadecimal digits.
-pub fn put_hex(console: Console, out: &mut [u8], waiting: Waiting, x: u64) -> Waiting
-    ensures bytes_in_bounds { result.bytes ≤ length out.new }
-    ensures put { Put waiting out.old (hex_text x ∷ []) result out.new }
-{
-    let mut text = [0u8; 16];
-    let n = io::hex(x, 16, &mut text);
-    put(console, out, waiting, &text[..n])
-}
-
-// Adds a number's decimal digits.
-pub fn put_decimal(console: Console, out: &mut [u8], waiting: Waiting, x: u64) -> Waiting
-    ensures bytes_in_bounds { result.bytes ≤ length out.new }
-    ensures put { Put waiting out.old (decimal_text x ∷ []) result out.new }
-{
-    let mut text = [0u8; 20];
-    let n = io::decimal(x, &mut text);
-    put(console, out, waiting, &text[..n])
-}
-
-// Adds the digits of a float's bits, or `nan`.
-pub fn put_float(console: Console, out: &mut [u8], waiting: Waiting, x: f64) -> Waiting
-    ensures bytes_in_bounds { result.bytes ≤ length out.new }
-    ensures put { Put waiting out.old (float_text x ∷ []) result out.new }
-{
-    if x != x {
-        put(console, out, waiting, b"nan")
-    } else {
-        put_hex(console, out, waiting, f64::to_bits(x))
+    // Counts one more line refused, where it is.
+    pub fn count(&mut self, is_refused: bool)
+        ensures { self.new ≡ with_refused is_refused self.old }
+    {
+        self.waiting = self.waiting.counted(is_refused);
     }
-}
 
-// Adds floats, each after a blank.
-pub fn put_floats(console: Console, out: &mut [u8], waiting: Waiting, row: &[f64]) -> Waiting
-    ensures bytes_in_bounds { result.bytes ≤ length out.new }
-    ensures put { Put waiting out.old (float_texts row.now) result out.new }
-{
-    let mut held = waiting.within(out.len());
-    for x in row {
-        held = put(console, out, held, b" ");
-        held = put_float(console, out, held, *x);
+    // Counts one more line out of form.
+    pub fn count_unknown(&mut self)
+        ensures { self.new ≡ with_unknown self.old }
+    {
+        self.waiting = self.waiting.counted_unknown();
     }
-    held
+
+    // What waits once what waited is written.
+    fn flushed(&self) -> Waiting
+        ensures { Written (min self.now.waiting.bytes (length self.now.buffer.now)) self.now.waiting result }
+    {
+        let n = self.waiting.bytes.min(self.buffer.len());
+        written(self.console, self.waiting, &self.buffer[..n])
+    }
+
+    // Writes what waits.
+    pub fn flush(&mut self)
+        ensures written { Written (min self.old.waiting.bytes (length self.old.buffer.now)) self.old.waiting self.new.waiting }
+        ensures same { self.new ≡ with_waiting self.new.waiting self.old }
+    {
+        self.waiting = self.flushed();
+    }
+
+    // Adds text to what waits. What there is no room for beside it is written first.
+    pub fn put(&mut self, text: &[u8])
+        ensures { Puts self.old (text.now ∷ []) self.new }
+    {
+        if text.len() > self.buffer.len() {
+            self.waiting = written(self.console, self.flushed(), text);
+            return;
+        }
+        let held = self.waiting.bytes.min(self.buffer.len());
+        if held > self.buffer.len() - text.len() {
+            let flushed = self.flushed();
+            self.waiting = flushed.with_bytes(parts::copy(text, self.buffer));
+            return;
+        }
+        let bytes = parts::copy(text, &mut self.buffer[held..]);
+        self.waiting = self.waiting.with_bytes(held + bytes);
+    }
+
+    // Adds a number's sixteen hexadecimal digits.
+    pub fn put_hex(&mut self, x: u64)
+        ensures { Puts self.old (hex_text x ∷ []) self.new }
+    {
+        let mut text = [0u8; 16];
+        let n = io::hex(x, 16, &mut text);
+        self.put(&text[..n]);
+    }
+
+    // Adds a number's decimal digits.
+    pub fn put_decimal(&mut self, x: u64)
+        ensures { Puts self.old (decimal_text x ∷ []) self.new }
+    {
+        let mut text = [0u8; 20];
+        let n = io::decimal(x, &mut text);
+        self.put(&text[..n]);
+    }
+
+    // Adds the digits of a float's bits, or `nan`.
+    pub fn put_float(&mut self, x: f64)
+        ensures { Puts self.old (float_text x ∷ []) self.new }
+    {
+        if x != x {
+            self.put(b"nan");
+        } else {
+            self.put_hex(f64::to_bits(x));
+        }
+    }
+
+    // Adds floats, each after a blank.
+    pub fn put_floats(&mut self, row: &[f64])
+        ensures { Puts self.old (float_texts row.now) self.new }
+    {
+        self.clip();
+        for x in row {
+            self.put(b" ");
+            self.put_float(*x);
+        }
+    }
 }

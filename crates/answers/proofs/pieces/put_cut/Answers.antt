@@ -1,12 +1,6 @@
 -- `answers::pieces::put_cut` meets its contract. Assumes nothing.
-use Rattle.streams.specs.OutputLaws.{then, put-from}
-use Rattle.std.proofs.Common.{rules}
-use Rattle.std.proofs.Common.{rules}
+use Rattle.streams.specs.OutputLaws.{puts_then, puts_from}
 use Rattle.answers.proofs.pieces.put_cut.Goals as goal
 
 pub returns : goal.returns
-returns c = record {
-  bytes_in_bounds = search rules;
-  put = put-from c.counted_unknown.ensures
-      (then c.put_number-waiting.ensures.put c.put.ensures.put (search rules));
-}
+returns c = puts_from c.count_unknown.ensures (puts_then c.put_number.ensures c.put.ensures)

@@ -1,13 +1,6 @@
 -- `lensanswers::evaluation::put_evaluation` meets its contract. Assumes nothing.
-use Rattle.streams.specs.OutputLaws.{then}
-use Rattle.std.proofs.Common.{rules}
+use Rattle.streams.specs.OutputLaws.{puts_then}
 use Rattle.lensanswers.proofs.evaluation.put_evaluation.Goals as goal
 
 pub returns : goal.returns
-returns c =
-    let total =
-    then
-    c.put-waiting.ensures.put
-    c.put_float-waiting.ensures.put (search rules) in
-    let values = then total c.put_row-waiting.ensures.put (search rules) in
-    record { bytes_in_bounds = search rules; put = then values c.put_row.ensures.put (search rules) }
+returns c = puts_then (puts_then (puts_then c.put.ensures c.put_float.ensures) c.put_row.ensures) c.put_row-2.ensures

@@ -1,11 +1,11 @@
--- `streams::output::put_hex` meets its contract: at a width of 16, `io::hex` answers 16, since a number of 64 bits takes no more. Assumes nothing.
+-- `streams::output::Output::put_hex` meets its contract: at a width of 16, `io::hex` answers 16, since a number of 64 bits takes no more. Assumes nothing.
 use Rattle.std.proofs.Common.{◌≡◌, ℕ, ◌-◌, ◌^◌, ◌<◌, ◌≤◌, List, [], ◌∷◌, sym, ap, ◌∙◌, ⊎_elim, eq-or-lt_of_le, arith, lit<, rules}
 use native.Mathlib.Nat.{pow-le-pow_right}
 use Rattle.io.specs.Digits.{last_digits, IsDigitCount}
-use Rattle.streams.specs.OutputLaws.{put_as}
+use Rattle.streams.specs.OutputLaws.{puts_as}
 use Rattle.streams.specs.Output.{hex_text}
 use Rattle.std.proofs.Common.{rules}
-use Rattle.streams.proofs.output.put_hex.Goals as goal
+use Rattle.streams.proofs.output.Output.put_hex.Goals as goal
 
 module _ (x k : ℕ) (fits : x < 2 ^ 64) (few : IsDigitCount 16 16 x k) where
   no_more : 16 < k → ⊥
@@ -26,8 +26,5 @@ pub returns : goal.returns
 returns c =
     let a = c.args in
     let h = c.hex-n in
-    let p = c.put in record {
-      bytes_in_bounds = p.ensures.bytes_in_bounds;
-      put = put_as (ap (λ (text : List ℕ). text ∷ []) (all_digits a.x h.result _ (sixteen a.x h.result (search rules) h.ensures.len)
-          h.ensures.digits)) p.ensures.put;
-    }
+    let digits = all_digits a.x h.result _ (sixteen a.x h.result (search rules) h.ensures.len) h.ensures.digits in
+    puts_as (ap (λ (text : List ℕ). text ∷ []) digits) c.put.ensures

@@ -1,10 +1,10 @@
--- `streams::output::put_float` meets its contract: only a NaN differs from itself. Assumes nothing.
+-- `streams::output::Output::put_float` meets its contract: only a NaN differs from itself. Assumes nothing.
 use Rattle.std.proofs.Common.{◌≡◌, ℕ, true, not, T, List, [], ◌∷◌, refl, ap}
 use lib.Ieee.{Float, nan, inf, fin, binary64, ne, is_nan, to_bits}
-use Rattle.streams.specs.OutputLaws.{put_as}
+use Rattle.streams.specs.OutputLaws.{puts_as}
 use Rattle.streams.specs.Output.{hex_text, float_text}
 use Rattle.text.specs.Nan.{is-nan, is_number}
-use Rattle.streams.proofs.output.put_float.Goals as goal
+use Rattle.streams.proofs.output.Output.put_float.Goals as goal
 
 nan-text : (x : Float) → ne x x ≡ true → 110 ∷ 97 ∷ 110 ∷ [] ≡ float_text x
 unfolding float_text is_nan
@@ -20,16 +20,9 @@ pub float_to_bits-x : goal.float_to_bits-x
 float_to_bits-x c = is_number c.args.x c.if-x.false
 
 pub returns-then-x : goal.returns-then-x
-returns-then-x c =
-    let a = c.args in
-    let p = c.put in
-    record { bytes_in_bounds = p.ensures.bytes_in_bounds; put = put_as (ap (λ (text : List ℕ). text ∷ []) (nan-text a.x c.if-x.true)) p.ensures.put }
+returns-then-x c = puts_as (ap (λ (text : List ℕ). text ∷ []) (nan-text c.args.x c.if-x.true)) c.put.ensures
 
 pub returns-else-x : goal.returns-else-x
 returns-else-x c =
     let a = c.args in
-    let p = c.put_hex in record {
-      bytes_in_bounds = p.ensures.bytes_in_bounds;
-      put = put_as (ap (λ (text : List ℕ). text ∷ []) (number-text a.x (is_number a.x c.if-x.false)))
-          p.ensures.put;
-    }
+    puts_as (ap (λ (text : List ℕ). text ∷ []) (number-text a.x (is_number a.x c.if-x.false))) c.put_hex.ensures

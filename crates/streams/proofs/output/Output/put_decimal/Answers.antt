@@ -1,12 +1,12 @@
--- `streams::output::put_decimal` meets its contract: the fewest places, of which `io::decimal` speaks, are those that are looked for. Assumes nothing.
+-- `streams::output::Output::put_decimal` meets its contract: the fewest places, of which `io::decimal` speaks, are those that are looked for. Assumes nothing.
 use Rattle.std.proofs.Common.{◌≡◌, ℕ, zero, suc, ◌+◌, ◌-◌, ◌^◌, ◌<◌, ◌≤◌, List, [], ◌∷◌, sym, ap, ◌∙◌, ⊎_elim, le_of_suc-le-suc, eq-or-lt_of_le, lt_of_not-le}
 use Rattle.std.proofs.Common.{arith, lit<, rules, le-ltb, lt-ltb}
 use native.Mathlib.Nat.{pow-le-pow_right}
 use Rattle.io.specs.Digits.{last_digits, IsDigitCount}
-use Rattle.streams.specs.OutputLaws.{put_as}
+use Rattle.streams.specs.OutputLaws.{puts_as}
 use Rattle.streams.specs.Output.{places_from, decimal_text}
 use Rattle.std.proofs.Common.{rules}
-use Rattle.streams.proofs.output.put_decimal.Goals as goal
+use Rattle.streams.proofs.output.Output.put_decimal.Goals as goal
 
 module _ (x k : ℕ) (few : IsDigitCount 10 1 x k) where
   -- fewer places than the fewest do not hold x
@@ -43,8 +43,4 @@ pub returns : goal.returns
 returns c =
     let a = c.args in
     let d = c.decimal-n in
-    let p = c.put in record {
-      bytes_in_bounds = p.ensures.bytes_in_bounds;
-      put = put_as (ap (λ (text : List ℕ). text ∷ []) (all_digits a.x d.result _ d.ensures.len (search rules) d.ensures.digits))
-          p.ensures.put;
-    }
+    puts_as (ap (λ (text : List ℕ). text ∷ []) (all_digits a.x d.result _ d.ensures.len (search rules) d.ensures.digits)) c.put.ensures

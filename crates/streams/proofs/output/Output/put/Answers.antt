@@ -1,5 +1,5 @@
--- `streams::output::put` meets its contract: the text is too long for the buffer, or for what is left of it, or fits. Assumes nothing.
-use Rattle.std.proofs.Common.{◌≡◌, ℕ, ◌+◌, ◌<◌, ◌≤◌, List, [], ◌∷◌, ◌++◌, length, take, sym, ap, ◌∙◌, append_assoc, arith, length-append, length-take}
+-- `streams::output::Output::put` meets its contract: the text is too long for the buffer, or for what is left of it, or fits. Assumes nothing.
+use Rattle.std.proofs.Common.{◌≡◌, ℕ, ◌+◌, ◌<◌, ◌≤◌, List, [], ◌∷◌, ◌++◌, length, take, sym, refl, ap, ◌∙◌, append_assoc, arith, length-append, length-take}
 use Rattle.std.proofs.Common.{length-take-le, take_at, rules, le-leb}
 use Rattle.std.proofs.lemmas.List.{take_min}
 use borrow.Author.Tests.{lt-leb}
@@ -7,7 +7,7 @@ use Rattle.streams.specs.declared.output.Waiting.{Waiting}
 use Rattle.streams.specs.OutputLaws.{onward_then, same_lines}
 use Rattle.streams.specs.Output.{added, added_all, after, total, with_bytes, Onward, Put}
 use Rattle.std.proofs.Common.{rules}
-use Rattle.streams.proofs.output.put.Goals as goal
+use Rattle.streams.proofs.output.Output.put.Goals as goal
 
 module _ (waiting : ℕ) (out text : List ℕ) where
   too_long : length out < length text → after waiting out (text ∷ []) ≡ []
@@ -55,45 +55,53 @@ module _ (w : Waiting) (out text : List ℕ) (r : Waiting) (left : List ℕ) whe
     onward = same_lines n is;
   }
 
-pub returns-then-text-out : goal.returns-then-text-out
-returns-then-text-out c =
-    let a = c.args in
-    let f = c.flush.ensures in
-    let g = c.written.ensures in
+pub returns-then-text-self : goal.returns-then-text-self
+returns-then-text-self c =
+    let o = c.args.self.now in
+    let text = c.args.text.now in
+    let g = c.written-self.ensures in
     let none = g.bytes in record {
-      bytes_in_bounds = omega (arith, none);
-      put = emptied a.waiting a.out.now a.text.now c.written.result a.out.now 0 none
-          (sym (too_long a.waiting.bytes a.out.now a.text.now (omega arith))) (omega arith) (onward_then f.onward g.onward);
+      put = emptied o.waiting o.buffer.now text c.written-self.result o.buffer.now 0 none
+          (sym (too_long o.waiting.bytes o.buffer.now text (omega arith))) (omega arith) (onward_then c.flushed.ensures.onward g.onward);
+      within = omega (arith, none);
+      room = refl;
+      lent = refl;
     }
 
-pub returns-then-held-out : goal.returns-then-held-out
-returns-then-held-out c =
-    let a = c.args in
-    let held = length-take a.waiting.bytes a.out.now ∙ sym c.min-held.ensures in
-    let f = c.flush-flushed.ensures in
+pub returns-then-held-self : goal.returns-then-held-self
+returns-then-held-self c =
+    let o = c.args.self.now in
+    let text = c.args.text.now in
+    let held = length-take o.waiting.bytes o.buffer.now ∙ sym c.min-held.ensures in
+    let f = c.flushed-flushed.ensures in
     let k = c.copy in
-    let is = c.with_bytes.ensures in
+    let is = c.with_bytes-self.ensures in
     let n = ap (λ (z : Waiting). z.bytes) is in record {
-      bytes_in_bounds = rw n (search rules);
-      put = emptied a.waiting a.out.now a.text.now c.with_bytes.result _ k.result n
-          (put_front a.text.now _ _ k.result k.ensures.after k.ensures.value
-          ∙ sym (alone a.waiting.bytes a.out.now a.text.now (omega arith) (omega arith))) (omega arith)
+      put = emptied o.waiting o.buffer.now text c.with_bytes-self.result _ k.result n
+          (put_front text _ _ k.result k.ensures.after k.ensures.value
+          ∙ sym (alone o.waiting.bytes o.buffer.now text (omega arith) (omega arith))) (omega arith)
           (onward_then f.onward (same_lines k.result is));
+      within = rw n (search rules);
+      room = search rules;
+      lent = refl;
     }
 
 pub returns : goal.returns
 returns c =
-    let a = c.args in
+    let o = c.args.self.now in
+    let text = c.args.text.now in
     let l = c.min-held in
-    let k = c.copy-2 in
-    let w = a.waiting.bytes in
-    let held = length-take w a.out.now ∙ sym l.ensures in
-    let is = c.with_bytes-2.ensures in
+    let k = c.copy-bytes in
+    let w = o.waiting.bytes in
+    let held = length-take w o.buffer.now ∙ sym l.ensures in
+    let is = c.with_bytes-self-2.ensures in
     let n = ap (λ (z : Waiting). z.bytes) is in record {
-      bytes_in_bounds = rw n (search rules);
-      put = added-to a.waiting a.out.now a.text.now c.with_bytes-2.result _ (l.result + k.result) is
-          (put-after a.text.now _ _ k.result k.ensures.after k.ensures.value
-          (take l.result a.out.now) _ l.result (length-take-le l.result a.out.now (omega arith))
-          ∙ ap (λ (head : List ℕ). head ++ a.text.now) (ap (λ (m : ℕ). take m a.out.now) l.ensures ∙ take_min w a.out.now)
-          ∙ sym (beside w a.out.now a.text.now (omega arith)));
+      put = added-to o.waiting o.buffer.now text c.with_bytes-self-2.result _ (l.result + k.result) is
+          (put-after text _ _ k.result k.ensures.after k.ensures.value
+          (take l.result o.buffer.now) _ l.result (length-take-le l.result o.buffer.now (omega arith))
+          ∙ ap (λ (head : List ℕ). head ++ text) (ap (λ (m : ℕ). take m o.buffer.now) l.ensures ∙ take_min w o.buffer.now)
+          ∙ sym (beside w o.buffer.now text (omega arith)));
+      within = rw n (search rules);
+      room = search rules;
+      lent = refl;
     }
