@@ -28,7 +28,7 @@ loop-k-preserved c = λ s v r.
       arith,
       active-le (variables_from c.args.job.now.counts
           c.args.job.now.numbers),
-    )) c.if-not-attempt_step.true c.raise-raised.ensures
+    )) c.if-not-attempt_step.true c.raise-now.ensures
 
 pub candidate_params-found-requires : goal.candidate_params-found-requires
 candidate_params-found-requires c =
