@@ -16,8 +16,7 @@ pub(crate) fn last_phase(kind: u64) -> u64
     ensures { (s : SettingsRecord) → result ≡ last_phase (method kind s) }
 {
     match kind {
-        1 => 4,
-        2 => 4,
+        1 | 2 => 4,
         _ => 6,
     }
 }
@@ -27,8 +26,7 @@ pub fn is_over(kind: u64, phase: u64) -> bool
     ensures { (c : SettingsRecord) → StateInPhase phase (λ s. result ≡ finished_by (method kind c) s) }
 {
     match kind {
-        1 => kinds::damped_over(phase),
-        2 => kinds::damped_over(phase),
+        1 | 2 => kinds::damped_over(phase),
         _ => kinds::annealing_over(phase),
     }
 }

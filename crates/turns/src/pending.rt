@@ -27,12 +27,12 @@ fn pending_annealing(
         standing flat.new ≡ Annealing.pending a state) }
     ensures fact_2 { Behind flat.old flat.new }
 {
-    let damped = h.damped;
-    match damped.phase {
+    // A phase and a kind stay numbers: a row may hold any.
+    match h.damped.phase {
         5 => held::copy(surfaces, flat),
         6 => held::lay_applied(job, *candidate, surfaces, flat),
         _ => dls::pending_damped(
-            damped,
+            h.damped,
             defaults::polish_settings(),
             job,
             surfaces,
@@ -63,6 +63,7 @@ pub fn pending_surfaces(
 {
     let damped = h.damped;
     let config = job.dls_config();
+    // Arms 1 and 2 stay two: of `1 | 2` the proof does not learn which it was, and a turn goes on from `kind` as it is.
     match kind {
         1 => dls::pending_damped(damped, config, job, surfaces, params, candidate, flat),
         2 => dls::pending_damped(damped, config, job, surfaces, params, candidate, flat),
