@@ -61,12 +61,16 @@ pub fn pending_surfaces(
         standing flat.new ≡ pending_by j.method j state) }
     ensures fact_2 { Behind flat.old flat.new }
 {
-    let damped = h.damped;
-    let config = job.dls_config();
-    // Arms 1 and 2 stay two: of `1 | 2` the proof does not learn which it was, and a turn goes on from `kind` as it is.
     match kind {
-        1 => dls::pending_damped(damped, config, job, surfaces, params, candidate, flat),
-        2 => dls::pending_damped(damped, config, job, surfaces, params, candidate, flat),
+        1 | 2 => dls::pending_damped(
+            h.damped,
+            job.dls_config(),
+            job,
+            surfaces,
+            params,
+            candidate,
+            flat,
+        ),
         _ => pending_annealing(h, job, surfaces, params, candidate, flat),
     }
 }
