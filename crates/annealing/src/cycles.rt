@@ -9,10 +9,7 @@ use jobs::SimulatedAnnealingConfig;
 pub(crate) fn has_next(n: u64, limit: u64) -> bool
     ensures { result ≡ ltb (suc n) limit }
 {
-    if n >= limit {
-        return false;
-    }
-    1 < limit - n
+    n < limit && 1 < limit - n
 }
 
 // Whether there is a first cycle with a step in it.
@@ -20,18 +17,12 @@ pub(crate) fn has_next(n: u64, limit: u64) -> bool
 pub(crate) fn is_first_cycle(config: SimulatedAnnealingConfig) -> bool
     ensures { (a : Annealer) → a.config ≡ config → result ≡ is_cycle a 0 }
 {
-    if config.max_cooling_cycles == 0 {
-        return false;
-    }
-    0 < config.steps_per_temperature
+    0 < config.max_cooling_cycles && 0 < config.steps_per_temperature
 }
 
 // Whether there is a cycle after cycle c with a step in it.
 pub(crate) fn is_next_cycle(config: SimulatedAnnealingConfig, c: u64) -> bool
     ensures { (a : Annealer) → a.config ≡ config → result ≡ is_cycle a (suc c) }
 {
-    if !has_next(c, config.max_cooling_cycles) {
-        return false;
-    }
-    0 < config.steps_per_temperature
+    has_next(c, config.max_cooling_cycles) && 0 < config.steps_per_temperature
 }

@@ -33,10 +33,8 @@ pub(crate) fn started(
         let after = walk_from result surfaces.now params.new best_surfaces.new in
         after ≡ Run.started a (standing surfaces.now) e) }
 {
-    let x = held::extract_values(job, surfaces);
-    *params = x;
-    let flat = *surfaces;
-    *best_surfaces = flat;
+    *params = held::extract_values(job, surfaces);
+    *best_surfaces = *surfaces;
     WalkHead {
         current_merit: merit,
         best_merit: merit,
@@ -46,6 +44,7 @@ pub(crate) fn started(
 }
 
 // The chance of a step by which the merit rises: the temperature has its floor in the quotient only.
+#[tactic(auto, unfolding(runs::specs::AnnealingRun::prob))]
 fn prob(delta_merit: f64, temp: f64) -> f64
     ensures { result ≡ Run.prob delta_merit temp }
 {
@@ -54,6 +53,7 @@ fn prob(delta_merit: f64, temp: f64) -> f64
 
 // The step is taken, and kept as the best where its merit is strictly lower.
 // global.rs: `if accept`
+#[tactic(auto, unfolding(runs::specs::AnnealingRun::accepted, runs::specs::AnnealingRun::if_best, runs::specs::AnnealingRun::trial_presc))]
 fn accepted(
     w: WalkHead,
     merit: f64,
@@ -69,18 +69,20 @@ fn accepted(
         let after = walk_from result surfaces.new params.new best_surfaces.new in
         after ≡ Run.accepted a candidate.now merit walking) }
 {
-    let x = *candidate;
-    held::apply_values(job, x, surfaces);
-    *params = x;
-    let mut next = w;
-    next.current_merit = merit;
+    held::apply_values(job, *candidate, surfaces);
+    *params = *candidate;
     if merit < w.best_merit {
-        let flat = *surfaces;
-        *best_surfaces = flat;
-        next.best_merit = merit;
-        return next;
+        *best_surfaces = *surfaces;
+        return WalkHead {
+            current_merit: merit,
+            best_merit: merit,
+            ..w
+        };
     }
-    next
+    WalkHead {
+        current_merit: merit,
+        ..w
+    }
 }
 
 // Metropolis acceptance: a draw only when the merit rose.
@@ -105,8 +107,10 @@ pub(crate) fn judged(
         return accepted(w, merit, job, surfaces, params, candidate, best_surfaces);
     }
     let draw = xorshift::drawn(w.rng);
-    let mut drawn = w;
-    drawn.rng = draw.state;
+    let drawn = WalkHead {
+        rng: draw.state,
+        ..w
+    };
     if draw.unit < prob(delta_merit, w.temp) {
         return accepted(
             drawn,

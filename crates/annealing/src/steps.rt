@@ -34,22 +34,22 @@ pub(crate) fn at_step(
         params.now candidate.new bs best_values.new best_residuals.new in
         after ≡ at_step a initial_merit walking c k) }
 {
-    let x = *params;
-    let drawn = draws::trial_params(w.rng, job, x);
+    let drawn = draws::trial_params(w.rng, job, *params);
+    // By a variable: the borrow checker takes no array straight from a field.
     let trial = drawn.params;
     *candidate = trial;
     let damped = dls::holding(6, jacobian, values, residuals, plus_residuals);
     *best_values = [0.0; 12];
     *best_residuals = [0.0; 12];
     let best = BestHead {
-        initial_merit: initial_merit,
+        initial_merit,
         final_merit: w.best_merit,
         iterations: 0,
         converged: 0,
     };
     RowHead {
-        damped: damped,
-        best: best,
+        damped,
+        best,
         generator: drawn.generator,
         trial: 0,
         cycle: c,
@@ -78,8 +78,7 @@ pub(crate) fn at_polish(
         params.new candidate.new best_surfaces.new best_values.new best_residuals.new in
         after ≡ at_polish initial_merit (at_first (standing best_surfaces.old)) }
 {
-    let flat = *best_surfaces;
-    *surfaces = flat;
+    *surfaces = *best_surfaces;
     let damped = dls::at_first(
         jacobian,
         values,
@@ -92,14 +91,14 @@ pub(crate) fn at_polish(
     *best_values = [0.0; 12];
     *best_residuals = [0.0; 12];
     let best = BestHead {
-        initial_merit: initial_merit,
+        initial_merit,
         final_merit: 0.0,
         iterations: 0,
         converged: 0,
     };
     RowHead {
-        damped: damped,
-        best: best,
+        damped,
+        best,
         generator: 0,
         trial: 0,
         cycle: 0,

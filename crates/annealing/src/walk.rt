@@ -39,8 +39,10 @@ fn next_cycle(
         params.new candidate.new best_surfaces.new best_values.new best_residuals.new in
         after ≡ resume_steps a false initial_merit walking c k) }
 {
-    let mut cool = w;
-    cool.temp = w.temp * config.cooling_rate;
+    let cool = WalkHead {
+        temp: w.temp * config.cooling_rate,
+        ..w
+    };
     if cycles::is_next_cycle(config, c) {
         return at_step(
             cool,

@@ -55,8 +55,10 @@ pub(crate) fn resume_iterations(
 {
     if h.iteration < limit {
         *jacobian = [0.0; 96];
-        let mut next = h;
-        next.iteration = h.iteration + 1;
+        let next = Head {
+            iteration: h.iteration + 1,
+            ..h
+        };
         return at_plus(next, 0, plus_residuals, candidate);
     }
     ended(h, false, jacobian, plus_residuals, params, candidate)
@@ -86,19 +88,16 @@ fn moved(
         candidate.now in
         after ≡ with_current before (moved o candidate.now e (current_of before))) }
 {
-    let x = *candidate;
-    apply_values(job, x, surfaces);
-    *params = x;
-    let v = *found;
-    *values = v;
-    let r = residuals_of(found, job);
-    *residuals = r;
+    apply_values(job, *candidate, surfaces);
+    *params = *candidate;
+    *values = *found;
+    *residuals = residuals_of(found, job);
     let damping = Damping { value: h.damping };
-    let eased = damping.ease();
-    let mut next = h;
-    next.total_merit = merit;
-    next.damping = eased.value;
-    next
+    Head {
+        total_merit: merit,
+        damping: damping.ease().value,
+        ..h
+    }
 }
 
 // An accepted step: the run has converged where the improvement was small, else it goes on.

@@ -70,12 +70,10 @@ fn resume_attempts(
     let mut now = damping;
     for k in first..10 {
         if !attempt_step(scratch, p, now) {
-            let raised = now.raise();
-            now = raised;
+            now = now.raise();
             continue;
         }
-        let x = *params;
-        let found = candidate_params(p, job, x, scratch);
+        let found = candidate_params(p, job, *params, scratch);
         return at_candidate(h, now.value, k + 1, found, plus_residuals, candidate);
     }
     ended(h, false, jacobian, plus_residuals, params, candidate)
@@ -86,10 +84,7 @@ fn resume_attempts(
 fn is_stationary(norm: f64, tolerance: f64) -> bool
     ensures { result ≡ not (finite_of norm) || lt norm tolerance }
 {
-    if !is_finite(norm) {
-        return true;
-    }
-    norm < tolerance
+    !is_finite(norm) || norm < tolerance
 }
 
 // The Jacobian is whole: the gradient's stop comes before any attempt.
@@ -165,12 +160,11 @@ pub(crate) fn resume_rejected(
     let m = job.operand_count();
     let norm = normal_equations(scratch, jacobian, residuals, m, p);
     let damping = Damping { value: h.damping };
-    let attempt = h.attempt;
     resume_attempts(
         h,
         p,
         damping.raise(),
-        attempt,
+        h.attempt,
         job,
         jacobian,
         plus_residuals,

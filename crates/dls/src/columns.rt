@@ -1,9 +1,11 @@
 // The Jacobian of a damped run, by central differences: the surfaces on either side of a parameter, and the column out of
 // their residuals.
-ghost use Rattle.std.specs.Prelude.{◌≡◌, List, ℕ, ◌≤◌, ◌<◌, Float, length, set};
+ghost use Rattle.std.specs.Prelude.{◌≡◌, List, ℕ, ◌≤◌, ◌<◌, Float, length, get_or, set};
+ghost use Rattle.std.specs.Float.{nan};
+ghost use Rattle.variables.specs.Active.{active_at};
 ghost use Rattle.normal.specs.Layout.{most_operands, most_variables};
 ghost use Rattle.variables.specs.Values.{applied};
-ghost use Rattle.runs.specs.DampedRun.{presc_plus, presc_minus, denom, with_differences};
+ghost use Rattle.runs.specs.DampedRun.{denom, with_differences};
 ghost use Rattle.runs.specs.DampedRow.{current_of};
 ghost use Rattle.dls.specs.DampedSteps.{optimizer, moved_up, moved_down, with_jacobian};
 ghost use Rattle.held.specs.JobFrom.{standing, variable_count_from, operand_count_from, variables_from};
@@ -17,7 +19,7 @@ use variables::VariableDef;
 
 // A variable's value moved up, within its bounds.
 // dls.rs: `p_plus[param_idx]`
-fn moved_up(x0: f64, relative: f64, variable: VariableDef) -> f64
+pub(crate) fn moved_up(x0: f64, relative: f64, variable: VariableDef) -> f64
     ensures { result ≡ moved_up x0 relative variable }
 {
     let by = delta(x0, relative, variable.step_size);
@@ -26,82 +28,40 @@ fn moved_up(x0: f64, relative: f64, variable: VariableDef) -> f64
 
 // A variable's value moved down, within its bounds.
 // dls.rs: `p_minus[param_idx]`
-fn moved_down(x0: f64, relative: f64, variable: VariableDef) -> f64
+pub(crate) fn moved_down(x0: f64, relative: f64, variable: VariableDef) -> f64
     ensures { result ≡ moved_down x0 relative variable }
 {
     let by = delta(x0, relative, variable.step_size);
     minus_value(x0, by, variable.min_value, variable.max_value)
 }
 
-// The surfaces laid with all values applied, one of them changed.
-fn perturbed(
-    q: usize,
-    x: f64,
+// The surfaces with the parameter of this column moved to one side, all values applied, laid where their merit is worked out.
+pub(crate) fn lay_moved<F: Fn(f64, f64, VariableDef) -> f64>(
+    side: F,
+    h: Head,
+    config: DlsConfig,
     job: &HeldJob,
     surfaces: &[f64; 64],
     params: &[f64; 8],
     flat: &mut [f64],
 )
     requires fact_1 { variable_count_from job.now.counts ≤ most_variables }
-    requires fact_2 { q < most_variables }
+    requires fact_2 { h.column < most_variables }
     requires fact_3 { 64 ≤ length flat.old }
-    ensures fact_1 { standing flat.new ≡ applied (variables_from job.now.counts job.now.numbers) (set params.now q x)
-        (standing surfaces.now) }
+    requires fact_4 { F.IsAlwaysCallable side }
+    ensures fact_1 { let v = variables_from job.now.counts job.now.numbers in
+        (x : Float) × F.post side (get_or params.now h.column nan) config.finite_difference_relative_step (active_at v h.column) x
+        × (standing flat.new ≡ applied v (set params.now h.column x) (standing surfaces.now)) }
     ensures fact_2 { Behind flat.old flat.new }
 {
+    let q = h.column as usize;
     let mut moved = *params;
-    moved[q] = x;
+    moved[q] = side(
+        params[q],
+        config.finite_difference_relative_step,
+        job.active_at(q),
+    );
     lay_applied(job, moved, surfaces, flat);
-}
-
-// The surfaces with the parameter of this column moved up, laid where their merit is worked out.
-pub(crate) fn presc_plus(
-    h: Head,
-    config: DlsConfig,
-    job: &HeldJob,
-    surfaces: &[f64; 64],
-    params: &[f64; 8],
-    flat: &mut [f64],
-)
-    requires fact_1 { variable_count_from job.now.counts ≤ most_variables }
-    requires fact_2 { h.column < most_variables }
-    requires fact_3 { 64 ≤ length flat.old }
-    ensures fact_1 { ((m : ℕ) (jacobian values residuals plus candidate : List Float) →
-        let o = optimizer config (variables_from job.now.counts job.now.numbers) m in
-        let state = damped_from h surfaces.now jacobian values residuals plus params.now candidate in
-        standing flat.new ≡ presc_plus o (current_of state) h.column) }
-    ensures fact_2 { Behind flat.old flat.new }
-{
-    let q = h.column as usize;
-    let variable = job.active_at(q);
-    let x0 = params[q];
-    let x = moved_up(x0, config.finite_difference_relative_step, variable);
-    perturbed(q, x, job, surfaces, params, flat);
-}
-
-// The surfaces with it moved down.
-pub(crate) fn presc_minus(
-    h: Head,
-    config: DlsConfig,
-    job: &HeldJob,
-    surfaces: &[f64; 64],
-    params: &[f64; 8],
-    flat: &mut [f64],
-)
-    requires fact_1 { variable_count_from job.now.counts ≤ most_variables }
-    requires fact_2 { h.column < most_variables }
-    requires fact_3 { 64 ≤ length flat.old }
-    ensures fact_1 { ((m : ℕ) (jacobian values residuals plus candidate : List Float) →
-        let o = optimizer config (variables_from job.now.counts job.now.numbers) m in
-        let state = damped_from h surfaces.now jacobian values residuals plus params.now candidate in
-        standing flat.new ≡ presc_minus o (current_of state) h.column) }
-    ensures fact_2 { Behind flat.old flat.new }
-{
-    let q = h.column as usize;
-    let variable = job.active_at(q);
-    let x0 = params[q];
-    let x = moved_down(x0, config.finite_difference_relative_step, variable);
-    perturbed(q, x, job, surfaces, params, flat);
 }
 
 // What lies between the parameter moved up and moved down.

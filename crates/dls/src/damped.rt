@@ -12,7 +12,7 @@ ghost use Rattle.dls.specs.Found.{ForFound};
 
 use crate::accepting::{advance_candidate, resume_iterations};
 use crate::attempts::resume_stationary;
-use crate::columns::{presc_minus, presc_plus, with_differences};
+use crate::columns::{lay_moved, moved_down, moved_up, with_differences};
 use crate::states::{at_minus, at_plus};
 use held::{Head, HeldJob, copy, extract_values, lay_applied};
 use heldmerit::{merit_of, residuals_of};
@@ -38,8 +38,8 @@ pub fn pending_damped(
     ensures fact_2 { Behind flat.old flat.new }
 {
     match h.phase {
-        1 => presc_plus(h, config, job, surfaces, params, flat),
-        2 => presc_minus(h, config, job, surfaces, params, flat),
+        1 => lay_moved(moved_up, h, config, job, surfaces, params, flat),
+        2 => lay_moved(moved_down, h, config, job, surfaces, params, flat),
         3 => lay_applied(job, *candidate, surfaces, flat),
         _ => copy(surfaces, flat),
     }
@@ -71,18 +71,17 @@ fn advance_first(
         params.new candidate.new in
         after ≡ advance_at o Damped.first before e) }
 {
-    let x = extract_values(job, surfaces);
-    *params = x;
-    let v = *found;
-    *values = v;
-    let r = residuals_of(found, job);
-    *residuals = r;
+    *params = extract_values(job, surfaces);
+    *values = *found;
+    *residuals = residuals_of(found, job);
     let merit = merit_of(found, job);
-    let mut next = h;
-    next.total_merit = merit;
-    next.initial_merit = merit;
-    next.damping = config.initial_damping;
-    next.iteration = 0;
+    let next = Head {
+        total_merit: merit,
+        initial_merit: merit,
+        damping: config.initial_damping,
+        iteration: 0,
+        ..h
+    };
     resume_iterations(
         next,
         config.max_iterations,
@@ -183,10 +182,7 @@ pub fn advance_damped(
             params,
             candidate,
         ),
-        1 => {
-            let above = residuals_of(found, job);
-            at_minus(h, above, plus_residuals, candidate)
-        }
+        1 => { at_minus(h, residuals_of(found, job), plus_residuals, candidate) }
         2 => advance_minus(
             h,
             config,

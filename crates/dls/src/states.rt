@@ -29,7 +29,7 @@ pub fn holding(
         total_merit: 0.0,
         initial_merit: 0.0,
         damping: 0.0,
-        phase: phase,
+        phase,
         iteration: 0,
         column: 0,
         attempt: 0,
@@ -70,12 +70,13 @@ pub(crate) fn at_plus(
 {
     *plus_residuals = [0.0; 12];
     *candidate = [0.0; 8];
-    let mut next = h;
-    next.phase = 1;
-    next.column = column;
-    next.attempt = 0;
-    next.converged = 0;
-    next
+    Head {
+        phase: 1,
+        column,
+        attempt: 0,
+        converged: 0,
+        ..h
+    }
 }
 
 // Just before the merit that moves it down.
@@ -92,11 +93,12 @@ pub(crate) fn at_minus(
 {
     *plus_residuals = found;
     *candidate = [0.0; 8];
-    let mut next = h;
-    next.phase = 2;
-    next.attempt = 0;
-    next.converged = 0;
-    next
+    Head {
+        phase: 2,
+        attempt: 0,
+        converged: 0,
+        ..h
+    }
 }
 
 // Just before the candidate's merit.
@@ -115,13 +117,14 @@ pub(crate) fn at_candidate(
 {
     *plus_residuals = [0.0; 12];
     *candidate = found;
-    let mut next = h;
-    next.damping = damping;
-    next.phase = 3;
-    next.column = 0;
-    next.attempt = attempt;
-    next.converged = 0;
-    next
+    Head {
+        damping,
+        phase: 3,
+        column: 0,
+        attempt,
+        converged: 0,
+        ..h
+    }
 }
 
 // At the end.
@@ -144,11 +147,12 @@ pub(crate) fn ended(
     *plus_residuals = [0.0; 12];
     *params = [0.0; 8];
     *candidate = [0.0; 8];
-    let mut next = h;
-    next.damping = 0.0;
-    next.phase = 4;
-    next.column = 0;
-    next.attempt = 0;
-    next.converged = converged as u64;
-    next
+    Head {
+        damping: 0.0,
+        phase: 4,
+        column: 0,
+        attempt: 0,
+        converged: u64::from(converged),
+        ..h
+    }
 }

@@ -149,13 +149,7 @@ impl HeldJob {
         ensures { (numbers : List Float) → result ≡ variable_known (variable_record_from self.now.counts numbers i) }
     {
         let at = places::VARIABLE_COUNTS + 5 * i;
-        if self.counts[at] >= 4 {
-            return false;
-        }
-        if self.counts[at + 2] >= 2 {
-            return false;
-        }
-        self.counts[at + 3] < 3
+        self.counts[at] < 4 && self.counts[at + 2] < 2 && self.counts[at + 3] < 3
     }
 
     pub fn operand_known(&self, n: usize) -> bool

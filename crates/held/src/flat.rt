@@ -13,8 +13,7 @@ pub fn stand(flat: &[f64]) -> [OpticalSurface; 16]
     let none = variables::no_surface();
     let mut surfaces = [none; 16];
     for i in 0..16 {
-        let s = optics::surface_at(flat, i);
-        surfaces[i] = s;
+        surfaces[i] = optics::surface_at(flat, i);
     }
     surfaces
 }
@@ -26,9 +25,7 @@ pub fn copy(flat: &[f64], to: &mut [f64])
     ensures fact_1 { standing to.new ≡ standing flat.now }
     ensures fact_2 { Behind to.old to.new }
 {
-    for i in 0..64 {
-        to[i] = flat[i];
-    }
+    to[..64].copy_from_slice(&flat[..64]);
 }
 
 // One surface of those that stand in flat numbers replaced.

@@ -34,8 +34,7 @@ pub fn extract_values(job: &HeldJob, flat: &[f64]) -> [f64; 8]
     for i in 0..count {
         let d = job.variable_at(i);
         if d.enabled {
-            let kind = d.var_type;
-            x[q] = value_of(flat, kind);
+            x[q] = value_of(flat, d.var_type);
             q += 1;
         }
     }
@@ -91,11 +90,9 @@ fn apply_variable(d: VariableDef, value: f64, flat: &mut [f64])
     ensures fact_1 { standing flat.new ≡ stored_in (standing flat.old) d (apply_clamp value d.min_value d.max_value) }
     ensures fact_2 { Behind flat.old flat.new }
 {
-    let kind = d.var_type;
     let x = variables::apply_clamp(value, d.min_value, d.max_value);
-    let follower = d.follower;
-    put_value(flat, variables::surface_index(kind), kind, x);
-    follow(flat, kind, follower, x);
+    put_value(flat, variables::surface_index(d.var_type), d.var_type, x);
+    follow(flat, d.var_type, d.follower, x);
 }
 
 // The surfaces that stand in flat numbers with each value applied, in rising order of the variables.

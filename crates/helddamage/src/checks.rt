@@ -13,16 +13,13 @@ ghost use Rattle.held.specs.JobFrom.{prescription_from, variables_from, operands
 use held::HeldJob;
 use variables::VariableDef;
 
+#[tactic(auto, unfolding(jobs::specs::Checks::counts_taken))]
 pub(crate) fn counts_taken(job: &HeldJob) -> bool
     ensures { (numbers : List Float) (kind : ℕ) → result ≡ counts_taken (held_job job.now.counts numbers kind) }
 {
-    if !optics::lens_counts_taken(job.surface_count(), job.slot_count()) {
-        return false;
-    }
-    if job.variable_count() > 8 {
-        return false;
-    }
-    job.operand_count() <= 12
+    optics::lens_counts_taken(job.surface_count(), job.slot_count())
+        && job.variable_count() <= 8
+        && job.operand_count() <= 12
 }
 
 // Check 3 on surfaces laid flat.
@@ -31,8 +28,7 @@ pub(crate) fn surfaces_taken(flat: &[f64], count: usize) -> bool
     ensures { result ≡ surfaces_taken (standing flat.now) count }
 {
     for i in 0..count {
-        let s = optics::surface_at(flat, i);
-        if !optics::surface_taken(s) {
+        if !optics::surface_taken(optics::surface_at(flat, i)) {
             return false;
         }
     }
@@ -40,30 +36,23 @@ pub(crate) fn surfaces_taken(flat: &[f64], count: usize) -> bool
 }
 
 // Check 3 on the lens.
+#[tactic(auto, unfolding(optics::specs::Check::lens_taken))]
 fn lens_taken(job: &HeldJob) -> bool
     requires { (surface_count_from job.now.counts ≤ 16) × (slot_count_from job.now.counts ≤ 4) }
     ensures { result ≡ lens_taken (prescription_from job.now.counts job.now.numbers) }
 {
     let count = job.surface_count();
-    if !optics::above_zero_up_to(1e9, job.pupil()) {
-        return false;
-    }
-    if !surfaces_taken(&job.numbers, count) {
-        return false;
-    }
-    optics::indices_taken(job.indices(), job.slot_count(), count)
+    optics::above_zero_up_to(1e9, job.pupil())
+        && surfaces_taken(&job.numbers, count)
+        && optics::indices_taken(job.indices(), job.slot_count(), count)
 }
 
 // Checks 4 and 17 on one variable.
 fn variable_taken(d: VariableDef, surfaces: usize) -> bool
     ensures { result ≡ variable_taken surfaces d && follower_taken surfaces d.var_type d.follower }
 {
-    if !variables::variable_taken(d, surfaces) {
-        return false;
-    }
-    let kind = d.var_type;
-    let follower = d.follower;
-    variables::follower_taken(kind, follower, surfaces)
+    variables::variable_taken(d, surfaces)
+        && variables::follower_taken(d.var_type, d.follower, surfaces)
 }
 
 // Checks 4 and 17, and that every kind, mark and sign is one that there is.
@@ -107,16 +96,15 @@ fn operands_taken(job: &HeldJob) -> bool
     true
 }
 
+#[tactic(auto, unfolding(jobs::specs::Checks::multi_start_taken))]
 fn multi_start_taken(job: &HeldJob) -> bool
     ensures { result ≡ multi_start_taken (multi_start_config (settings_from job.now.counts job.now.numbers)) }
 {
-    if !jobs::dls_taken(job.dls_config()) {
-        return false;
-    }
-    job.num_trials() <= 1000
+    jobs::dls_taken(job.dls_config()) && job.num_trials() <= 1000
 }
 
 // Check 6 on the settings of the row's kind.
+#[tactic(auto, unfolding(jobs::specs::Records::method))]
 fn settings_taken(kind: u64, job: &HeldJob) -> bool
     ensures { result ≡ settings_taken (method kind (settings_from job.now.counts job.now.numbers)) }
 {
@@ -133,20 +121,10 @@ pub(crate) fn job_taken(kind: u64, job: &HeldJob, p: usize) -> bool
         × (p ≡ num_active (variables_from job.now.counts job.now.numbers)) }
     ensures { result ≡ record_taken kind (job_record_from job.now.counts job.now.numbers) }
 {
-    if !lens_taken(job) {
-        return false;
-    }
-    if !variables_taken(job) {
-        return false;
-    }
-    if !operands_taken(job) {
-        return false;
-    }
-    if !settings_taken(kind, job) {
-        return false;
-    }
-    if p == 0 {
-        return false;
-    }
-    job.operand_count() > 0
+    lens_taken(job)
+        && variables_taken(job)
+        && operands_taken(job)
+        && settings_taken(kind, job)
+        && p > 0
+        && job.operand_count() > 0
 }

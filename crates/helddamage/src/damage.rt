@@ -15,13 +15,11 @@ fn taken_if(used: bool, flat: &[f64], count: usize) -> bool
     requires { (count ≤ 16) × (64 ≤ length flat.now) }
     ensures { result ≡ taken_if used (standing flat.now) count }
 {
-    if !used {
-        return true;
-    }
-    checks::surfaces_taken(flat, count)
+    !used || checks::surfaces_taken(flat, count)
 }
 
 // The surfaces in use.
+#[tactic(auto, unfolding(runs::specs::Damage::surfaces_sound))]
 fn surfaces_sound(words: &[u64; 13], count: usize, surfaces: &[f64], best: &[f64]) -> bool
     requires { (count ≤ 16) × (64 ≤ length surfaces.now) × (64 ≤ length best.now) }
     ensures { (c : SettingsRecord) (o : Others)
@@ -29,42 +27,29 @@ fn surfaces_sound(words: &[u64; 13], count: usize, surfaces: &[f64], best: &[f64
 {
     let kind = held::kind(words);
     let phase = held::phase(words);
-    if !taken_if(limits::uses_current(kind, phase), surfaces, count) {
-        return false;
-    }
-    taken_if(
-        limits::uses_best(kind, phase, held::trial(words)),
-        best,
-        count,
-    )
+    let trial = held::trial(words);
+    taken_if(limits::uses_current(kind, phase), surfaces, count)
+        && taken_if(limits::uses_best(kind, phase, trial), best, count)
 }
 
 // Column, attempt and iteration below their limits, and trial, cycle and step.
+#[tactic(auto, unfolding(runs::specs::Damage::counters_sound))]
 fn counters_sound(words: &[u64; 13], job: &HeldJob, p: usize) -> bool
     ensures { (numbers surfaces best : List Float) (o : Others)
         → result ≡ counters_sound (method (kind_from words.now) (settings_from job.now.counts numbers)) p
         (state_with words.now surfaces best o) }
 {
-    let kind = held::kind(words);
-    if held::column(words) >= (p as u64) {
-        return false;
-    }
-    if held::attempt(words) > 10 {
-        return false;
-    }
-    if held::iteration(words) > limits::iteration_limit(kind, job) {
-        return false;
-    }
-    if held::trial(words) > limits::trial_limit(kind, job) {
-        return false;
-    }
-    if held::cycle(words) >= kinds::at_least_one(limits::cycle_limit(kind, job)) {
-        return false;
-    }
-    held::step(words) < kinds::at_least_one(limits::step_limit(kind, job))
+    let most = limits::counter_limits(held::kind(words), job);
+    held::column(words) < p as u64
+        && held::attempt(words) <= 10
+        && held::iteration(words) <= most.iteration
+        && held::trial(words) <= most.trial
+        && held::cycle(words) < kinds::at_least_one(most.cycle)
+        && held::step(words) < kinds::at_least_one(most.step)
 }
 
 // Phase, surfaces and counters; p variables are enabled.
+#[tactic(auto, unfolding(runs::specs::Damage::state_sound))]
 fn state_sound(words: &[u64; 13], job: &HeldJob, p: usize, surfaces: &[f64], best: &[f64]) -> bool
     requires { (surface_count_from job.now.counts ≤ 16) × (64 ≤ length surfaces.now) × (64 ≤ length best.now) }
     ensures { (numbers : List Float) (o : Others) → p ≡ num_active (variables_from job.now.counts numbers)
@@ -72,16 +57,13 @@ fn state_sound(words: &[u64; 13], job: &HeldJob, p: usize, surfaces: &[f64], bes
         (held_job job.now.counts numbers (kind_from words.now))
         (state_with words.now surfaces.now best.now o) }
 {
-    if held::phase(words) > limits::last_phase(held::kind(words)) {
-        return false;
-    }
-    if !surfaces_sound(words, job.surface_count(), surfaces, best) {
-        return false;
-    }
-    counters_sound(words, job, p)
+    held::phase(words) <= limits::last_phase(held::kind(words))
+        && surfaces_sound(words, job.surface_count(), surfaces, best)
+        && counters_sound(words, job, p)
 }
 
 // Whether the row is damaged, whatever the arrays are that it is not lent.
+#[tactic(auto, unfolding(runs::specs::Damage::damaged, runs::specs::Damage::job_sound, runs::specs::Damage::turns_sound, runs::specs::Rows::is_finished))]
 pub fn is_damaged(words: &[u64; 13], job: &HeldJob, surfaces: &[f64], best_surfaces: &[f64]) -> bool
     requires { (64 ≤ length surfaces.now) × (64 ≤ length best_surfaces.now) }
     ensures { (o : Others)
@@ -89,24 +71,13 @@ pub fn is_damaged(words: &[u64; 13], job: &HeldJob, surfaces: &[f64], best_surfa
         best_surfaces.now o)) }
 {
     let kind = held::kind(words);
-    if !kinds::is_kind(kind) {
-        return true;
-    }
-    if !checks::counts_taken(job) {
+    if !kinds::is_kind(kind) || !checks::counts_taken(job) {
         return true;
     }
     let p = job.num_active();
-    if !checks::job_taken(kind, job, p) {
+    if !checks::job_taken(kind, job, p) || !state_sound(words, job, p, surfaces, best_surfaces) {
         return true;
     }
-    if !state_sound(words, job, p, surfaces, best_surfaces) {
-        return true;
-    }
-    if limits::is_over(kind, held::phase(words)) {
-        return false;
-    }
-    if held::turns(words) < limits::bound(kind, job, p as u64) {
-        return false;
-    }
-    true
+    !limits::is_over(kind, held::phase(words))
+        && held::turns(words) >= limits::bound(kind, job, p as u64)
 }

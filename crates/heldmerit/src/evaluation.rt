@@ -26,8 +26,7 @@ pub fn values_of(flat: &[f64], job: &HeldJob) -> [f64; 12]
     let mut values = [0.0; 12];
     for n in 0..many {
         let o = job.operand_at(n);
-        let kind = o.operand_type;
-        values[n] = meritcalls::value_of(kind, slots, flat, count, values);
+        values[n] = meritcalls::value_of(o.operand_type, slots, flat, count, values);
     }
     values
 }

@@ -60,21 +60,19 @@ pub fn held_of(row: Row) -> HeldRow
     held::put_words(row.kind, row.turns, h, &mut words);
     let mut scalars = [0.0; 7];
     held::put_scalars(h, &mut scalars);
-    let record = row.job;
-    let job = written::held_job(record);
+    let job = written::held_job(row.job);
     let d = row.damped;
     let b = row.best;
     let e = d.evaluation;
-    let current = d.surfaces;
-    let surfaces = laid(current);
+    let surfaces = laid(d.surfaces);
+    // Each array by a variable: the borrow checker takes none straight from a field into a literal.
     let jacobian = d.jacobian;
     let values = e.values;
     let residuals = e.residuals;
     let plus_residuals = d.plus_residuals;
     let params = d.params;
     let candidate = d.candidate;
-    let best = b.surfaces;
-    let best_surfaces = laid(best);
+    let best_surfaces = laid(b.surfaces);
     let best_values = b.values;
     let best_residuals = b.residuals;
     HeldRow {

@@ -47,7 +47,8 @@ fn lay_operand(o: OperandRecord, n: usize, job: &mut HeldJob)
     job.numbers[real + 2] = o.weight;
 }
 
-// Behind what stands in front of the variables.
+// Behind what stands in front of the variables. Like lay_operands, but over other places of both arrays with parts of other lengths:
+// one function for both would be handed the part's writer and its places, and say more than the two.
 fn lay_variables(records: [VariableRecord; 8], job: &mut HeldJob)
     ensures { (take (operand_kind_at 0) job.new.counts ≡ take (variable_kind_at 0) job.old.counts ++ in_turn
         (λ (i : ℕ). variable_counts (get_or records i no_variable_record)) 8)
@@ -56,8 +57,7 @@ fn lay_variables(records: [VariableRecord; 8], job: &mut HeldJob)
 {
     job.lengths();
     for i in 0..8 {
-        let v = records[i];
-        lay_variable(v, i, job);
+        lay_variable(records[i], i, job);
     }
 }
 
@@ -68,8 +68,7 @@ fn lay_operands(records: [OperandRecord; 12], job: &mut HeldJob)
 {
     job.lengths();
     for n in 0..12 {
-        let o = records[n];
-        lay_operand(o, n, job);
+        lay_operand(records[n], n, job);
     }
 }
 
@@ -96,9 +95,7 @@ fn lens_numbers(surfaces: [OpticalSurface; 16], indices: [f64; 64]) -> [f64; 195
 {
     let mut numbers = [0.0; 195];
     optics::lay_flat(surfaces, 16, &mut numbers);
-    for k in 0..64 {
-        numbers[places::INDICES + k] = indices[k];
-    }
+    numbers[places::INDICES..places::PUPIL].copy_from_slice(&indices);
     numbers
 }
 
@@ -107,9 +104,7 @@ fn first_numbers(job: JobRecord) -> [f64; 195]
     ensures { take (min_value_at 0) result ≡ (laid_flat job.surfaces 16 ++ tab (λ (k : ℕ). get_or job.indices k nan) 64) ++ pupil_and_settings job }
 {
     let s = job.settings;
-    let surfaces = job.surfaces;
-    let indices = job.indices;
-    let mut numbers = lens_numbers(surfaces, indices);
+    let mut numbers = lens_numbers(job.surfaces, job.indices);
     numbers[places::PUPIL] = job.entrance_pupil_diameter_mm;
     numbers[places::INITIAL_DAMPING] = s.initial_damping;
     numbers[places::RELATIVE_MERIT_TOLERANCE] = s.relative_merit_tolerance;
@@ -127,9 +122,7 @@ pub(crate) fn held_job(asked: JobRecord) -> HeldJob
     let counts = first_counts(asked);
     let numbers = first_numbers(asked);
     let mut job = HeldJob { counts, numbers };
-    let variables = asked.variables;
-    let operands = asked.operands;
-    lay_variables(variables, &mut job);
-    lay_operands(operands, &mut job);
+    lay_variables(asked.variables, &mut job);
+    lay_operands(asked.operands, &mut job);
     job
 }

@@ -27,8 +27,5 @@ pub fn annealing_bound(cycles: u64, steps: u64, p: u64) -> u64
 pub fn at_least_one(n: u64) -> u64
     ensures { result ≡ max n 1 }
 {
-    if n == 0 {
-        return 1;
-    }
-    n
+    n.max(1)
 }

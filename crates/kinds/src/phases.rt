@@ -1,4 +1,4 @@
-// Kinds, and the phases that are the end.
+// Kinds, and the phases that are the end. Both stay numbers: a row may hold any, and which are kinds and ends is told here.
 ghost use Rattle.std.specs.Prelude.{◌≡◌};
 ghost use Rattle.runs.specs.DampedRow as Damped;
 ghost use Rattle.runs.specs.AnnealingRow as Annealing;
@@ -23,6 +23,7 @@ pub fn annealing_over(phase: u64) -> bool
     ensures { StateInPhase phase (λ s. result ≡ Annealing.is_finished s) }
 {
     match phase {
+        // Two arms: the proof takes each phase by its own.
         5 => false,
         6 => false,
         _ => damped_over(phase),

@@ -23,12 +23,9 @@ fn keep(
         let after = result_from result best_surfaces.new best_values.new best_residuals.new in
         after ≡ Damped.result_of before }
 {
-    let s = *surfaces;
-    *best_surfaces = s;
-    let v = *values;
-    *best_values = v;
-    let found = *residuals;
-    *best_residuals = found;
+    *best_surfaces = *surfaces;
+    *best_values = *values;
+    *best_residuals = *residuals;
     BestHead {
         initial_merit: h.initial_merit,
         final_merit: h.total_merit,
@@ -53,10 +50,9 @@ pub(crate) fn merged(
         let after = result_from result best_surfaces.new best_values.new best_residuals.new in
         after ≡ merged (best_before h.trial kept) (Damped.result_of before) }
 {
-    let damped = h.damped;
-    if h.trial == 0 {
+    if h.trial == 0 || h.damped.total_merit < h.best.final_merit {
         return keep(
-            damped,
+            h.damped,
             surfaces,
             values,
             residuals,
@@ -65,17 +61,5 @@ pub(crate) fn merged(
             best_residuals,
         );
     }
-    if damped.total_merit < h.best.final_merit {
-        return keep(
-            damped,
-            surfaces,
-            values,
-            residuals,
-            best_surfaces,
-            best_values,
-            best_residuals,
-        );
-    }
-    let best = h.best;
-    best
+    h.best
 }

@@ -26,8 +26,7 @@ fn trial_surfaces(generator: u64, job: &HeldJob, surfaces: &mut [f64; 64]) -> u6
         × (result ≡ after_draws (variables_from job.now.counts job.now.numbers) generator) }
 {
     let drawn = draws::random_params(generator, job);
-    let params = drawn.params;
-    held::lay_applied(job, params, &job.numbers, surfaces);
+    held::lay_applied(job, drawn.params, &job.numbers, surfaces);
     drawn.generator
 }
 
@@ -53,8 +52,8 @@ fn ended(
     *candidate = [0.0; 8];
     let damped = dls::holding(4, jacobian, values, residuals, plus_residuals);
     RowHead {
-        damped: damped,
-        best: best,
+        damped,
+        best,
         generator: 0,
         trial: 0,
         cycle: 0,
@@ -98,8 +97,8 @@ fn resume_trials(
             candidate,
         );
         return RowHead {
-            damped: damped,
-            best: best,
+            damped,
+            best,
             generator: next,
             trial: trial + 1,
             cycle: 0,
@@ -204,11 +203,9 @@ pub fn advance_trials(
         after ≡ advance o (standing job.now.numbers) (num_trials_from job.now.counts) before e) }
     ensures fact_2 { ScratchKept scratch.old scratch.new }
 {
-    let before = h.damped;
-    let local = job.dls_config();
     let damped = dls::advance_damped(
-        before,
-        local,
+        h.damped,
+        job.dls_config(),
         job,
         found,
         surfaces,
@@ -220,10 +217,8 @@ pub fn advance_trials(
         candidate,
         scratch,
     );
-    let mut next = h;
-    next.damped = damped;
     resume_damped(
-        next,
+        RowHead { damped, ..h },
         job,
         surfaces,
         jacobian,

@@ -45,9 +45,8 @@ fn advance_part(
         after ≡ with_damped before (Damped.advance o before.damped e)) }
     ensures fact_2 { ScratchKept scratch.old scratch.new }
 {
-    let before = h.damped;
     let damped = dls::advance_damped(
-        before,
+        h.damped,
         config,
         job,
         found,
@@ -60,9 +59,7 @@ fn advance_part(
         candidate,
         scratch,
     );
-    let mut next = h;
-    next.damped = damped;
-    next
+    RowHead { damped, ..h }
 }
 
 fn advance_annealing(
@@ -100,10 +97,9 @@ fn advance_annealing(
     // A phase stays a number: a row may hold any.
     match h.damped.phase {
         5 => {
-            let merit = merit_of(found, job);
             annealing::advance_walk_first(
                 config,
-                merit,
+                merit_of(found, job),
                 job,
                 surfaces,
                 jacobian,
@@ -118,11 +114,10 @@ fn advance_annealing(
             )
         }
         6 => {
-            let merit = merit_of(found, job);
             annealing::advance_walk(
                 h,
                 config,
-                merit,
+                merit_of(found, job),
                 job,
                 surfaces,
                 jacobian,

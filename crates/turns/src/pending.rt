@@ -27,12 +27,12 @@ fn pending_annealing(
         standing flat.new ≡ Annealing.pending a state) }
     ensures fact_2 { Behind flat.old flat.new }
 {
-    let damped = h.damped;
-    match damped.phase {
+    // A phase and a kind stay numbers: a row may hold any.
+    match h.damped.phase {
         5 => held::copy(surfaces, flat),
         6 => held::lay_applied(job, *candidate, surfaces, flat),
         _ => dls::pending_damped(
-            damped,
+            h.damped,
             defaults::polish_settings(),
             job,
             surfaces,
@@ -61,11 +61,16 @@ pub fn pending_surfaces(
         standing flat.new ≡ pending_by j.method j state) }
     ensures fact_2 { Behind flat.old flat.new }
 {
-    let damped = h.damped;
-    let config = job.dls_config();
     match kind {
-        1 => dls::pending_damped(damped, config, job, surfaces, params, candidate, flat),
-        2 => dls::pending_damped(damped, config, job, surfaces, params, candidate, flat),
+        1 | 2 => dls::pending_damped(
+            h.damped,
+            job.dls_config(),
+            job,
+            surfaces,
+            params,
+            candidate,
+            flat,
+        ),
         _ => pending_annealing(h, job, surfaces, params, candidate, flat),
     }
 }

@@ -1,6 +1,6 @@
 -- `annealing::cycles::has_next` meets its contract. Assumes nothing.
 use Prim.Native.Nat.{ℕ, suc, ◌-◌, ◌<◌}
-use mathlib.Core.Path.{◌≡◌, refl, sym}
+use mathlib.Core.Path.{◌≡◌, refl, sym, ◌∙◌}
 use mathlib.Core.Bool.{Bool, true, false}
 use native.Mathlib.Omega.{arith}
 use lib.Dec.{ltb}
@@ -15,7 +15,7 @@ same n limit h = go (ltb (suc n) limit) refl
     go false e = let l = ltb-false (suc n) limit e in le-ltb 1 (limit - n) (omega arith)
 
 pub returns-then-n-limit : goal.returns-then-n-limit
-returns-then-n-limit c = sym (le-ltb (suc c.args.n) c.args.limit (omega arith))
+returns-then-n-limit c = same c.args.n c.args.limit c.if-n-limit.true
 
-pub returns : goal.returns
-returns c = same c.args.n c.args.limit c.if-n-limit.false
+pub returns-else-n-limit : goal.returns-else-n-limit
+returns-else-n-limit c = le-ltb c.args.n c.args.limit c.if-n-limit.false ∙ sym (le-ltb (suc c.args.n) c.args.limit (omega arith))

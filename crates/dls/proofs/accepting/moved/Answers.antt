@@ -9,8 +9,8 @@ unfolding test_presc
 returns c =
     λ k lens w em config m j p. simp (
       c.apply_values.ensures.fact_1,
-      c.ease-eased.ensures,
-      residuals-held _ _ _ c.residuals_of-r.ensures k lens w,
+      c.ease.ensures,
+      residuals-held _ _ _ c.residuals_of.ensures k lens w,
       w,
       sym em,
     )

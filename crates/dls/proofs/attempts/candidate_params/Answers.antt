@@ -6,6 +6,3 @@ use Rattle.dls.proofs.attempts.candidate_params.Goals as goal
 
 pub stepped-moved-requires : goal.stepped-moved-requires
 stepped-moved-requires c = omega (arith, active-le (variables_from c.args.job.now.counts c.args.job.now.numbers))
-
-pub returns : goal.returns
-returns c = rw (c.stepped-moved.ensures, c.requires.fact_3) at c.clamp_values.ensures

@@ -4,7 +4,6 @@ use native.Mathlib.Omega.{arith}
 use Rattle.variables.proofs.CallerLaws.{active-le}
 use Rattle.held.specs.JobFrom.{variables_from}
 use Rattle.dls.proofs.Trying.{trying-begin, trying-on, trying-found, trying-over}
-use Rattle.std.proofs.Common.{rules}
 use Rattle.dls.proofs.attempts.resume_attempts.Goals as goal
 
 pub loop-k-init : goal.loop-k-init
@@ -28,7 +27,7 @@ loop-k-preserved c = λ s v r.
       arith,
       active-le (variables_from c.args.job.now.counts
           c.args.job.now.numbers),
-    )) c.if-not-attempt_step.true c.raise-raised.ensures
+    )) c.if-not-attempt_step.true c.raise-now.ensures
 
 pub candidate_params-found-requires : goal.candidate_params-found-requires
 candidate_params-found-requires c =
@@ -37,10 +36,6 @@ candidate_params-found-requires c =
       (c.loop-k.invariant [] [] []).kept.long,
       c.attempt_step.ensures.long,
     )
-
-pub shape_of-scratch-in-loop-k : goal.shape_of-scratch-in-loop-k
-shape_of-scratch-in-loop-k c = let k = (c.loop-k.invariant [] [] []).kept in
-    search rules
 
 pub returns-in-loop-k : goal.returns-in-loop-k
 returns-in-loop-k c = λ s v r.
@@ -51,9 +46,6 @@ returns-in-loop-k c = λ s v r.
     (c.at_candidate.ensures s
     c.args.jacobian.now
     v r c.args.params.now)
-
-pub shape_of-scratch : goal.shape_of-scratch
-shape_of-scratch c = let k = (c.loop-k.invariant [] [] []).kept in search rules
 
 pub returns : goal.returns
 returns c = λ s v r. trying-over (c.loop-k.invariant s v r) (omega arith) (c.ended.ensures s v r)

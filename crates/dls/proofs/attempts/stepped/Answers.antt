@@ -1,5 +1,4 @@
 -- `dls::attempts::stepped` meets its contract: the loop's invariant: the first q parameters are moved. Assumes nothing.
-use mathlib.Core.Path.{◌≡◌}
 use native.Mathlib.Omega.{arith}
 use Rattle.dls.proofs.Stepping.{stepped-none, stepped-more}
 use Rattle.std.proofs.Common.{rules}
@@ -10,6 +9,3 @@ loop-q-init c = stepped-none c.args.params c.args.scratch.now (search rules)
 
 pub loop-q-preserved : goal.loop-q-preserved
 loop-q-preserved c = rw c.loop-q.invariant (stepped-more c.args.params c.args.scratch.now c.loop-q.q (omega arith))
-
-pub returns : goal.returns
-returns c = let e : c.loop-q.q ≡ c.args.p = omega arith in rw e at c.loop-q.invariant

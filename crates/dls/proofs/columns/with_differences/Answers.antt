@@ -2,11 +2,7 @@
 use Rattle.held.specs.JobFrom.{operand_count_from, variables_from}
 use Rattle.held.specs.RowFrom.{damped_from}
 use Rattle.dls.proofs.Differences.{column-written}
-use Rattle.std.proofs.Common.{rules}
 use Rattle.dls.proofs.columns.with_differences.Goals as goal
-
-pub jacobian_column-requires : goal.jacobian_column-requires
-jacobian_column-requires c = let m = c.operand_count-m.ensures in search rules
 
 pub returns : goal.returns
 returns c = λ s v r d.

@@ -34,7 +34,7 @@ returns-in-1 c =
           (c.at_minus.ensures x.surfaces.now x.jacobian.now x.values.now x.residuals.now x.params.now
           ∙ ap (λ (l : List Float). at_minus (current_of (damped_from x.h x.surfaces.now x.jacobian.now x.values.now x.residuals.now
           x.plus_residuals.now x.params.now x.candidate.now)) x.jacobian.now x.h.column l)
-          (residuals-held _ _ _ c.residuals_of-above.ensures k lens w));
+          (residuals-held _ _ _ c.residuals_of.ensures k lens w));
       fact_2 = kept_same x.scratch.now;
     }
 

@@ -2,7 +2,8 @@
 use Rattle.dls.specs.DampedSteps.{optimizer}
 use Rattle.held.specs.JobFrom.{variables_from}
 use Rattle.held.specs.RowFrom.{damped_from}
-use mathlib.Core.Path.{◌∙◌}
+use mathlib.Core.Path.{refl, ◌∙◌}
+use Rattle.dls.proofs.Differences.{plus-surfaces, minus-surfaces}
 use native.Mathlib.Omega.{arith}
 use Rattle.variables.proofs.CallerLaws.{active-le}
 use Rattle.runs.specs.DampedRun.{test_presc}
@@ -10,33 +11,35 @@ use Rattle.runs.specs.DampedRow.{phase_of, pending_at}
 use Rattle.dls.proofs.Advances.{pending-at, pending-same}
 use Rattle.dls.proofs.damped.pending_damped.Goals as goal
 
-pub presc_plus-requires : goal.presc_plus-requires
-presc_plus-requires c = let x = c.args in let n = active-le (variables_from x.job.now.counts x.job.now.numbers) in
+pub lay_moved-requires-clause-fact_2 : goal.lay_moved-requires-clause-fact_2
+lay_moved-requires-clause-fact_2 c = let x = c.args in let n = active-le (variables_from x.job.now.counts x.job.now.numbers) in
     omega arith
 
 pub returns-in-1 : goal.returns-in-1
 unfolding phase_of pending_at
 returns-in-1 c =
     let x = c.args in
-    let p = c.presc_plus.ensures in record {
-      fact_1 = λ m j v r e. pending-at (optimizer x.config (variables_from x.job.now.counts x.job.now.numbers) m)
-          (damped_from x.h x.surfaces.now j v r e x.params.now x.candidate.now) c.in-1.is
-          (p.fact_1 m j v r e x.candidate.now);
+    let v = variables_from x.job.now.counts x.job.now.numbers in
+    let p = c.lay_moved.ensures in record {
+      fact_1 = λ m j v' r e.
+          let d = damped_from x.h x.surfaces.now j v' r e x.params.now x.candidate.now in
+          pending-at (optimizer x.config v m) d c.in-1.is (plus-surfaces x.config v m d refl p.fact_1.1.1 p.fact_1.2);
       fact_2 = p.fact_2;
     }
 
-pub presc_minus-requires : goal.presc_minus-requires
-presc_minus-requires c = let x = c.args in let n = active-le (variables_from x.job.now.counts x.job.now.numbers) in
+pub lay_moved-requires-in-2-clause-fact_2 : goal.lay_moved-requires-in-2-clause-fact_2
+lay_moved-requires-in-2-clause-fact_2 c = let x = c.args in let n = active-le (variables_from x.job.now.counts x.job.now.numbers) in
     omega arith
 
 pub returns-in-2 : goal.returns-in-2
 unfolding phase_of pending_at
 returns-in-2 c =
     let x = c.args in
-    let p = c.presc_minus.ensures in record {
-      fact_1 = λ m j v r e. pending-at (optimizer x.config (variables_from x.job.now.counts x.job.now.numbers) m)
-          (damped_from x.h x.surfaces.now j v r e x.params.now x.candidate.now) c.in-2.is
-          (p.fact_1 m j v r e x.candidate.now);
+    let v = variables_from x.job.now.counts x.job.now.numbers in
+    let p = c.lay_moved-in-2.ensures in record {
+      fact_1 = λ m j v' r e.
+          let d = damped_from x.h x.surfaces.now j v' r e x.params.now x.candidate.now in
+          pending-at (optimizer x.config v m) d c.in-2.is (minus-surfaces x.config v m d refl p.fact_1.1.1 p.fact_1.2);
       fact_2 = p.fact_2;
     }
 

@@ -22,9 +22,6 @@ pub loop-i-init : goal.loop-i-init
 unfolding enabled_of tab step_times
 loop-i-init c = (record { filling = record { passed = omega arith; counted = refl; stored = refl }; drawn = refl }, c.variable_count-count.ensures)
 
-pub variable_at-d-requires : goal.variable_at-d-requires
-variable_at-d-requires c = omega (arith, c.loop-i.invariant.0.filling.passed, c.loop-i.invariant.1)
-
 pub offset_bounds-params-q : goal.offset_bounds-params-q
 offset_bounds-params-q c =
     omega (

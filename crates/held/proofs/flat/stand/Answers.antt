@@ -13,7 +13,7 @@ loop-i-init c = refl
 pub loop-i-preserved : goal.loop-i-preserved
 loop-i-preserved c =
     tab-step (flat_surface c.args.flat.now) _ c.loop-i.surfaces
-    c.loop-i.i _ no_surface c.loop-i.invariant c.surface_at-s.ensures (omega arith)
+    c.loop-i.i _ no_surface c.loop-i.invariant c.surface_at.ensures (omega arith)
 
 pub returns : goal.returns
 unfolding standing

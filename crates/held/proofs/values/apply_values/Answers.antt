@@ -20,17 +20,11 @@ pub loop-i-init : goal.loop-i-init
 unfolding enabled_of applied_to
 loop-i-init c = (record { passed = omega arith; counted = refl; stored = refl }, c.variable_count-count.ensures, record { long = refl; rest = refl })
 
-pub variable_at-d-requires : goal.variable_at-d-requires
-variable_at-d-requires c = omega (arith, c.loop-i.invariant.0.passed, c.loop-i.invariant.1)
-
 pub offset_bounds-values-q : goal.offset_bounds-values-q
 offset_bounds-values-q c = omega (arith, counted-le c.loop-i.invariant.0, c.loop-i.invariant.1)
 
 pub bounds-values-q : goal.bounds-values-q
 bounds-values-q c = omega (arith, counted-le c.loop-i.invariant.0, c.loop-i.invariant.1)
-
-pub apply_variable-requires : goal.apply_variable-requires
-apply_variable-requires c = omega (arith, c.loop-i.invariant.2.long)
 
 pub overflow_add-q : goal.overflow_add-q
 overflow_add-q c =
@@ -59,9 +53,6 @@ loop-i-preserved c =
             w.flat-is,
       )
     ]
-
-pub shape_of-flat : goal.shape_of-flat
-shape_of-flat c = c.loop-i.invariant.2.long
 
 pub returns : goal.returns
 unfolding applied

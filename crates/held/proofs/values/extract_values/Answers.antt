@@ -21,9 +21,6 @@ pub loop-i-init : goal.loop-i-init
 unfolding enabled_of tab
 loop-i-init c = (record { passed = omega arith; counted = refl; stored = refl }, c.variable_count-count.ensures)
 
-pub variable_at-d-requires : goal.variable_at-d-requires
-variable_at-d-requires c = omega (arith, c.loop-i.invariant.0.passed, c.loop-i.invariant.1)
-
 pub offset_bounds-x-q : goal.offset_bounds-x-q
 offset_bounds-x-q c = omega (arith, counted-le c.loop-i.invariant.0, c.loop-i.invariant.1)
 

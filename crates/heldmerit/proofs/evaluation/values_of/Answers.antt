@@ -22,7 +22,6 @@ use Rattle.runs.specs.JobMerit.{lens_with}
 use Rattle.held.specs.EntryLaws.{indices-long}
 use Rattle.held.specs.JobFrom.{held_job}
 use Rattle.heldmerit.proofs.Over.{all-stand, value-next}
-use Rattle.std.proofs.Common.{rules}
 use Rattle.heldmerit.proofs.evaluation.values_of.Goals as goal
 
 pub paraxial_slots-slots-requires : goal.paraxial_slots-slots-requires
@@ -46,18 +45,6 @@ loop-n-init c =
       c.surface_count-count.ensures,
       λ w h. ap (λ (l : List (Option ParaxialProperties)). get_or l w None) traced ∙ get_or-tab trace 4 w None h,
     )
-
-pub operand_at-o-requires : goal.operand_at-o-requires
-operand_at-o-requires c = omega (arith, c.loop-n.invariant.1)
-
-pub value_of-requires : goal.value_of-requires
-value_of-requires c = omega (arith, c.loop-n.invariant.2)
-
-pub offset_bounds-values-n : goal.offset_bounds-values-n
-offset_bounds-values-n c = omega (arith, c.loop-n.invariant.1)
-
-pub bounds-values-n : goal.bounds-values-n
-bounds-values-n c = omega (arith, c.loop-n.invariant.1)
 
 pub loop-n-preserved : goal.loop-n-preserved
 loop-n-preserved c =

@@ -3,20 +3,19 @@ use Rattle.runs.specs.MultiStartRun.{merged, is_lower}
 use Rattle.runs.specs.MultiStartRow.{best_before}
 use Rattle.multistart.proofs.Best.{before-some}
 use Rattle.held.specs.RowFrom.{result_from}
+use Rattle.multistart.proofs.merging.merged.Goals.{then-h-eq0-via-then-h-eq0, then-h-eq0-via-else-h-eq0+then-h}
 use Rattle.multistart.proofs.merging.merged.Goals as goal
 
 pub returns-then-h-eq0 : goal.returns-then-h-eq0
-unfolding merged best_before
-returns-then-h-eq0 c = λ j p x d. simp c.if-h-eq0.true (c.keep.ensures j p x d)
-
-pub returns-then-damped-h : goal.returns-then-damped-h
-unfolding merged is_lower
-returns-then-damped-h c = λ j p y d. let x = c.args in
-    simp (
-      before-some x.h.trial (result_from x.h.best x.best_surfaces.now x.best_values.now x.best_residuals.now)
-          c.if-h-eq0.false,
-      c.if-damped-h.true,
-    ) (c.keep-then-damped-h.ensures j p y d)
+unfolding merged best_before is_lower
+returns-then-h-eq0 c = λ j p y d. let x = c.args in
+    elim c.then-h-eq0.branch [
+      | then-h-eq0-via-then-h-eq0 w ↦ simp w.if-h-eq0.true (c.keep.ensures j p y d)
+      | then-h-eq0-via-else-h-eq0+then-h w ↦ simp (
+        before-some x.h.trial (result_from x.h.best x.best_surfaces.now x.best_values.now x.best_residuals.now) w.if-h-eq0.false,
+        w.if-h.true,
+      ) (c.keep.ensures j p y d)
+    ]
 
 pub returns : goal.returns
 unfolding merged is_lower
@@ -24,5 +23,5 @@ returns c = λ j p y d. let x = c.args in
     simp (
       before-some x.h.trial (result_from x.h.best x.best_surfaces.now x.best_values.now x.best_residuals.now)
           c.if-h-eq0.false,
-      c.if-damped-h.false,
+      c.if-h.false,
     )

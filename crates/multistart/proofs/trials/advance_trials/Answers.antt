@@ -29,6 +29,6 @@ returns c =
           x.candidate.now x.best_surfaces.now x.best_values.now x.best_residuals.now) w)
           (a.fact_1 k lens w ∙ ap (λ (l : DlsConfig). Damped.advance (optimizer l v (operand_count_from x.job.now.counts)) d
           (evaluate_of (held_job x.job.now.counts x.job.now.numbers k) lens))
-          c.dls_config-local.ensures);
+          c.dls_config.ensures);
       fact_2 = a.fact_2;
     }

@@ -25,7 +25,7 @@ returns-in-5 c =
       fact_1 = λ k lens w. c.advance_walk_first.ensures a
           (sym c.annealing_config-config.ensures) refl
           x.h (evaluate_of (held_job x.job.now.counts x.job.now.numbers k) lens)
-          (sym (merit-held _ _ _ c.merit_of-merit.ensures k lens w))
+          (sym (merit-held _ _ _ c.merit_of.ensures k lens w))
           ∙ ap (λ (n : ℕ). Annealing.advance_at a (Annealing.phase_of n)
           (state_from x.h x.surfaces.now x.jacobian.now x.values.now x.residuals.now x.plus_residuals.now x.params.now
           x.candidate.now x.best_surfaces.now x.best_values.now x.best_residuals.now)
@@ -42,7 +42,7 @@ returns-in-6 c =
       fact_1 = λ k lens w. c.advance_walk.ensures a
           (sym c.annealing_config-config.ensures)
           refl (evaluate_of (held_job x.job.now.counts x.job.now.numbers k) lens)
-          (sym (merit-held _ _ _ c.merit_of-merit-in-6.ensures k lens w))
+          (sym (merit-held _ _ _ c.merit_of-in-6.ensures k lens w))
           ∙ ap (λ (n : ℕ). Annealing.advance_at a (Annealing.phase_of n)
           (state_from x.h x.surfaces.now x.jacobian.now x.values.now x.residuals.now x.plus_residuals.now x.params.now
           x.candidate.now x.best_surfaces.now x.best_values.now x.best_residuals.now)

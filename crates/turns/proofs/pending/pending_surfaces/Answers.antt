@@ -1,45 +1,41 @@
 -- `turns::pending::pending_surfaces` meets its contract: by kind. Assumes nothing.
 use Rattle.runs.specs.DampedRow as Damped
-use mathlib.Core.Path.{refl, sym, ap, ◌∙◌}
+use mathlib.Core.Path.{◌≡◌, refl, sym, ap, ◌∙◌}
 use Rattle.jobs.specs.declared.types.DlsConfig.{DlsConfig}
 use Rattle.jobs.specs.declared.types.Method.{Method}
-use Rattle.jobs.specs.Records.{annealing_config}
-use Rattle.runs.specs.JobRun.{annealer_of}
+use Rattle.jobs.specs.Records.{annealing_config, dls_config, method}
+use Rattle.jobs.specs.declared.types.SettingsRecord.{SettingsRecord}
+use Rattle.jobs.specs.declared.types.Job.{Job}
+use Rattle.runs.specs.State.{State}
+use Prim.Native.Nat.{ℕ, ◌≤◌}
+use Rattle.runs.specs.JobRun.{annealer_of, optimizer_of}
 use Rattle.runs.specs.Rows.{pending_by}
 use Rattle.dls.specs.DampedSteps.{optimizer}
 use Rattle.kinds.specs.Methods.{is-damped, is-multi-start, is-annealing}
 use Rattle.held.specs.JobFrom.{operand_count_from, settings_from, variables_from, held_job}
 use Rattle.held.specs.RowFrom.{damped_from, state_from}
-use native.Mathlib.Omega.{arith}
+use Rattle.std.proofs.Common.{inl, inr, eq-or-lt_of_le, arith}
 use Rattle.turns.proofs.pending.pending_surfaces.Goals as goal
 
-pub returns-in-1 : goal.returns-in-1
+-- kinds 1 and 2 have one pending: a damped part's, by the same settings
+damped-or-trial : (kind : ℕ) (s : SettingsRecord) (job : Job) (st : State) → 1 ≤ kind → kind ≤ 2
+    → Damped.pending (optimizer_of job (dls_config s)) st.damped ≡ pending_by (method kind s) job st
 unfolding pending_by
-returns-in-1 c =
-    let x = c.args in record {
-      fact_1 = λ j v r e bs bv br. c.pending_damped.ensures.fact_1 (operand_count_from x.job.now.counts) j v r e
-          ∙ ap (λ (k : DlsConfig). Damped.pending (optimizer k (variables_from x.job.now.counts x.job.now.numbers) (operand_count_from x.job.now.counts))
-          (damped_from x.h.damped x.surfaces.now j v r e x.params.now x.candidate.now))
-          c.dls_config-config.ensures
-          ∙ ap (λ (m : Method). pending_by m (held_job x.job.now.counts x.job.now.numbers x.kind)
-          (state_from x.h x.surfaces.now j v r e x.params.now x.candidate.now bs bv br))
-          (sym (is-damped x.kind (settings_from x.job.now.counts x.job.now.numbers) c.in-1.is));
-      fact_2 = c.pending_damped.ensures.fact_2;
-    }
+damped-or-trial kind s job st lo hi = elim (eq-or-lt_of_le lo) [
+  | inl e ↦ ap (λ (m : Method). pending_by m job st) (sym (is-damped kind s (sym e)))
+  | inr l ↦ ap (λ (m : Method). pending_by m job st) (sym (is-multi-start kind s (omega arith)))
+]
 
-pub returns-in-2 : goal.returns-in-2
-unfolding pending_by
-returns-in-2 c =
-    let x = c.args in record {
-      fact_1 = λ j v r e bs bv br. c.pending_damped-in-2.ensures.fact_1 (operand_count_from x.job.now.counts) j v r e
-          ∙ ap (λ (k : DlsConfig). Damped.pending (optimizer k (variables_from x.job.now.counts x.job.now.numbers) (operand_count_from x.job.now.counts))
-          (damped_from x.h.damped x.surfaces.now j v r e x.params.now x.candidate.now))
-          c.dls_config-config.ensures
-          ∙ ap (λ (m : Method). pending_by m (held_job x.job.now.counts x.job.now.numbers x.kind)
-          (state_from x.h x.surfaces.now j v r e x.params.now x.candidate.now bs bv br))
-          (sym (is-multi-start x.kind (settings_from x.job.now.counts x.job.now.numbers) c.in-2.is));
-      fact_2 = c.pending_damped-in-2.ensures.fact_2;
-    }
+pub returns-in-1-clause-fact_1 : goal.returns-in-1-clause-fact_1
+returns-in-1-clause-fact_1 c = λ j v r e bs bv br.
+    let x = c.args in
+    let lo : 1 ≤ x.kind = omega arith in
+    let hi : x.kind ≤ 2 = omega arith in
+    c.pending_damped.ensures.fact_1 (operand_count_from x.job.now.counts) j v r e
+    ∙ ap (λ (k : DlsConfig). Damped.pending (optimizer k (variables_from x.job.now.counts x.job.now.numbers) (operand_count_from x.job.now.counts))
+    (damped_from x.h.damped x.surfaces.now j v r e x.params.now x.candidate.now)) c.dls_config.ensures
+    ∙ damped-or-trial x.kind (settings_from x.job.now.counts x.job.now.numbers) (held_job x.job.now.counts x.job.now.numbers x.kind)
+    (state_from x.h x.surfaces.now j v r e x.params.now x.candidate.now bs bv br) lo hi
 
 pub returns-in_default : goal.returns-in_default
 unfolding pending_by

