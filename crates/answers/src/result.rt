@@ -37,7 +37,8 @@ pub fn put_lens(
     put_row(output, b" D", residuals, operand_count);
 }
 
-// So many surfaces.
+// So many surfaces. A loop of its own, as that over rays in `lensanswers`: one for both would want a trait for two types of
+// `optics`, and for each a lemma from its rows to its texts, in place of three lines.
 fn put_surfaces(output: &mut Output, surfaces: [OpticalSurface; 16], count: usize)
     ensures { Puts output.old (surfaces_texts surfaces (min count 16)) output.new }
 {

@@ -23,7 +23,7 @@ pub fn put_traced(output: &mut Output, rays: [ParaxialRay; 16], count: usize)
     put_rays(output, rays, count);
 }
 
-// The height and slope of each surface.
+// The height and slope of each surface. A loop of its own, as that over surfaces in `answers`.
 fn put_rays(output: &mut Output, rays: [ParaxialRay; 16], count: usize)
     ensures { Puts output.old (rays_texts rays (min count 16)) output.new }
 {
