@@ -17,7 +17,7 @@ use jobs::DlsConfig;
 use normal::{delta, denominator, jacobian_column, minus_value, plus_value};
 use variables::VariableDef;
 
-// A variable's value moved up, within its bounds.
+// A variable's value moved up, within its bounds. Like moved_down: what either has of its own is the function of dls.rs that it calls.
 // dls.rs: `p_plus[param_idx]`
 pub(crate) fn moved_up(x0: f64, relative: f64, variable: VariableDef) -> f64
     ensures { result ≡ moved_up x0 relative variable }

@@ -1,5 +1,6 @@
 // The states that a damped run stands in between two merits, one function a phase. What a phase does not use is zero.
-// An array that is not lent is any array: it stays as it is.
+// An array that is not lent is any array: it stays as it is. The functions are alike but for the fields and arrays that a phase uses,
+// which is all that they say: one for several would be handed them.
 ghost use Rattle.std.specs.Prelude.{◌≡◌, List, Float};
 ghost use Rattle.runs.specs.DampedRow.{current_of, holding, at_first, at_plus, at_minus, at_candidate, ended};
 ghost use Rattle.dls.specs.DampedSteps.{with_damping};

@@ -15,7 +15,8 @@ pub struct Drawn {
     pub generator: u64,
 }
 
-// `rng.uniform(var.min_value, var.max_value)` for each, and +0.0 after them.
+// `rng.uniform(var.min_value, var.max_value)` for each, and +0.0 after them. The loop is like trial_params'; one for both would take the value
+// as a closure, of which each invariant would have to speak for every rule that the closure meets: the two proofs share `Drawing` instead.
 pub fn random_params(generator: u64, job: &HeldJob) -> Drawn
     requires { variable_count_from job.now.counts ≤ 8 }
     ensures { (result.params ≡ random_params (variables_from job.now.counts job.now.numbers) generator)
