@@ -7,7 +7,8 @@ use crate::lent;
 use crate::types::Dealing;
 use bench::{Bench, Dealt};
 
-// So many turns, one each, from the place to go next, and how many were dealt. 9 and 12.
+// So many turns, one each, from the place to go next, and how many were dealt. 9 and 12. The loop counts nothing itself: it goes on while turns are
+// left to deal.
 #[unsafe(no_mangle)]
 pub extern "C" fn deal(bench: &mut Bench, turns: u16, scratch: &mut [f64]) -> Dealt
     ensures { (result ≡ dealt_of bench.old turns (length scratch.old))
