@@ -37,7 +37,8 @@ all-stand value m n values e h =
 
 -- value n, out of the traces of the slots and the values before it
 module _ (surface : ℕ → OpticalSurface) (index : ℕ → ℕ → Float) (pupil : Float) (count : ℕ) (f : MeritFunction) where
-  pub value-next : (slots : List (Option ParaxialProperties)) (earlier : List Float) (n : ℕ) (o : MeritOperand) (r : Float) → SlotsKnown f → n < f.operand_count → n ≤ 12
+  pub value-next : (slots : List (Option ParaxialProperties)) (earlier : List Float) (n : ℕ) (o : MeritOperand) (r : Float)
+      → SlotsKnown f → n < f.operand_count → n ≤ 12
       → ((w : ℕ) → w < 4 → get_or slots w None ≡ paraxial_of surface (index w) pupil count) → Standing (value_at surface index pupil count f) n earlier → o
       ≡ operand_at f n
       → r ≡ value_of earlier (λ (w : ℕ). get_or slots w None) surface count o.operand_type → r ≡ value_at surface index pupil count f n

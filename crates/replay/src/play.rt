@@ -53,10 +53,10 @@ pub(crate) fn play(bench: &mut Bench, place: usize) -> Turns
         count: 0,
     };
     for _ in 0..u64::MAX {
-        match step(bench, place, turns) {
-            Some(more) => turns = more,
-            None => break,
-        }
+        let Some(more) = step(bench, place, turns) else {
+            break;
+        };
+        turns = more;
     }
     turns
 }

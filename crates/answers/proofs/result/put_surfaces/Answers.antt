@@ -6,7 +6,8 @@ use Rattle.streams.specs.OutputLaws.{puts_then, puts_as, nothing_puts, puts_clip
 use Rattle.answers.specs.Pieces.{surface_texts, surfaces_texts}
 use Rattle.answers.proofs.result.put_surfaces.Goals as goal
 
-one_more : (surfaces : List OpticalSurface) (i : ℕ) → surfaces_texts surfaces i ++ surface_texts (get_or surfaces i no_surface) ≡ surfaces_texts surfaces (i + 1)
+one_more : (surfaces : List OpticalSurface) (i : ℕ)
+    → surfaces_texts surfaces i ++ surface_texts (get_or surfaces i no_surface) ≡ surfaces_texts surfaces (i + 1)
 unfolding surfaces_texts
 one_more surfaces i = rw add-one
 

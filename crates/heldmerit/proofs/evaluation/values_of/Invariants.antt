@@ -13,6 +13,7 @@ use Rattle.heldmerit.proofs.evaluation.values_of.Given as goal
 
 abbrev pub invariant-loop-n : goal.invariant-loop-n
 invariant-loop-n l = Standing (value_at (flat_surface l.flat) (slot_index (indices_from l.job.numbers)) (pupil_from l.job.numbers)
-    (surface_count_from l.job.counts) (operands_from l.job.counts l.job.numbers)) l.n l.values × (l.many ≡ operand_count_from l.job.counts) × (l.count ≡ surface_count_from l.job.counts)
+    (surface_count_from l.job.counts) (operands_from l.job.counts l.job.numbers)) l.n l.values
+    × (l.many ≡ operand_count_from l.job.counts) × (l.count ≡ surface_count_from l.job.counts)
     × ((w : ℕ) → w < 4 → get_or l.slots w None
     ≡ paraxial_of (flat_surface l.flat) (slot_index (indices_from l.job.numbers) w) (pupil_from l.job.numbers) (surface_count_from l.job.counts))

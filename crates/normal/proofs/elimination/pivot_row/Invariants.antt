@@ -7,4 +7,5 @@ use Rattle.normal.specs.Scratch.{system_in}
 use Rattle.normal.proofs.elimination.pivot_row.Given as goal
 
 abbrev pub invariant-loop-r : goal.invariant-loop-r
-invariant-loop-r l = (l.c ≤ l.best) × (l.best < l.r) × (l.best ≡ pivot_row (system_in l.scratch) l.c (l.r - suc l.c)) × (l.most ≡ magnitude (system_in l.scratch l.best l.c))
+invariant-loop-r l = (l.c ≤ l.best) × (l.best < l.r) × (l.best ≡ pivot_row (system_in l.scratch) l.c (l.r - suc l.c))
+    × (l.most ≡ magnitude (system_in l.scratch l.best l.c))

@@ -5,7 +5,6 @@ use native.Mathlib.Nat.{pow-le-pow_right}
 use Rattle.io.specs.Digits.{last_digits, IsDigitCount}
 use Rattle.streams.specs.OutputLaws.{puts_as}
 use Rattle.streams.specs.Output.{places_from, decimal_text}
-use Rattle.std.proofs.Common.{rules}
 use Rattle.streams.proofs.output.Output.put_decimal.Goals as goal
 
 module _ (x k : ℕ) (few : IsDigitCount 10 1 x k) where
