@@ -7,14 +7,12 @@ ghost use Rattle.edges.specs.Edges.{sag_of, edge_from, edge_between, edge_of};
 use optics::OpticalSurface;
 
 // The sag at radius r of a conic k with curvature c. Every product from the left: another order rounds otherwise.
+#[tactic(auto, unfolding(crate::specs::Edges::sag_of))]
 fn sag_of(c: f64, r: f64, k: f64) -> Option<f64>
     ensures { result ≡ sag_of c r k }
 {
     let t = 1.0 - (1.0 + k) * (c * c * r * r);
-    if t < 0.0 {
-        return None;
-    }
-    if t != t {
+    if t < 0.0 || t.is_nan() {
         return None;
     }
     Some(c * r * r / (1.0 + roots::sqrt(t)))
@@ -50,10 +48,7 @@ pub fn edge_of(flat: &[f64], count: usize, i: usize) -> Option<f64>
     requires { 4 * count ≤ length flat.now }
     ensures { result ≡ edge_of (flat_surface flat.now) count i }
 {
-    if i >= count {
-        return None;
-    }
-    if i + 1 >= count {
+    if i >= count || i + 1 >= count {
         return None;
     }
     let surface = optics::surface_at(flat, i);

@@ -19,22 +19,19 @@ pub(crate) fn lens_of(held: JobRecord) -> OpticalPrescription
 fn are_operands(held: JobRecord) -> bool
     ensures { result ≡ are_operands held }
 {
-    if held.operand_count > 12 {
-        return false;
-    }
     // the variables have no part in it
-    let mut alone = held;
-    alone.variable_count = 0;
-    jobs::known_kinds(alone)
+    let alone = JobRecord {
+        variable_count: 0,
+        ..held
+    };
+    held.operand_count <= 12 && jobs::known_kinds(alone)
 }
 
 // The evaluation of the record's lens under its operands. Where it is refused, what is lent stays as it was.
 pub(crate) fn evaluate(held: JobRecord, evaluation: &mut MeritEvaluation) -> Result<(), Refusal>
     ensures { (answered result ≡ evaluate_record_number held) × (evaluation.new ≡ evaluated_record evaluation.old held) }
 {
-    if !are_operands(held) {
-        return Err(Refusal::BadCount);
-    }
+    Refusal::BadCount.unless(are_operands(held))?;
     let job = jobs::job_of(1, held);
     meritcalls::evaluate(job.prescription, job.merit_function, evaluation)
 }
