@@ -78,8 +78,7 @@ fn follower_surface(f: Follower) -> usize
 {
     match f {
         Follower::None => 0,
-        Follower::Plus(i) => i,
-        Follower::Minus(i) => i,
+        Follower::Plus(i) | Follower::Minus(i) => i,
     }
 }
 

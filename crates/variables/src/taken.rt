@@ -24,9 +24,7 @@ fn lower_bound_taken(kind: VariableType, lo: f64) -> bool
 {
     match kind {
         VariableType::SemiDiameter(_) => 0.0 < lo,
-        VariableType::Curvature(_) => true,
-        VariableType::Thickness(_) => true,
-        VariableType::Conic(_) => true,
+        _ => true,
     }
 }
 
@@ -55,12 +53,7 @@ pub fn variables_taken(v: VariableSet, surface_count: usize) -> bool
 fn minus_taken(kind: VariableType) -> bool
     ensures { result ≡ minus_taken kind }
 {
-    match kind {
-        VariableType::Curvature(_) => true,
-        VariableType::Conic(_) => true,
-        VariableType::Thickness(_) => false,
-        VariableType::SemiDiameter(_) => false,
-    }
+    matches!(kind, VariableType::Curvature(_) | VariableType::Conic(_))
 }
 
 pub fn follower_taken(kind: VariableType, follower: Follower, surface_count: usize) -> bool
