@@ -1,13 +1,14 @@
--- `optics::slots::last_rays` meets its contract. The loop's invariant: the slots passed have their rays. Assumes nothing.
+-- `LaidLens::last_rays` meets its contract. The loop's invariant: the slots passed have their rays. Assumes nothing.
 use mathlib.Core.Path.{◌∙◌}
 use Prim.Native.Nat.{ℕ}
 use Rattle.lists.specs.Tab.{tab, tab-step, tab-full}
-use Rattle.optics.specs.Types.{no_last, flat_surface, slot_index}
+use Rattle.optics.specs.Types.{no_last}
+use Rattle.optics.specs.Laid.{lens_surface, lens_index}
 use Rattle.optics.specs.Properties.{last_rays}
 use Rattle.optics.proofs.AllSlots.{last-are}
 use native.Mathlib.Omega.{arith}
 use Rattle.std.proofs.Common.{rules}
-use Rattle.optics.proofs.slots.last_rays.Goals as goal
+use Rattle.optics.proofs.lens.LaidLens.last_rays.Goals as goal
 
 pub loop-w-init : goal.loop-w-init
 unfolding tab
@@ -20,9 +21,9 @@ loop-w-preserved c =
     let l = c.loop-w in
     let second = c in
     let rays =
-    last-are (flat_surface a.flat.now) (slot_index a.indices.now) a.pupil a.count _ _ _ start.requires.0 second.arriving_rays-first.ensures
+    last-are (lens_surface a.self.now) (lens_index a.self.now) a.self.now.pupil a.self.now.surfaces.count _ _ _ start.requires second.arriving_rays-first.ensures
     second.next_rays-second.ensures c.next_rays-third.ensures l.w (omega arith) in
-    tab-step (λ (w : ℕ). last_rays (flat_surface a.flat.now) (slot_index a.indices.now w) a.pupil a.count) _ l.last l.w _ no_last l.invariant
+    tab-step (λ (w : ℕ). last_rays (lens_surface a.self.now) (lens_index a.self.now w) a.self.now.pupil a.self.now.surfaces.count) _ l.last l.w _ no_last l.invariant
     (c.rays_between.ensures ∙ rays) (omega arith)
 
 pub returns : goal.returns
