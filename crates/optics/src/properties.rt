@@ -7,6 +7,7 @@ ghost use Rattle.optics.specs.Properties.{negligible, ends_in_detector, focus_of
 use crate::lens::LaidLens;
 use crate::trace::curvature_of;
 use crate::types::{LastRays, ParaxialProperties, ParaxialRay};
+use std::array;
 
 fn is_negligible(x: f64) -> bool
     ensures { result ≡ negligible x }
@@ -79,15 +80,11 @@ impl LaidLens<'_> {
     pub fn paraxial_slots(&self) -> [Option<ParaxialProperties>; 4]
         ensures { result ≡ tab (lens_paraxial self.now) 4 }
     {
-        let mut slots = [None; 4];
         if self.surfaces.count < 2 {
-            return slots;
+            return [None; 4];
         }
         let last = self.last_rays();
-        for w in 0..4 {
-            slots[w] = Some(self.slot_properties(last[w], w));
-        }
-        slots
+        array::from_fn(|w| Some(self.slot_properties(last[w], w)))
     }
 
     // The same in one slot.

@@ -9,6 +9,7 @@ ghost use Rattle.optics.specs.Properties.{last_rays, rays_between};
 use crate::lens::LaidLens;
 use crate::trace::{curvature_of, ray_behind, start_of};
 use crate::types::{ArrivingRay, LastRays, ParaxialRay};
+use std::array;
 
 // The records of two surfaces, out of a ray as it arrives at each and behind the second.
 fn rays_between(first: ArrivingRay, second: ArrivingRay, third: ArrivingRay) -> LastRays
@@ -35,11 +36,8 @@ impl LaidLens<'_> {
         let flat = self.surfaces.flat;
         let curvature = curvature_of(flat[4 * k]);
         let thickness = flat[4 * k + 2];
-        let mut next = rays;
-        for w in 0..4 {
-            next[w] = ray_behind(rays[w], curvature, thickness, self.indices[k * 4 + w]);
-        }
-        next
+        let indices = self.indices;
+        array::from_fn(|w| ray_behind(rays[w], curvature, thickness, indices[k * 4 + w]))
     }
 
     // The rays as they arrive at surface `to`.
@@ -65,15 +63,6 @@ impl LaidLens<'_> {
         let first = self.arriving_rays(before);
         let second = self.next_rays(first, before);
         let third = self.next_rays(second, before + 1);
-        let nothing = ParaxialRay { y: 0.0, u: 0.0 };
-        let none = LastRays {
-            before: nothing,
-            last: nothing,
-        };
-        let mut last = [none; 4];
-        for w in 0..4 {
-            last[w] = rays_between(first[w], second[w], third[w]);
-        }
-        last
+        array::from_fn(|w| rays_between(first[w], second[w], third[w]))
     }
 }

@@ -1,30 +1,15 @@
--- `LaidLens::next_rays` meets its contract. The loop's invariant: the rays of the slots passed are those behind the surface, and the others are as they
--- came. Assumes nothing.
-use Prim.Native.Nat.{ℕ}
-use lib.ListN.{get_or}
-use Rattle.lists.specs.Tab.{tab, tab-step, tab-full}
-use Rattle.optics.specs.Types.{no_arriving}
+-- `LaidLens::next_rays` meets its contract. Assumes nothing.
+use Rattle.std.proofs.Common.{of_calls, ◌≡◌, ◌∙◌, get_or}
+use Rattle.lists.specs.Made.{made}
 use Rattle.optics.specs.Laid.{lens_surface, lens_index}
-use Rattle.optics.specs.Trace.{onward}
-use native.Mathlib.Omega.{arith}
-use Rattle.std.proofs.Common.{rules}
+use Rattle.optics.specs.Trace.{onward, ray_behind}
+use Rattle.optics.specs.Types.{no_arriving}
 use Rattle.optics.proofs.lens.LaidLens.next_rays.Goals as goal
-
-pub loop-w-init : goal.loop-w-init
-unfolding tab
-loop-w-init c = search rules
-
-pub loop-w-preserved : goal.loop-w-preserved
-loop-w-preserved c =
-    let a = c.args in
-    let l = c.loop-w in
-    tab-step (λ (w : ℕ). onward (lens_surface a.self.now a.k) (lens_index a.self.now w a.k) (get_or a.rays w no_arriving)) a.rays l.next
-    l.w _ no_arriving l.invariant (rw c.curvature_of-curvature.ensures at c.ray_behind.ensures)
-    (omega arith)
 
 pub returns : goal.returns
 returns c =
-    let l = c.loop-w in
-    let a = c.args in
-    tab-full (λ (w : ℕ). onward (lens_surface a.self.now a.k) (lens_index a.self.now w a.k) (get_or a.rays w no_arriving)) a.rays l.next l.w
-    4 l.invariant (search rules) (omega arith) (omega arith)
+    let a = c.args.self.now in
+    made _ _ (λ w. onward (lens_surface a c.args.k) (lens_index a w c.args.k) (get_or c.args.rays w no_arriving)) _ 4 no_arriving
+    c.from_fn.ensures.items (λ w y q h called.
+    let e : y ≡ ray_behind c.curvature_of-curvature.result (lens_surface a c.args.k).thickness_mm (lens_index a w c.args.k) (get_or c.args.rays w no_arriving) = search of_calls in
+    (rw c.curvature_of-curvature.ensures at e, search of_calls))

@@ -1,34 +1,22 @@
--- `LaidLens::paraxial_slots` meets its contract. The loop's invariant: the slots passed have their properties. Assumes nothing.
+-- `LaidLens::paraxial_slots` meets its contract. Assumes nothing.
+use Rattle.std.proofs.Common.{of_calls, ◌≡◌, refl, ◌∙◌, get_or, Some, None}
 use borrow.Author.Tests.{lt-ltb}
-use Rattle.lists.specs.Tab.{tab, tab-step, tab-full}
+use Rattle.lists.specs.Tab.{tab}
+use Rattle.lists.specs.Made.{made}
 use Rattle.optics.specs.Laid.{lens_surface, lens_index, lens_paraxial}
-use Rattle.optics.specs.Properties.{paraxial_of}
-use Rattle.std.specs.Prelude.{None}
+use Rattle.optics.specs.Properties.{properties_behind, paraxial_of}
+use Rattle.optics.specs.Types.{no_last}
 use Rattle.optics.proofs.AllSlots.{traced}
-use native.Mathlib.Omega.{arith}
-use Rattle.std.proofs.Common.{rules}
 use Rattle.optics.proofs.lens.LaidLens.paraxial_slots.Goals as goal
 
 pub returns-then-self-lt2 : goal.returns-then-self-lt2
 unfolding paraxial_of tab
 returns-then-self-lt2 c = simp (lt-ltb _ _ c.if-self-lt2.true)
 
-pub loop-w-init : goal.loop-w-init
-unfolding tab
-loop-w-init c = search rules
-
-pub loop-w-preserved : goal.loop-w-preserved
-loop-w-preserved c =
-    let a = c.args in
-    let l = c.loop-w in
-    let last = c in
-    let slot =
-    traced (lens_surface a.self.now) (lens_index a.self.now) a.self.now.pupil a.self.now.surfaces.count _ last.if-self-lt2.false last.last_rays-last.ensures l.w
-    (omega arith) _ c.slot_properties.ensures in
-    tab-step (lens_paraxial a.self.now) _ l.slots l.w _ None
-    l.invariant slot (omega arith)
-
 pub returns : goal.returns
 returns c =
-    let l = c.loop-w in
-    tab-full _ _ l.slots l.w 4 l.invariant (search rules) (omega arith) (omega arith)
+    let a = c.args.self.now in
+    let last = c.last_rays-last in
+    made _ _ (lens_paraxial a) _ 4 None c.from_fn.ensures.items (λ w y q h called.
+    let e : y ≡ Some (properties_behind (get_or last.result w no_last) (lens_surface a) (lens_index a w) a.pupil a.surfaces.count) = search of_calls in
+    (e ∙ traced (lens_surface a) (lens_index a) a.pupil a.surfaces.count _ c.if-self-lt2.false last.ensures w h _ refl, search of_calls))
