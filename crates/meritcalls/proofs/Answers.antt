@@ -20,7 +20,7 @@ use Rattle.merit.specs.Calls.{unless_refused, evaluate_number, lens_evaluation, 
 use Rattle.merit.specs.Calls.{answer_of, trace_answer, traced_row, traced_rays}
 use Rattle.merit.proofs.CallLaws.{evaluate-keeps}
 use Rattle.refusals.specs.Numbers.{number_of}
-use Rattle.refusals.proofs.Laws.{number-distinct}
+use Rattle.refusals.proofs.Laws.{number-distinct, value-refused}
 use Rattle.refusals.specs.declared.Refusal.{Refusal}
 use Rattle.std.specs.Prelude.{Result, Ok, Err}
 use Rattle.merit.specs.Evaluation.{evaluation_of}
@@ -78,13 +78,6 @@ row-filled p slot rows e hs us rest rest' h u =
     (λ i. rays_of (h i) (u i) (e i))
     ∙ rays-are (surface_at p.surfaces) (slot_index p.indices slot) p.entrance_pupil_diameter_mm p.surface_count rest rest'
 
-answer-refused : (n count : ℕ) → 0 < n → answer_of n count ≡ Err n
-answer-refused zero count h = absurd (no h)
-  where
-    no : 0 < 0 → ⊥
-    no h = omega arith
-answer-refused (suc n) count h = refl
-
 -- the answer, and the row that is left with it
 module _ (p : OpticalPrescription) (slot : ℕ) (old : List ParaxialRay) where
   answered_as : (a : Result Traced ℕ) (new : List ParaxialRay) → answer_of (trace_number p slot (length old)) p.surface_count ≡ a
@@ -95,8 +88,7 @@ module _ (p : OpticalPrescription) (slot : ℕ) (old : List ParaxialRay) where
   pub trace-refused : (r : Refusal) → number_of r ≡ trace_number p slot (length old)
       → (Err (number_of r) ≡ trace_answer p slot (length old)) × (old ≡ traced_rays p slot old)
   trace-refused r e =
-      answered_as (Err (number_of r)) old
-      (ap (λ (n : ℕ). answer_of n p.surface_count) (sym e) ∙ answer-refused (number_of r) p.surface_count (number-distinct r).0) refl
+      answered_as (Err (number_of r)) old (sym (value-refused r _ _ e)) refl
 
   module _ (e : trace_number p slot (length old) ≡ 0) where
     pub trace-failed : p.surface_count < 2 → (Ok Failed ≡ trace_answer p slot (length old)) × (old ≡ traced_rays p slot old)
