@@ -1,7 +1,7 @@
 -- What the calls by value make of their parts. Assumes nothing.
 use mathlib.Core.Path.{◌≡◌, refl, sym, ap, ◌∙◌}
 use mathlib.Core.List.{List, ◌++◌}
-use Prim.Native.Nat.{ℕ, zero, suc, ◌*◌, ◌≤◌, ◌<◌}
+use Prim.Native.Nat.{ℕ, ◌*◌, ◌≤◌, ◌<◌}
 use native.Mathlib.Omega.{arith}
 use lib.Ieee.{Float}
 use lib.ListN.{length, replicate, drop, length-append}
@@ -13,6 +13,8 @@ use Rattle.optics.specs.FlatLaws.{length-laid, flat-laid}
 use Rattle.optics.specs.TraceLaws.{ray-same, rays-are}
 use Rattle.optics.specs.Trace.{ray_at, rays_of}
 use Rattle.optics.specs.Types.{surface_at, flat_surface, slot_index}
+use Rattle.optics.specs.Laid.{lens_surface, lens_index}
+use Rattle.optics.specs.declared.lens.LaidLens.{LaidLens}
 use Rattle.optics.specs.declared.types.OpticalPrescription.{OpticalPrescription}
 use Rattle.optics.specs.declared.types.OpticalSurface.{OpticalSurface}
 use Rattle.optics.specs.declared.types.ParaxialRay.{ParaxialRay}
@@ -54,21 +56,26 @@ module _ (p : OpticalPrescription) (f : MeritFunction) (old : MeritEvaluation) w
 
 -- ---- trace
 -- heights or slopes of surfaces laid flat are those of the lens
-pub heights-are : (p : OpticalPrescription) (slot : ℕ) (rest flat : List Float) → flat ≡ laid_flat p.surfaces p.surface_count ++ rest
-    → (part : ParaxialRay → Float) (hs : List Float)
-    → hs ≡ tab (λ (k : ℕ). part (ray_at (flat_surface flat) (slot_index p.indices slot) p.entrance_pupil_diameter_mm k)) p.surface_count ++ drop
-    p.surface_count (replicate 16 zero64)
-    → hs ≡ tab (λ (k : ℕ). part (lens_ray p slot k)) p.surface_count ++ drop p.surface_count (replicate 16 zero64)
-heights-are p slot rest flat e part hs h = h ∙ λ i. tab-same _ _ p.surface_count agree i ++ drop p.surface_count (replicate 16 zero64)
-  where
-    agree : (k : ℕ) → k < p.surface_count → part (ray_at (flat_surface flat) (slot_index p.indices slot) p.entrance_pupil_diameter_mm k)
-        ≡ part (lens_ray p slot k)
-    agree k l =
-        ap part
-        (ap (λ (m : List Float). ray_at (flat_surface m) (slot_index p.indices slot) p.entrance_pupil_diameter_mm k) e
-        ∙ ray-same (flat_surface (laid_flat p.surfaces p.surface_count ++ rest)) (surface_at p.surfaces) (slot_index p.indices slot)
-        (slot_index p.indices slot) p.entrance_pupil_diameter_mm p.surface_count
-        (flat-laid p.surfaces p.surface_count rest) (λ i m. refl) k l)
+module _ (p : OpticalPrescription) (slot : ℕ) (rest flat : List Float) (e : flat ≡ laid_flat p.surfaces p.surface_count ++ rest)
+  (part : ParaxialRay → Float) where
+  agree : (k : ℕ) → k < p.surface_count → part (ray_at (flat_surface flat) (slot_index p.indices slot) p.entrance_pupil_diameter_mm k)
+      ≡ part (lens_ray p slot k)
+  agree k l =
+      ap part
+      (ap (λ (m : List Float). ray_at (flat_surface m) (slot_index p.indices slot) p.entrance_pupil_diameter_mm k) e
+      ∙ ray-same (flat_surface (laid_flat p.surfaces p.surface_count ++ rest)) (surface_at p.surfaces) (slot_index p.indices slot)
+      (slot_index p.indices slot) p.entrance_pupil_diameter_mm p.surface_count
+      (flat-laid p.surfaces p.surface_count rest) (λ i m. refl) k l)
+
+  pub heights-are : (lens : LaidLens) → lens.surfaces.flat.now ≡ flat → lens.surfaces.count ≡ p.surface_count → lens.indices.now ≡ p.indices
+      → lens.pupil ≡ p.entrance_pupil_diameter_mm → (hs : List Float)
+      → hs ≡ tab (λ (k : ℕ). part (ray_at (lens_surface lens) (lens_index lens slot) lens.pupil k)) lens.surfaces.count
+      ++ drop lens.surfaces.count (replicate 16 zero64)
+      → hs ≡ tab (λ (k : ℕ). part (lens_ray p slot k)) p.surface_count ++ drop p.surface_count (replicate 16 zero64)
+  heights-are lens f c x u hs h =
+      h
+      ∙ (λ i. tab (λ (k : ℕ). part (ray_at (flat_surface (f i)) (slot_index (x i) slot) (u i) k)) (c i) ++ drop (c i) (replicate 16 zero64))
+      ∙ (λ i. tab-same _ _ p.surface_count agree i ++ drop p.surface_count (replicate 16 zero64))
 
 -- heights and slopes make the lens's trace
 pub row-filled : (p : OpticalPrescription) (slot : ℕ) (rows : ℕ) → rows ≡ p.surface_count → (hs us rest rest' : List Float)

@@ -11,7 +11,7 @@ ghost use Rattle.merit.specs.Calls.{evaluate_number, lens_evaluation, evaluated_
 use crate::checks::operands_taken;
 use crate::evaluation::evaluate_flat;
 use merit::{MeritEvaluation, MeritFunction, Traced};
-use optics::{FlatSurfaces, LaidLens, OpticalPrescription, OpticalSurface, ParaxialRay};
+use optics::{OpticalPrescription, OpticalSurface, ParaxialRay};
 use refusals::Refusal;
 
 fn counts_taken(prescription: OpticalPrescription, function: MeritFunction) -> bool
@@ -44,29 +44,14 @@ fn laid(surfaces: [OpticalSurface; 16], count: usize) -> [f64; 64]
     flat
 }
 
-// The lens, with its surfaces laid flat.
-fn laid_lens<'a>(prescription: &'a OpticalPrescription, flat: &'a [f64]) -> LaidLens<'a>
-    requires { (prescription.now.surface_count ≤ 16) × (4 * prescription.now.surface_count ≤ length flat.now) }
-    ensures { (result.surfaces.flat.now ≡ flat.now) × (result.surfaces.count ≡ prescription.now.surface_count)
-        × (result.indices.now ≡ prescription.now.indices) × (result.pupil ≡ prescription.now.entrance_pupil_diameter_mm) }
-{
-    LaidLens {
-        surfaces: FlatSurfaces {
-            flat,
-            count: prescription.surface_count,
-        },
-        indices: &prescription.indices,
-        pupil: prescription.entrance_pupil_diameter_mm,
-    }
-}
-
 // The evaluation of a lens that is not refused.
 fn lens_evaluation(prescription: OpticalPrescription, function: MeritFunction) -> MeritEvaluation
     requires { Evaluable prescription function }
     ensures { result ≡ lens_evaluation prescription function }
 {
     let flat = laid(prescription.surfaces, prescription.surface_count);
-    evaluate_flat(&laid_lens(&prescription, &flat), function)
+    let lens = prescription.laid(&flat);
+    evaluate_flat(&lens, function)
 }
 
 // The evaluation of a run before its first merit.
@@ -122,7 +107,8 @@ fn fill_trace(prescription: OpticalPrescription, slot: usize, rays: &mut [Paraxi
     let flat = laid(prescription.surfaces, prescription.surface_count);
     let mut heights = [0.0; 16];
     let mut slopes = [0.0; 16];
-    laid_lens(&prescription, &flat).trace_heights(slot, &mut heights, &mut slopes);
+    let lens = prescription.laid(&flat);
+    lens.trace_heights(slot, &mut heights, &mut slopes);
     optics::fill_rays(rays, &heights, &slopes);
 }
 

@@ -187,7 +187,11 @@ pub fn value_of(
             max_thickness_mm,
         } => {
             let thickness = thickness_at(surfaces, surface_index);
-            of_surface(surface_index, surfaces.count, excess_of(thickness, max_thickness_mm))
+            of_surface(
+                surface_index,
+                surfaces.count,
+                excess_of(thickness, max_thickness_mm),
+            )
         }
         OperandType::MinEdgeThickness {
             surface_index,

@@ -1,5 +1,7 @@
 // A lens as the calls reach it: its surfaces laid flat in a lent slice, four numbers each, and the indices behind them.
-ghost use Rattle.std.specs.Prelude.{◌*◌, ◌≤◌, length};
+ghost use Rattle.std.specs.Prelude.{◌≡◌, ◌*◌, ◌≤◌, length};
+
+use crate::types::OpticalPrescription;
 
 // The first `count` surfaces of a slice; what stands past them is not looked at.
 #[derive(Clone, Copy)]
@@ -16,4 +18,24 @@ pub struct LaidLens<'a> {
     pub indices: &'a [f64],
     pub pupil: f64,
     pub ghost indexed: { 4 * surfaces.count ≤ length indices.now },
+}
+
+impl OpticalPrescription {
+    // Over its surfaces as they are laid flat there.
+    pub fn laid<'a>(&'a self, flat: &'a [f64]) -> LaidLens<'a>
+        requires { (self.now.surface_count ≤ 16) × (4 * self.now.surface_count ≤ length flat.now) }
+        ensures flat { result.surfaces.flat.now ≡ flat.now }
+        ensures count { result.surfaces.count ≡ self.now.surface_count }
+        ensures indices { result.indices.now ≡ self.now.indices }
+        ensures pupil { result.pupil ≡ self.now.entrance_pupil_diameter_mm }
+    {
+        LaidLens {
+            surfaces: FlatSurfaces {
+                flat,
+                count: self.surface_count,
+            },
+            indices: &self.indices,
+            pupil: self.entrance_pupil_diameter_mm,
+        }
+    }
 }

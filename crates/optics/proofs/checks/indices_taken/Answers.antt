@@ -1,5 +1,5 @@
 -- `optics::checks::indices_taken` meets its contract. Assumes nothing.
-use Rattle.std.proofs.Common.{◌≡◌, Bool, ℕ, ◌-◌, sym, ◌∙◌, refl, arith, rules, tests}
+use Rattle.std.proofs.Common.{Bool, ℕ, sym, ◌∙◌, refl, arith, rules, tests}
 use Rattle.std.proofs.lemmas.Iterator.{YieldsList-from_range}
 use Rattle.std.proofs.lemmas.Iterator.Search.{all_from_yields_List}
 use Rattle.lists.specs.All.{all-counted}

@@ -1,5 +1,5 @@
 -- `LaidLens::last_rays` meets its contract. Assumes nothing.
-use Rattle.std.proofs.Common.{rules, of_calls, ◌≡◌, ℕ, get_or, ◌∙◌}
+use Rattle.std.proofs.Common.{of_calls, ◌≡◌, get_or, ◌∙◌}
 use Rattle.lists.specs.Made.{made}
 use Rattle.optics.specs.Laid.{lens_surface, lens_index}
 use Rattle.optics.specs.Properties.{last_rays, rays_between}
