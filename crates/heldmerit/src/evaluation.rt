@@ -12,7 +12,7 @@ use merit::WeightRoot;
 use optics::{FlatSurfaces, LaidLens};
 
 // The values of surfaces laid flat: all slots are traced in one pass over them.
-pub fn values_of(flat: &[f64], job: &HeldJob) -> [f64; 12]
+pub fn values_of<'a>(flat: &'a [f64], job: &'a HeldJob) -> [f64; 12]
     requires fact_1 { 4 * surface_count_from job.now.counts ≤ length flat.now }
     requires fact_2 { surface_count_from job.now.counts ≤ 16 }
     requires fact_3 { operand_count_from job.now.counts ≤ 12 }
