@@ -1,7 +1,7 @@
 -- `rowturns::pending::pending_parts` meets its contract. Assumes nothing.
 use mathlib.Core.Path.{◌≡◌, ap, ◌∙◌}
 use mathlib.Core.List.{[]}
-use Prim.Native.Nat.{ℕ, zero, suc}
+use Prim.Native.Nat.{ℕ}
 use native.Mathlib.Omega.{arith}
 use Rattle.normal.specs.Layout.{scratch_length}
 use Rattle.jobs.specs.declared.types.Job.{Job}
@@ -21,10 +21,6 @@ use Rattle.rowturns.specs.Next.{next_of, pending_of}
 use Rattle.rows.proofs.Refused.{turnable}
 use Rattle.refusals.proofs.Laws.{value-refused, value-given}
 use Rattle.std.proofs.lemmas.Result.{err_from_is_err_and}
-use Rattle.std.specs.Prelude.{Result, Ok, Err}
-use Rattle.refusals.specs.Numbers.{number_of}
-use Rattle.refusals.specs.declared.Refusal.{Refusal as Cause}
-use Rattle.rowturns.specs.declared.types.Pending.{Pending}
 use Rattle.rows.proofs.Undamaged.{job-taken, column-below}
 use Rattle.std.proofs.Common.{rules}
 use Rattle.rowturns.proofs.pending.pending_parts.Goals as goal
