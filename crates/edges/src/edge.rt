@@ -1,10 +1,10 @@
 // The sag of a surface, and the edge between two: each a number, or none where the conic does not reach so far out, or there is no second surface.
-ghost use Rattle.std.specs.Prelude.{◌≡◌, ◌*◌, ◌≤◌, length};
+ghost use Rattle.std.specs.Prelude.{◌≡◌};
 ghost use Rattle.optics.specs.Curvature.{curvature};
-ghost use Rattle.optics.specs.Types.{flat_surface};
+ghost use Rattle.optics.specs.Laid.{laid_surface};
 ghost use Rattle.edges.specs.Edges.{sag_of, edge_from, edge_between, edge_of};
 
-use optics::OpticalSurface;
+use optics::{FlatSurfaces, OpticalSurface};
 
 // The sag at radius r of a conic k with curvature c. Every product from the left: another order rounds otherwise.
 #[tactic(auto, unfolding(crate::specs::Edges::sag_of))]
@@ -44,14 +44,13 @@ fn edge_between(surface: OpticalSurface, successor: OpticalSurface) -> Option<f6
 }
 
 // The edge behind surface i, any number: i + 1 is formed only where i is a surface's.
-pub fn edge_of(flat: &[f64], count: usize, i: usize) -> Option<f64>
-    requires { 4 * count ≤ length flat.now }
-    ensures { result ≡ edge_of (flat_surface flat.now) count i }
+pub fn edge_of(surfaces: &FlatSurfaces, i: usize) -> Option<f64>
+    ensures { result ≡ edge_of (laid_surface surfaces.now) surfaces.now.count i }
 {
-    if i >= count || i + 1 >= count {
+    if i >= surfaces.count || i + 1 >= surfaces.count {
         return None;
     }
-    let surface = optics::surface_at(flat, i);
-    let successor = optics::surface_at(flat, i + 1);
+    let surface = optics::surface_at(surfaces.flat, i);
+    let successor = optics::surface_at(surfaces.flat, i + 1);
     edge_between(surface, successor)
 }

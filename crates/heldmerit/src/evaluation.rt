@@ -9,9 +9,10 @@ ghost use Rattle.heldmerit.specs.HeldOver.{merit_over, residuals_over};
 
 use held::HeldJob;
 use merit::WeightRoot;
+use optics::{FlatSurfaces, LaidLens};
 
 // The values of surfaces laid flat: all slots are traced in one pass over them.
-pub fn values_of(flat: &[f64], job: &HeldJob) -> [f64; 12]
+pub fn values_of<'a>(flat: &'a [f64], job: &'a HeldJob) -> [f64; 12]
     requires fact_1 { 4 * surface_count_from job.now.counts ≤ length flat.now }
     requires fact_2 { surface_count_from job.now.counts ≤ 16 }
     requires fact_3 { operand_count_from job.now.counts ≤ 12 }
@@ -21,12 +22,16 @@ pub fn values_of(flat: &[f64], job: &HeldJob) -> [f64; 12]
 {
     let count = job.surface_count();
     let many = job.operand_count();
-    let indices = job.indices();
-    let slots = optics::paraxial_slots(flat, indices, count, job.pupil());
+    let lens = LaidLens {
+        surfaces: FlatSurfaces { flat, count },
+        indices: job.indices(),
+        pupil: job.pupil(),
+    };
+    let slots = lens.paraxial_slots();
     let mut values = [0.0; 12];
     for n in 0..many {
         let o = job.operand_at(n);
-        values[n] = meritcalls::value_of(o.operand_type, slots, flat, count, values);
+        values[n] = meritcalls::value_of(o.operand_type, slots, &lens.surfaces, values);
     }
     values
 }

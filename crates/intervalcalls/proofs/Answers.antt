@@ -2,32 +2,24 @@
 use mathlib.Core.Path.{◌≡◌, refl, sym, ap, ◌∙◌}
 use mathlib.Core.Bool.{Bool, true, false, not, cond}
 use Prim.Native.Nat.{ℕ, zero, suc, ◌≤◌, ◌<◌}
-use native.Mathlib.Omega.{arith}
 use borrow.Author.Tests.{le-leb, lt-leb}
 use Rattle.std.specs.Prelude.{Option, Some, None, Ok, Err}
 use Rattle.std.specs.Option.{ok_or}
 use Rattle.lists.specs.All.{all_below}
-use Rattle.refusals.specs.Numbers.{number_of, numbered}
-use Rattle.refusals.proofs.Laws.{number-distinct}
+use Rattle.refusals.specs.Numbers.{number_of, numbered, value_unless}
+use Rattle.refusals.proofs.Laws.{number-distinct, value-refused}
 use Rattle.refusals.specs.declared.Refusal.{Refusal}
 use Rattle.refusals.specs.declared.Refusal.TheVariants.{BadLimits}
 use Rattle.optics.specs.declared.types.OpticalPrescription.{OpticalPrescription}
 use Rattle.merit.specs.Calls.{unless_refused, trace_number}
-use Rattle.intervals.specs.Calls.{all_given, finite_at, lens_limits, limits_taken, limits_number, limits_as, limited_by, limits_traced}
+use Rattle.intervals.specs.Calls.{all_given, finite_at, lens_limits, limits_taken, limits_number, limits_as, limits_traced}
 use Rattle.intervals.proofs.CallLaws.{number_is}
 use Rattle.intervals.specs.declared.types.ThicknessLimits.{ThicknessLimits}
 use Rattle.intervals.specs.declared.types.TraceLimits.{TraceLimits}
 
-by-number : (n : ℕ) (new : TraceLimits) → 0 < n → limited_by n new ≡ Err n
-by-number zero new h = absurd (no h)
-  where
-    no : 0 < 0 → ⊥
-    no h = omega arith
-by-number (suc n) new h = refl
-
 -- the limits decide
 by-taken : (b : Bool) (o : Option TraceLimits) (new : TraceLimits) → o ≡ cond b (Some new) None
-    → numbered (ok_or o BadLimits) ≡ limited_by (cond (not b) 19 0) new
+    → numbered (ok_or o BadLimits) ≡ value_unless (cond (not b) 19 0) new
 by-taken true o new e = ap (λ (p : Option TraceLimits). numbered (ok_or p BadLimits)) e
 by-taken false o new e = ap (λ (p : Option TraceLimits). numbered (ok_or p BadLimits)) e
 
@@ -40,12 +32,12 @@ module _ (p : OpticalPrescription) (l : ThicknessLimits) (slot : ℕ) where
   unfolding limits_traced
   by-trace r e =
       let h = (number-distinct r).0 in
-      sym (by-number (number_of r) new h) ∙ sym (ap (λ (n : ℕ). limited_by n new) ((number_is p l slot (number_of r) (sym e)).0 h))
+      value-refused r _ new (sym ((number_is p l slot (number_of r) (sym e)).0 h))
 
   pub by-limits : 0 ≡ trace_number p slot p.surface_count → (o : Option TraceLimits) → o ≡ cond (limits_taken p l slot) (Some new) None
       → numbered (ok_or o BadLimits) ≡ limits_traced p l slot
   unfolding limits_traced
-  by-limits e o q = by-taken (limits_taken p l slot) o new q ∙ sym (ap (λ (n : ℕ). limited_by n new) ((number_is p l slot 0 (sym e)).1 refl))
+  by-limits e o q = by-taken (limits_taken p l slot) o new q ∙ sym (ap (λ (n : ℕ). value_unless n new) ((number_is p l slot 0 (sym e)).1 refl))
 
   -- ---- what the tests make of `limits_taken`
   pub too_few : p.surface_count < 2 → limits_taken p l slot ≡ false
@@ -67,7 +59,7 @@ module _ (p : OpticalPrescription) (l : ThicknessLimits) (slot : ℕ) where
     unfolding limits_traced
     limits-kept r e = go (limits_number p l slot) refl e
       where
-        go : (n : ℕ) → limits_number p l slot ≡ n → Err (number_of r) ≡ limited_by n new
+        go : (n : ℕ) → limits_number p l slot ≡ n → Err (number_of r) ≡ value_unless n new
             → (number_of r ≡ limits_number p l slot) × (old ≡ limits_as old p l slot)
         go zero q f = absurd (cc)
         go (suc n) q f = (cc, sym (ap (λ (k : ℕ). unless_refused k new old) q))
@@ -76,6 +68,6 @@ module _ (p : OpticalPrescription) (l : ThicknessLimits) (slot : ℕ) where
     unfolding limits_traced
     limits-stored new' e = go (limits_number p l slot) refl e
       where
-        go : (n : ℕ) → limits_number p l slot ≡ n → Ok new' ≡ limited_by n new → (0 ≡ limits_number p l slot) × (new' ≡ limits_as old p l slot)
+        go : (n : ℕ) → limits_number p l slot ≡ n → Ok new' ≡ value_unless n new → (0 ≡ limits_number p l slot) × (new' ≡ limits_as old p l slot)
         go zero q f = (sym q, (cc) ∙ sym (ap (λ (k : ℕ). unless_refused k new old) q))
         go (suc n) q f = absurd (cc)

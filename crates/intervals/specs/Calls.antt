@@ -1,8 +1,9 @@
 -- The call: what refuses it and what it answers. Definitions only.
-use Rattle.std.specs.Prelude.{ℕ, zero, suc, ◌-◌, Bool, cond, not, ◌&&◌, List, [], ◌∷◌, ◌++◌, leb, get_or, replicate, Option, Some, None, Result, Ok, Err}
+use Rattle.std.specs.Prelude.{ℕ, ◌-◌, Bool, cond, not, ◌&&◌, List, [], ◌∷◌, ◌++◌, leb, get_or, replicate, Option, Some, None, Result}
 use Rattle.lists.specs.All.{all_below}
 use Rattle.lists.specs.Refusals.{Refusal, refusal, first_refusal}
 use Rattle.lists.specs.Tab.{tab}
+use Rattle.refusals.specs.Numbers.{value_unless}
 use Rattle.optics.specs.Types.{surface_at, slot_index}
 use Rattle.optics.specs.declared.types.OpticalPrescription.{OpticalPrescription}
 use Rattle.merit.specs.Calls.{unless_refused, trace_refusals}
@@ -65,10 +66,6 @@ module _ (p : OpticalPrescription) (l : ThicknessLimits) (slot : ℕ) where
 abbrev pub limits_as : (old : TraceLimits) → OpticalPrescription → ThicknessLimits → (slot : ℕ) → TraceLimits
 limits_as old p l slot = unless_refused (limits_number p l slot) (lens_limits p l slot) old
 
--- by value: the limits, or the number where it is refused
-abbrev pub limited_by : (number : ℕ) → TraceLimits → Result TraceLimits ℕ
-limited_by zero new = Ok new
-limited_by (suc n) new = Err (suc n)
-
+-- by value
 unfoldable pub limits_traced : OpticalPrescription → ThicknessLimits → (slot : ℕ) → Result TraceLimits ℕ
-limits_traced p l slot = limited_by (limits_number p l slot) (lens_limits p l slot)
+limits_traced p l slot = value_unless (limits_number p l slot) (lens_limits p l slot)

@@ -2,4 +2,3 @@ pub mod SameLaws
 pub mod RecordLaws
 pub mod UnusedLaws
 pub mod CheckLaws
-mod Mapped

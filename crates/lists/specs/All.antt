@@ -1,7 +1,9 @@
 -- A test of every index below a count. Assumes nothing.
 use Rattle.std.specs.Prelude.{◌≡◌, refl, Bool, true, false, ◌&&◌, ℕ, zero, suc, ◌+◌, ◌≤◌, ◌<◌, T, List, length, take, get_or}
 use Rattle.std.proofs.Common.{sym, ap, ◌∙◌, inl, inr, eq-or-lt_of_le, le_of_suc-le-suc, add-one, arith}
-use Rattle.std.specs.List.{list_all}
+use Rattle.std.specs.List.{list_all, range_with_len}
+use Rattle.std.proofs.lemmas.List.{take_all}
+use Rattle.std.proofs.lemmas.List.FromFn.{length-range_with_len, get_or-range_with_len}
 use Rattle.std.proofs.lemmas.List.Folds.{list_all_more}
 use Rattle.std.specs.Float.Ieee.Fits.{and_i, and_l, and_r}
 
@@ -62,3 +64,12 @@ unfolding all_below
 all-listed t l d zero h = refl
 all-listed t l d (suc n) h =
     (λ i. all-listed t l d n (omega arith) i && t (get_or l n d)) ∙ sym (list_all_more t l n d h) ∙ ap (λ (k : ℕ). list_all t (take k l)) (add-one n)
+
+-- a test of the numbers below n, as `(0..n).all` makes it
+pub all-counted : (t : ℕ → Bool) (n : ℕ) → all_below t n ≡ list_all t (range_with_len 0 n)
+all-counted t n =
+    let numbers = range_with_len 0 n in
+    let add-zero : (i : ℕ) → 0 + i ≡ i = λ i. omega arith in
+    let long : length numbers ≡ n = length-range_with_len 0 n in
+    all_same t (λ (i : ℕ). t (get_or numbers i 0)) n (λ i h. ap t (sym (get_or-range_with_len 0 n i 0 h ∙ add-zero i)))
+    ∙ all-listed t numbers 0 n (omega (arith, long)) ∙ ap (list_all t) (take_all n numbers (omega (arith, long)))

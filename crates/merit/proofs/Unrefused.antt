@@ -12,7 +12,7 @@ Doing (Err n) = ⊥
 
 -- an answer that refuses nothing, by the count
 abbrev open_answer : (few : Bool) → Result Traced ℕ
-open_answer few = cond few (Ok Failed) (Ok Done)
+open_answer few = Ok (cond few Failed Done)
 
 pub unrefused : (count : ℕ) (b : Bool) → ltb count 2 ≡ b → ((open_answer b ≡ Ok Done) ↔ (2 ≤ count)) × ((open_answer b ≡ Ok Failed) ↔ (count < 2))
 unrefused count true e =

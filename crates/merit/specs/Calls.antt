@@ -1,6 +1,7 @@
 -- The two calls that stand alone: what refuses them and what they answer. Definitions only.
 use Rattle.std.specs.Prelude.{ℕ, zero, suc, not, cond, ◌&&◌, List, [], ◌∷◌, leb, ltb, eqb, length, Result, Ok, Err}
 use Rattle.lists.specs.Refusals.{Refusal, refusal, first_refusal}
+use Rattle.refusals.specs.Numbers.{value_unless}
 use Rattle.optics.specs.Kept.{lens_counts_taken}
 use Rattle.optics.specs.Check.{lens_taken}
 use Rattle.optics.specs.Trace.{ray_at, trace_of}
@@ -62,8 +63,7 @@ module _ (p : OpticalPrescription) (slot : ℕ) where
 
 -- the answer, out of the number; "Fewer than two surfaces is a failed trace."
 abbrev pub answer_of : (number count : ℕ) → Result Traced ℕ
-answer_of zero count = cond (ltb count 2) (Ok Failed) (Ok Done)
-answer_of (suc n) count = Err (suc n)
+answer_of number count = value_unless number (cond (ltb count 2) Failed Done)
 
 -- the number of an answer: a failed trace is not refused
 abbrev pub traced_number : Result Traced ℕ → ℕ

@@ -1,7 +1,7 @@
 -- What the calls by value make of their parts. Assumes nothing.
 use mathlib.Core.Path.{◌≡◌, refl, sym, ap, ◌∙◌}
 use mathlib.Core.List.{List, ◌++◌}
-use Prim.Native.Nat.{ℕ, zero, suc, ◌*◌, ◌≤◌, ◌<◌}
+use Prim.Native.Nat.{ℕ, ◌*◌, ◌≤◌, ◌<◌}
 use native.Mathlib.Omega.{arith}
 use lib.Ieee.{Float}
 use lib.ListN.{length, replicate, drop, length-append}
@@ -13,6 +13,8 @@ use Rattle.optics.specs.FlatLaws.{length-laid, flat-laid}
 use Rattle.optics.specs.TraceLaws.{ray-same, rays-are}
 use Rattle.optics.specs.Trace.{ray_at, rays_of}
 use Rattle.optics.specs.Types.{surface_at, flat_surface, slot_index}
+use Rattle.optics.specs.Laid.{lens_surface, lens_index}
+use Rattle.optics.specs.declared.lens.LaidLens.{LaidLens}
 use Rattle.optics.specs.declared.types.OpticalPrescription.{OpticalPrescription}
 use Rattle.optics.specs.declared.types.OpticalSurface.{OpticalSurface}
 use Rattle.optics.specs.declared.types.ParaxialRay.{ParaxialRay}
@@ -20,7 +22,7 @@ use Rattle.merit.specs.Calls.{unless_refused, evaluate_number, lens_evaluation, 
 use Rattle.merit.specs.Calls.{answer_of, trace_answer, traced_row, traced_rays}
 use Rattle.merit.proofs.CallLaws.{evaluate-keeps}
 use Rattle.refusals.specs.Numbers.{number_of}
-use Rattle.refusals.proofs.Laws.{number-distinct}
+use Rattle.refusals.proofs.Laws.{number-distinct, value-refused}
 use Rattle.refusals.specs.declared.Refusal.{Refusal}
 use Rattle.std.specs.Prelude.{Result, Ok, Err}
 use Rattle.merit.specs.Evaluation.{evaluation_of}
@@ -54,21 +56,26 @@ module _ (p : OpticalPrescription) (f : MeritFunction) (old : MeritEvaluation) w
 
 -- ---- trace
 -- heights or slopes of surfaces laid flat are those of the lens
-pub heights-are : (p : OpticalPrescription) (slot : ℕ) (rest flat : List Float) → flat ≡ laid_flat p.surfaces p.surface_count ++ rest
-    → (part : ParaxialRay → Float) (hs : List Float)
-    → hs ≡ tab (λ (k : ℕ). part (ray_at (flat_surface flat) (slot_index p.indices slot) p.entrance_pupil_diameter_mm k)) p.surface_count ++ drop
-    p.surface_count (replicate 16 zero64)
-    → hs ≡ tab (λ (k : ℕ). part (lens_ray p slot k)) p.surface_count ++ drop p.surface_count (replicate 16 zero64)
-heights-are p slot rest flat e part hs h = h ∙ λ i. tab-same _ _ p.surface_count agree i ++ drop p.surface_count (replicate 16 zero64)
-  where
-    agree : (k : ℕ) → k < p.surface_count → part (ray_at (flat_surface flat) (slot_index p.indices slot) p.entrance_pupil_diameter_mm k)
-        ≡ part (lens_ray p slot k)
-    agree k l =
-        ap part
-        (ap (λ (m : List Float). ray_at (flat_surface m) (slot_index p.indices slot) p.entrance_pupil_diameter_mm k) e
-        ∙ ray-same (flat_surface (laid_flat p.surfaces p.surface_count ++ rest)) (surface_at p.surfaces) (slot_index p.indices slot)
-        (slot_index p.indices slot) p.entrance_pupil_diameter_mm p.surface_count
-        (flat-laid p.surfaces p.surface_count rest) (λ i m. refl) k l)
+module _ (p : OpticalPrescription) (slot : ℕ) (rest flat : List Float) (e : flat ≡ laid_flat p.surfaces p.surface_count ++ rest)
+  (part : ParaxialRay → Float) where
+  agree : (k : ℕ) → k < p.surface_count → part (ray_at (flat_surface flat) (slot_index p.indices slot) p.entrance_pupil_diameter_mm k)
+      ≡ part (lens_ray p slot k)
+  agree k l =
+      ap part
+      (ap (λ (m : List Float). ray_at (flat_surface m) (slot_index p.indices slot) p.entrance_pupil_diameter_mm k) e
+      ∙ ray-same (flat_surface (laid_flat p.surfaces p.surface_count ++ rest)) (surface_at p.surfaces) (slot_index p.indices slot)
+      (slot_index p.indices slot) p.entrance_pupil_diameter_mm p.surface_count
+      (flat-laid p.surfaces p.surface_count rest) (λ i m. refl) k l)
+
+  pub heights-are : (lens : LaidLens) → lens.surfaces.flat.now ≡ flat → lens.surfaces.count ≡ p.surface_count → lens.indices.now ≡ p.indices
+      → lens.pupil ≡ p.entrance_pupil_diameter_mm → (hs : List Float)
+      → hs ≡ tab (λ (k : ℕ). part (ray_at (lens_surface lens) (lens_index lens slot) lens.pupil k)) lens.surfaces.count
+      ++ drop lens.surfaces.count (replicate 16 zero64)
+      → hs ≡ tab (λ (k : ℕ). part (lens_ray p slot k)) p.surface_count ++ drop p.surface_count (replicate 16 zero64)
+  heights-are lens f c x u hs h =
+      h
+      ∙ (λ i. tab (λ (k : ℕ). part (ray_at (flat_surface (f i)) (slot_index (x i) slot) (u i) k)) (c i) ++ drop (c i) (replicate 16 zero64))
+      ∙ (λ i. tab-same _ _ p.surface_count agree i ++ drop p.surface_count (replicate 16 zero64))
 
 -- heights and slopes make the lens's trace
 pub row-filled : (p : OpticalPrescription) (slot : ℕ) (rows : ℕ) → rows ≡ p.surface_count → (hs us rest rest' : List Float)
@@ -77,13 +84,6 @@ pub row-filled : (p : OpticalPrescription) (slot : ℕ) (rows : ℕ) → rows �
 row-filled p slot rows e hs us rest rest' h u =
     (λ i. rays_of (h i) (u i) (e i))
     ∙ rays-are (surface_at p.surfaces) (slot_index p.indices slot) p.entrance_pupil_diameter_mm p.surface_count rest rest'
-
-answer-refused : (n count : ℕ) → 0 < n → answer_of n count ≡ Err n
-answer-refused zero count h = absurd (no h)
-  where
-    no : 0 < 0 → ⊥
-    no h = omega arith
-answer-refused (suc n) count h = refl
 
 -- the answer, and the row that is left with it
 module _ (p : OpticalPrescription) (slot : ℕ) (old : List ParaxialRay) where
@@ -95,8 +95,7 @@ module _ (p : OpticalPrescription) (slot : ℕ) (old : List ParaxialRay) where
   pub trace-refused : (r : Refusal) → number_of r ≡ trace_number p slot (length old)
       → (Err (number_of r) ≡ trace_answer p slot (length old)) × (old ≡ traced_rays p slot old)
   trace-refused r e =
-      answered_as (Err (number_of r)) old
-      (ap (λ (n : ℕ). answer_of n p.surface_count) (sym e) ∙ answer-refused (number_of r) p.surface_count (number-distinct r).0) refl
+      answered_as (Err (number_of r)) old (sym (value-refused r _ _ e)) refl
 
   module _ (e : trace_number p slot (length old) ≡ 0) where
     pub trace-failed : p.surface_count < 2 → (Ok Failed ≡ trace_answer p slot (length old)) × (old ≡ traced_rays p slot old)

@@ -50,13 +50,8 @@ fn lens_evaluation(prescription: OpticalPrescription, function: MeritFunction) -
     ensures { result ≡ lens_evaluation prescription function }
 {
     let flat = laid(prescription.surfaces, prescription.surface_count);
-    evaluate_flat(
-        &flat,
-        &prescription.indices,
-        prescription.surface_count,
-        prescription.entrance_pupil_diameter_mm,
-        function,
-    )
+    let lens = prescription.laid(&flat);
+    evaluate_flat(&lens, function)
 }
 
 // The evaluation of a run before its first merit.
@@ -109,19 +104,11 @@ fn fill_trace(prescription: OpticalPrescription, slot: usize, rays: &mut [Paraxi
     requires { Traceable prescription slot (length rays.old) }
     ensures { rays.new ≡ lens_trace prescription slot }
 {
-    let count = prescription.surface_count;
-    let flat = laid(prescription.surfaces, count);
+    let flat = laid(prescription.surfaces, prescription.surface_count);
     let mut heights = [0.0; 16];
     let mut slopes = [0.0; 16];
-    optics::trace_heights(
-        &flat,
-        &prescription.indices,
-        slot,
-        count,
-        prescription.entrance_pupil_diameter_mm,
-        &mut heights,
-        &mut slopes,
-    );
+    let lens = prescription.laid(&flat);
+    lens.trace_heights(slot, &mut heights, &mut slopes);
     optics::fill_rays(rays, &heights, &slopes);
 }
 

@@ -1,12 +1,13 @@
 // The evaluation of a lens laid flat: every operand's value and residual, and the merit.
-ghost use Rattle.std.specs.Prelude.{◌≡◌, ◌*◌, ◌≤◌, length};
+ghost use Rattle.std.specs.Prelude.{◌≡◌, ◌≤◌};
 ghost use Rattle.floats.specs.Sqrt.{sqrt_of};
-ghost use Rattle.optics.specs.Types.{flat_surface, slot_index};
+ghost use Rattle.optics.specs.Laid.{lens_surface, lens_index};
 ghost use Rattle.merit.specs.Evaluation.{difference, counted_total, evaluation_of};
 ghost use Rattle.merit.specs.Steps.{RootKnown, SlotsKnown};
 
 use crate::operands::value_of;
 use merit::{MeritEvaluation, MeritFunction, MeritOperand, WeightRoot};
+use optics::LaidLens;
 
 // A value's distance from the operand's target, at most a million either way.
 #[tactic(auto, unfolding(merit::specs::Evaluation::difference))]
@@ -40,18 +41,12 @@ pub fn root_of(known: WeightRoot, weight: f64) -> WeightRoot
     }
 }
 
-// The evaluation of `count` surfaces laid flat, under the indices, the pupil and the operands of a job.
-pub(crate) fn evaluate_flat(
-    flat: &[f64],
-    indices: &[f64],
-    count: usize,
-    pupil: f64,
-    function: MeritFunction,
-) -> MeritEvaluation
-    requires { (4 * count ≤ length flat.now) × (4 * count ≤ length indices.now) × (function.operand_count ≤ 12) × SlotsKnown function }
-    ensures { result ≡ evaluation_of (flat_surface flat.now) (slot_index indices.now) pupil count function }
+// The evaluation of a laid lens under the operands of a job.
+pub(crate) fn evaluate_flat(lens: &LaidLens, function: MeritFunction) -> MeritEvaluation
+    requires { (function.operand_count ≤ 12) × SlotsKnown function }
+    ensures { result ≡ evaluation_of (lens_surface lens.now) (lens_index lens.now) lens.now.pupil lens.now.surfaces.count function }
 {
-    let slots = optics::paraxial_slots(flat, indices, count, pupil);
+    let slots = lens.paraxial_slots();
     let mut values = [0.0; 12];
     let mut residuals = [0.0; 12];
     let mut total = 0.0;
@@ -61,7 +56,7 @@ pub(crate) fn evaluate_flat(
     };
     for n in 0..function.operand_count {
         let o = function.operands[n];
-        let value = value_of(o.operand_type, slots, flat, count, values);
+        let value = value_of(o.operand_type, slots, &lens.surfaces, values);
         let d = difference_of(o, value);
         values[n] = value;
         known = root_of(known, o.weight);

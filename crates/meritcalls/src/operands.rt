@@ -1,13 +1,13 @@
 // The value of an operand, by the tests of `MeritOperand::evaluate`.
-ghost use Rattle.std.specs.Prelude.{cond, ◌≡◌, ℕ, ◌*◌, ◌<◌, ◌≤◌, length, get_or, Some, None};
-ghost use Rattle.optics.specs.Types.{flat_surface};
+ghost use Rattle.std.specs.Prelude.{cond, ◌≡◌, ℕ, ◌<◌, get_or, Some, None};
+ghost use Rattle.optics.specs.Laid.{laid_surface};
 ghost use Rattle.merit.specs.Operands.{finite_or, is_focal_length, is_magnified, focal_length, f_number, back_focus, magnification, track, shortfall, excess};
 ghost use Rattle.merit.specs.Operands.{counted, of_surface, edge_counted, value_of};
 
 use edges::edge_of;
 use floats::{abs, is_finite};
 use merit::OperandType;
-use optics::ParaxialProperties;
+use optics::{FlatSurfaces, ParaxialProperties};
 
 // A number where it is finite, else what counts in its place.
 #[tactic(auto, unfolding(merit::specs::Operands::finite_or))]
@@ -83,13 +83,12 @@ fn magnification_of(slot: Option<ParaxialProperties>) -> f64
 }
 
 // The thicknesses of surfaces laid flat, added in rising order.
-fn total_track(flat: &[f64], count: usize) -> f64
-    requires { 4 * count ≤ length flat.now }
-    ensures { result ≡ track (flat_surface flat.now) count }
+fn total_track(surfaces: &FlatSurfaces) -> f64
+    ensures { result ≡ track (laid_surface surfaces.now) surfaces.now.count }
 {
     let mut sum = 0.0;
-    for k in 0..count {
-        sum = sum + flat[4 * k + 2];
+    for k in 0..surfaces.count {
+        sum = sum + surfaces.flat[4 * k + 2];
     }
     sum
 }
@@ -128,12 +127,11 @@ fn slot_of(slots: [Option<ParaxialProperties>; 4], w: usize) -> Option<ParaxialP
 }
 
 // The thickness behind surface i, where there is such a surface.
-fn thickness_at(flat: &[f64], count: usize, i: usize) -> f64
-    requires { 4 * count ≤ length flat.now }
-    ensures { i < count → result ≡ (flat_surface flat.now i).thickness_mm }
+fn thickness_at(surfaces: &FlatSurfaces, i: usize) -> f64
+    ensures { i < surfaces.now.count → result ≡ (laid_surface surfaces.now i).thickness_mm }
 {
-    if i < count {
-        return flat[4 * i + 2];
+    if i < surfaces.count {
+        return surfaces.flat[4 * i + 2];
     }
     0.0
 }
@@ -162,27 +160,25 @@ fn edge_counted(limit: f64, edge: Option<f64>) -> f64
 pub fn value_of(
     kind: OperandType,
     slots: [Option<ParaxialProperties>; 4],
-    flat: &[f64],
-    count: usize,
+    surfaces: &FlatSurfaces,
     earlier: [f64; 12],
 ) -> f64
-    requires { 4 * count ≤ length flat.now }
-    ensures { result ≡ value_of earlier (λ (w : ℕ). get_or slots w None) (flat_surface flat.now) count kind }
+    ensures { result ≡ value_of earlier (λ (w : ℕ). get_or slots w None) (laid_surface surfaces.now) surfaces.now.count kind }
 {
     match kind {
         OperandType::EffectiveFocalLength(w) => counted_value(focal_length(slot_of(slots, w))),
         OperandType::WorkingFNumber(w) => counted_value(f_number(slot_of(slots, w))),
-        OperandType::TotalTrack => counted_value(total_track(flat, count)),
+        OperandType::TotalTrack => counted_value(total_track(surfaces)),
         OperandType::BackFocalLength(w) => counted_value(back_focus(slot_of(slots, w))),
         OperandType::ParaxialMagnification(w) => counted_value(magnification_of(slot_of(slots, w))),
         OperandType::MinCenterThickness {
             surface_index,
             min_thickness_mm,
         } => {
-            let thickness = thickness_at(flat, count, surface_index);
+            let thickness = thickness_at(surfaces, surface_index);
             of_surface(
                 surface_index,
-                count,
+                surfaces.count,
                 shortfall_of(thickness, min_thickness_mm),
             )
         }
@@ -190,12 +186,16 @@ pub fn value_of(
             surface_index,
             max_thickness_mm,
         } => {
-            let thickness = thickness_at(flat, count, surface_index);
-            of_surface(surface_index, count, excess_of(thickness, max_thickness_mm))
+            let thickness = thickness_at(surfaces, surface_index);
+            of_surface(
+                surface_index,
+                surfaces.count,
+                excess_of(thickness, max_thickness_mm),
+            )
         }
         OperandType::MinEdgeThickness {
             surface_index,
             min_edge_mm,
-        } => edge_counted(min_edge_mm, edge_of(flat, count, surface_index)),
+        } => edge_counted(min_edge_mm, edge_of(surfaces, surface_index)),
     }
 }

@@ -1,4 +1,4 @@
--- The lens: its values (`Types`), the trace (`Curvature`, `Trace`), what follows from it (`Properties`), refusal 3 (`Check`), surfaces laid flat (`Flat`);
+-- The lens: its values (`Types`), the trace (`Curvature`, `Trace`), what follows from it (`Properties`), refusal 3 (`Check`), surfaces laid flat (`Flat`, `Laid`);
 -- and laws on these for callers.
 pub mod Types
 pub mod Curvature
@@ -6,6 +6,7 @@ pub mod Trace
 pub mod Properties
 pub mod Check
 pub mod Flat
+pub mod Laid
 pub mod CheckLaws
 pub mod TraceLaws
 pub mod FlatLaws

@@ -51,12 +51,7 @@ pub fn indices_taken(indices: &[f64], slots: usize, count: usize) -> bool
     requires { (slots ≤ 4) × (4 * count ≤ length indices.now) }
     ensures { result ≡ indices_taken indices.now slots count }
 {
-    for i in 0..count {
-        if !row_taken(indices, i, slots) {
-            return false;
-        }
-    }
-    true
+    (0..count).all(|i| row_taken(indices, i, slots))
 }
 
 // Check 3: the pupil, and the surfaces and indices in use. The counts are checked before.

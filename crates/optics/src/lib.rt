@@ -5,6 +5,7 @@
 mod checks;
 mod flat;
 mod kept;
+mod lens;
 mod properties;
 mod rays;
 mod slots;
@@ -16,7 +17,7 @@ pub use checks::{
 };
 pub use flat::{lay_flat, surface_at};
 pub use kept::{kept_prescription, lens_counts_taken, zero_surface};
-pub use properties::{paraxial, paraxial_slots};
+pub use lens::{FlatSurfaces, LaidLens};
 pub use rays::fill_rays;
-pub use trace::{curvature_of, trace_heights};
+pub use trace::curvature_of;
 pub use types::{OpticalPrescription, OpticalSurface, ParaxialProperties, ParaxialRay};

@@ -1,29 +1,18 @@
 // Focal length, back focus and f-number of a wavelength slot, out of the rays at the last two surfaces.
-ghost use Rattle.std.specs.Prelude.{◌≡◌, ℕ, ◌*◌, ◌<◌, ◌≤◌, length};
+ghost use Rattle.std.specs.Prelude.{◌≡◌, ℕ, ◌<◌, ◌≤◌};
 ghost use Rattle.lists.specs.Tab.{tab};
-ghost use Rattle.optics.specs.Types.{flat_surface, slot_index};
-ghost use Rattle.optics.specs.Properties.{negligible, ends_in_detector, focus_of, properties_from, properties_behind, paraxial_of};
+ghost use Rattle.optics.specs.Laid.{lens_surface, lens_index, lens_paraxial};
+ghost use Rattle.optics.specs.Properties.{negligible, ends_in_detector, focus_of, properties_from, properties_behind};
 
-use crate::slots::last_rays;
+use crate::lens::LaidLens;
 use crate::trace::curvature_of;
 use crate::types::{LastRays, ParaxialProperties, ParaxialRay};
+use std::array;
 
 fn is_negligible(x: f64) -> bool
     ensures { result ≡ negligible x }
 {
     floats::abs(x) < 1e-12
-}
-
-// Whether the last surface is a detector.
-fn ends_in_detector(flat: &[f64], indices: &[f64], slot: usize, count: usize) -> bool
-    requires { (slot < 4) × (2 ≤ count) × (4 * count ≤ length flat.now) × (4 * count ≤ length indices.now) }
-    ensures { result ≡ ends_in_detector (flat_surface flat.now) (slot_index indices.now slot) count }
-{
-    let before = count - 2;
-    let last = count - 1;
-    is_negligible(indices[before * 4 + slot] - indices[last * 4 + slot])
-        && is_negligible(curvature_of(flat[4 * last]))
-        && flat[4 * last + 2] == 0.0
 }
 
 // How far behind its surface a ray meets the axis.
@@ -60,57 +49,49 @@ fn properties_from(
     }
 }
 
-// The properties of one slot, out of its rays at the last two surfaces.
-fn slot_properties(
-    rays: LastRays,
-    flat: &[f64],
-    indices: &[f64],
-    slot: usize,
-    count: usize,
-    pupil: f64,
-) -> ParaxialProperties
-    requires { (slot < 4) × (2 ≤ count) × (4 * count ≤ length flat.now) × (4 * count ≤ length indices.now) }
-    ensures { result ≡ properties_behind rays (flat_surface flat.now) (slot_index indices.now slot) pupil count }
-{
-    let back = if ends_in_detector(flat, indices, slot, count) {
-        rays.before
-    } else {
-        rays.last
-    };
-    properties_from(pupil * 0.5, pupil, rays.last, back)
-}
-
-// The properties of `count` surfaces laid flat, in every slot. Fewer than two surfaces are a failed trace, which has none.
-pub fn paraxial_slots(
-    flat: &[f64],
-    indices: &[f64],
-    count: usize,
-    pupil: f64,
-) -> [Option<ParaxialProperties>; 4]
-    requires { (4 * count ≤ length flat.now) × (4 * count ≤ length indices.now) }
-    ensures { result ≡ tab (λ (w : ℕ). paraxial_of (flat_surface flat.now) (slot_index indices.now w) pupil count) 4 }
-{
-    let mut slots = [None; 4];
-    if count < 2 {
-        return slots;
+impl LaidLens<'_> {
+    // Whether the last surface is a detector.
+    fn ends_in_detector(&self, slot: usize) -> bool
+        requires { (slot < 4) × (2 ≤ self.now.surfaces.count) }
+        ensures { result ≡ ends_in_detector (lens_surface self.now) (lens_index self.now slot) self.now.surfaces.count }
+    {
+        let flat = self.surfaces.flat;
+        let before = self.surfaces.count - 2;
+        let last = self.surfaces.count - 1;
+        is_negligible(self.indices[before * 4 + slot] - self.indices[last * 4 + slot])
+            && is_negligible(curvature_of(flat[4 * last]))
+            && flat[4 * last + 2] == 0.0
     }
-    let last = last_rays(flat, indices, count, pupil);
-    for w in 0..4 {
-        slots[w] = Some(slot_properties(last[w], flat, indices, w, count, pupil));
-    }
-    slots
-}
 
-// The same in one slot.
-pub fn paraxial(
-    flat: &[f64],
-    indices: &[f64],
-    slot: usize,
-    count: usize,
-    pupil: f64,
-) -> Option<ParaxialProperties>
-    requires { (slot < 4) × (4 * count ≤ length flat.now) × (4 * count ≤ length indices.now) }
-    ensures { result ≡ paraxial_of (flat_surface flat.now) (slot_index indices.now slot) pupil count }
-{
-    paraxial_slots(flat, indices, count, pupil)[slot]
+    // The properties of one slot, out of its rays at the last two surfaces.
+    fn slot_properties(&self, rays: LastRays, slot: usize) -> ParaxialProperties
+        requires { (slot < 4) × (2 ≤ self.now.surfaces.count) }
+        ensures { result ≡ properties_behind rays (lens_surface self.now) (lens_index self.now slot) self.now.pupil self.now.surfaces.count }
+    {
+        let back = if self.ends_in_detector(slot) {
+            rays.before
+        } else {
+            rays.last
+        };
+        properties_from(self.pupil * 0.5, self.pupil, rays.last, back)
+    }
+
+    // The properties in every slot. Fewer than two surfaces are a failed trace, which has none.
+    pub fn paraxial_slots(&self) -> [Option<ParaxialProperties>; 4]
+        ensures { result ≡ tab (lens_paraxial self.now) 4 }
+    {
+        if self.surfaces.count < 2 {
+            return [None; 4];
+        }
+        let last = self.last_rays();
+        array::from_fn(|w| Some(self.slot_properties(last[w], w)))
+    }
+
+    // The same in one slot.
+    pub fn paraxial(&self, slot: usize) -> Option<ParaxialProperties>
+        requires { slot < 4 }
+        ensures { result ≡ lens_paraxial self.now slot }
+    {
+        self.paraxial_slots()[slot]
+    }
 }

@@ -1,10 +1,11 @@
 // The paraxial trace of the marginal ray in one wavelength slot, over surfaces laid flat.
-ghost use Rattle.std.specs.Prelude.{◌≡◌, ◌++◌, ℕ, ◌+◌, ◌*◌, ◌<◌, ◌≤◌, length, drop};
+ghost use Rattle.std.specs.Prelude.{◌≡◌, ◌++◌, ℕ, ◌<◌, ◌≤◌, length, drop};
 ghost use Rattle.lists.specs.Tab.{tab};
-ghost use Rattle.optics.specs.Types.{flat_surface, slot_index};
+ghost use Rattle.optics.specs.Laid.{lens_surface, lens_index};
 ghost use Rattle.optics.specs.Curvature.{curvature};
 ghost use Rattle.optics.specs.Trace.{start, ray_behind, onward, ray_at};
 
+use crate::lens::LaidLens;
 use crate::types::ArrivingRay;
 
 // What stands in for `ConicSurface::from_radius`.
@@ -48,40 +49,34 @@ pub(crate) fn ray_behind(
     }
 }
 
-// The ray from surface k to the next, in one slot.
-fn next_ray(ray: ArrivingRay, flat: &[f64], indices: &[f64], slot: usize, k: usize) -> ArrivingRay
-    requires { (4 * k + 4 ≤ length flat.now) × (k * 4 + slot < length indices.now) }
-    ensures { result ≡ onward (flat_surface flat.now k) (slot_index indices.now slot k) ray }
-{
-    ray_behind(
-        ray,
-        curvature_of(flat[4 * k]),
-        flat[4 * k + 2],
-        indices[k * 4 + slot],
-    )
-}
+impl LaidLens<'_> {
+    // The ray from surface k to the next, in one slot.
+    fn next_ray(&self, ray: ArrivingRay, slot: usize, k: usize) -> ArrivingRay
+        requires { (slot < 4) × (k < self.now.surfaces.count) }
+        ensures { result ≡ onward (lens_surface self.now k) (lens_index self.now slot k) ray }
+    {
+        let flat = self.surfaces.flat;
+        ray_behind(
+            ray,
+            curvature_of(flat[4 * k]),
+            flat[4 * k + 2],
+            self.indices[k * 4 + slot],
+        )
+    }
 
-// Heights and slopes of the first `count` surfaces, as two slices; what stands past them stays.
-pub fn trace_heights(
-    flat: &[f64],
-    indices: &[f64],
-    slot: usize,
-    count: usize,
-    pupil: f64,
-    heights: &mut [f64],
-    slopes: &mut [f64],
-)
-    requires { (slot < 4) × (4 * count ≤ length flat.now) × (4 * count ≤ length indices.now) × (count ≤ length heights.old)
-        × (count ≤ length slopes.old) }
-    ensures heights_after { heights.new ≡ tab (λ (k : ℕ). (ray_at (flat_surface flat.now) (slot_index indices.now slot) pupil k).y) count
-        ++ drop count heights.old }
-    ensures slopes_after { slopes.new ≡ tab (λ (k : ℕ). (ray_at (flat_surface flat.now) (slot_index indices.now slot) pupil k).u) count
-        ++ drop count slopes.old }
-{
-    let mut ray = start_of(pupil);
-    for k in 0..count {
-        heights[k] = ray.y;
-        ray = next_ray(ray, flat, indices, slot, k);
-        slopes[k] = ray.u;
+    // Heights and slopes at the surfaces, as two slices; what stands past them stays.
+    pub fn trace_heights(&self, slot: usize, heights: &mut [f64], slopes: &mut [f64])
+        requires { (slot < 4) × (self.now.surfaces.count ≤ length heights.old) × (self.now.surfaces.count ≤ length slopes.old) }
+        ensures heights_after { heights.new ≡ tab (λ (k : ℕ). (ray_at (lens_surface self.now) (lens_index self.now slot) self.now.pupil k).y)
+            self.now.surfaces.count ++ drop self.now.surfaces.count heights.old }
+        ensures slopes_after { slopes.new ≡ tab (λ (k : ℕ). (ray_at (lens_surface self.now) (lens_index self.now slot) self.now.pupil k).u)
+            self.now.surfaces.count ++ drop self.now.surfaces.count slopes.old }
+    {
+        let mut ray = start_of(self.pupil);
+        for k in 0..self.surfaces.count {
+            heights[k] = ray.y;
+            ray = self.next_ray(ray, slot, k);
+            slopes[k] = ray.u;
+        }
     }
 }

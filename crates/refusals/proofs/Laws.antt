@@ -1,7 +1,7 @@
 -- A refusal's number says which it is, and what a call answers whether it is done: see `Distinct`. Assumes nothing.
-use Rattle.std.specs.Prelude.{◌≡◌, refl, true, cond, ℕ, ◌<◌, eqb, Result, Ok, Err, is_ok, ⊤}
+use Rattle.std.specs.Prelude.{◌≡◌, refl, true, cond, ℕ, zero, suc, ◌<◌, eqb, Result, Ok, Err, is_ok, ⊤}
 use Rattle.std.proofs.Common.{sym, ap, ◌∙◌, arith}
-use Rattle.refusals.specs.Numbers.{number_of, answered, Distinct}
+use Rattle.refusals.specs.Numbers.{number_of, answered, Distinct, value_unless}
 use Rattle.refusals.specs.declared.Refusal.{Refusal}
 use Rattle.refusals.specs.declared.Refusal.TheVariants.{BadCount, NoSuchPlace, BadLens, BadVariable, BadOperand, BadSetting, NoVariable, NoOperand}
 use Rattle.refusals.specs.declared.Refusal.TheVariants.{ShortScratch, Taken, Empty, Damaged, Finished, Unfinished, BadFollower, BadLimits}
@@ -85,3 +85,12 @@ same-answer a b e = sym (said-back a) ∙ ap said e ∙ said-back b
     said-back (Err Unfinished) = refl
     said-back (Err BadFollower) = refl
     said-back (Err BadLimits) = refl
+
+-- a refused call hands out its number, and another its value
+pub value-refused : {A : Type 0} (r : Refusal) (n : ℕ) (value : A) → number_of r ≡ n → Err (number_of r) ≡ value_unless n value
+value-refused r zero value e = absurd (omega (arith, nonzero r, e))
+value-refused r (suc n) value e = ap Err e
+
+pub value-given : {A : Type 0} (n : ℕ) (value value' : A) → 0 ≡ n → value' ≡ value → Ok value' ≡ value_unless n value
+value-given zero value value' e h = ap Ok h
+value-given (suc n) value value' e h = absurd (omega (arith, e))

@@ -1,5 +1,5 @@
 -- The number of each refusal, and what a call answers: 0 where it is done. Definitions only; that the number says which refusal it is, is proved in `Laws`.
-use Rattle.std.specs.Prelude.{◌≡◌, ℕ, ◌<◌, Result, Ok, Err}
+use Rattle.std.specs.Prelude.{◌≡◌, ℕ, zero, suc, ◌<◌, Result, Ok, Err}
 use Rattle.refusals.specs.declared.Refusal.{Refusal}
 use Rattle.refusals.specs.declared.Refusal.TheVariants.{BadCount, NoSuchPlace, BadLens, BadVariable, BadOperand, BadSetting, NoVariable, NoOperand}
 use Rattle.refusals.specs.declared.Refusal.TheVariants.{ShortScratch, Taken, Empty, Damaged, Finished, Unfinished, BadFollower, BadLimits}
@@ -34,3 +34,8 @@ Distinct refusal = (0 < number_of refusal) × ((other : Refusal) → number_of o
 abbrev pub numbered : {A : Type 0} → Result A Refusal → Result A ℕ
 numbered (Ok done) = Ok done
 numbered (Err refusal) = Err (number_of refusal)
+
+-- what a call hands out, or its number where it is refused
+abbrev pub value_unless : {A : Type 0} → (number : ℕ) → A → Result A ℕ
+value_unless zero value = Ok value
+value_unless (suc n) value = Err (suc n)

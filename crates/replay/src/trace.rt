@@ -66,11 +66,5 @@ fn paraxial(prescription: OpticalPrescription, slot: usize) -> Option<ParaxialPr
     }
     let mut flat = [0.0; 64];
     optics::lay_flat(prescription.surfaces, count, &mut flat);
-    optics::paraxial(
-        &flat,
-        &prescription.indices,
-        slot,
-        count,
-        prescription.entrance_pupil_diameter_mm,
-    )
+    prescription.laid(&flat).paraxial(slot)
 }

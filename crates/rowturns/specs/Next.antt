@@ -1,5 +1,6 @@
 -- What the next turn of a row works out. Definitions only.
-use Rattle.std.specs.Prelude.{ℕ, zero, suc, Result, Ok, Err}
+use Rattle.std.specs.Prelude.{ℕ, Result}
+use Rattle.refusals.specs.Numbers.{value_unless}
 use Rattle.normal.specs.Layout.{scratch_length}
 use Rattle.runs.specs.declared.types.Row.{Row}
 use Rattle.runs.specs.Rows.{job_of_row, pending_surfaces}
@@ -7,14 +8,9 @@ use Rattle.runs.specs.JobMerit.{evaluate_of}
 use Rattle.rows.specs.Calls.{turn_row_number}
 use Rattle.rowturns.specs.declared.types.Pending.{Pending}
 
--- the turn's number where it is refused
-abbrev pub pending_unless : (number : ℕ) → Pending → Result Pending ℕ
-pending_unless zero p = Ok p
-pending_unless (suc n) p = Err (suc n)
-
 -- the surfaces whose merit a turn works out, and that merit
 abbrev pub next_of : Row → Pending
 next_of r = record { surfaces = pending_surfaces r; merit = (evaluate_of (job_of_row r) (pending_surfaces r)).total_merit }
 
 unfoldable pub pending_of : Row → Result Pending ℕ
-pending_of r = pending_unless (turn_row_number scratch_length r) (next_of r)
+pending_of r = value_unless (turn_row_number scratch_length r) (next_of r)

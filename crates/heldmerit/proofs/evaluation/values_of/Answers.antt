@@ -24,10 +24,10 @@ use Rattle.held.specs.JobFrom.{held_job}
 use Rattle.heldmerit.proofs.Over.{all-stand, value-next}
 use Rattle.heldmerit.proofs.evaluation.values_of.Goals as goal
 
-pub paraxial_slots-slots-requires : goal.paraxial_slots-slots-requires
-paraxial_slots-slots-requires c =
-    let e = ap length c.indices-indices.ensures ∙ indices-long c.args.job.now.numbers in
-    (omega (arith, c.surface_count-count.ensures), omega (arith, e, c.surface_count-count.ensures))
+pub invariant_of-lens-2 : goal.invariant_of-lens-2
+invariant_of-lens-2 c =
+    let e = ap length c.indices.ensures ∙ indices-long c.args.job.now.numbers in
+    omega (arith, e, c.surface_count-count.ensures)
 
 pub loop-n-init : goal.loop-n-init
 unfolding tab
@@ -38,7 +38,7 @@ loop-n-init c =
     (surface_count_from x.job.now.counts) in
     let traced : c.paraxial_slots-slots.result ≡ tab trace 4 =
     c.paraxial_slots-slots.ensures
-    ∙ (λ i. tab (λ (w : ℕ). paraxial_of (flat_surface x.flat.now) (slot_index (c.indices-indices.ensures i) w) (c.pupil.ensures i)
+    ∙ (λ i. tab (λ (w : ℕ). paraxial_of (flat_surface x.flat.now) (slot_index (c.indices.ensures i) w) (c.pupil.ensures i)
     (c.surface_count-count.ensures i)) 4) in (
       refl,
       c.operand_count-many.ensures,

@@ -7,8 +7,7 @@ use lib.Ieee.{Float}
 use lib.ListN.{get_or}
 use Rattle.floatlaws.specs.CallerLaws.{root-one}
 use Rattle.lists.specs.Tab.{get_or-tab}
-use Rattle.optics.specs.Properties.{paraxial_of}
-use Rattle.optics.specs.Types.{flat_surface, slot_index}
+use Rattle.optics.specs.Laid.{lens_surface, lens_index, lens_paraxial}
 use Rattle.std.specs.Prelude.{Option, None}
 use Rattle.optics.specs.declared.types.ParaxialProperties.{ParaxialProperties}
 use Rattle.merit.specs.Evaluation.{values_after, value_at}
@@ -32,17 +31,17 @@ loop-n-preserved c =
     let more : l.n < a.function.operand_count = omega arith in
     let room : l.n < 12 = omega arith in
     let traced : (w : ℕ) → w < 4 → get_or slots.result w None
-    ≡ paraxial_of (flat_surface a.flat.now) (slot_index a.indices.now w) a.pupil a.count =
+    ≡ lens_paraxial a.lens.now w =
     λ w h. ap (λ (s : List (Option ParaxialProperties)). get_or s w None) slots.ensures ∙ get_or-tab _ 4 w None h in
-    let surface = flat_surface a.flat.now in
-    let index = slot_index a.indices.now in
-    let earlier : l.values ≡ values_after surface index a.pupil a.count a.function l.n =
-    laid surface index a.pupil a.count a.function _ _ l.values l.residuals l.total l.n l.invariant.0 refl room
-    ∙ sym (values-after surface index a.pupil a.count a.function l.n (omega arith)) in
-    let v : turn.value_of-value.result ≡ value_at surface index a.pupil a.count a.function l.n =
+    let surface = lens_surface a.lens.now in
+    let index = lens_index a.lens.now in
+    let earlier : l.values ≡ values_after surface index a.lens.now.pupil a.lens.now.surfaces.count a.function l.n =
+    laid surface index a.lens.now.pupil a.lens.now.surfaces.count a.function _ _ l.values l.residuals l.total l.n l.invariant.0 refl room
+    ∙ sym (values-after surface index a.lens.now.pupil a.lens.now.surfaces.count a.function l.n (omega arith)) in
+    let v : turn.value_of-value.result ≡ value_at surface index a.lens.now.pupil a.lens.now.surfaces.count a.function l.n =
     turn.value_of-value.ensures
-    ∙ ap (λ (z : List Float). value_of z (λ (w : ℕ). get_or slots.result w None) surface a.count (operand_at a.function l.n).operand_type) earlier
-    ∙ value_same _ _ _ _ _ _ (start.requires.3 l.n more) (traced _) in
+    ∙ ap (λ (z : List Float). value_of z (λ (w : ℕ). get_or slots.result w None) surface a.lens.now.surfaces.count (operand_at a.function l.n).operand_type) earlier
+    ∙ value_same _ _ _ _ _ _ (start.requires.1 l.n more) (traced _) in
     let d = turn.difference_of-d.ensures in
     let root = turn.root_of-known.ensures in
     (next _ _ _ _ _ _ _ l.values l.residuals l.total l.n more _ _ _ room room v (residual-is _ v d root.0) (term_is _ v d) l.invariant.0, root.1)

@@ -15,5 +15,5 @@ loop-k-preserved c = rw (add-one, ← c.loop-k.invariant)
 
 pub returns : goal.returns
 returns c =
-    let e : c.loop-k.k ≡ c.args.count = omega arith in
+    let e : c.loop-k.k ≡ c.args.surfaces.now.count = omega arith in
     rw e at c.loop-k.invariant

@@ -1,26 +1,14 @@
--- `optics::checks::indices_taken` meets its contract. The loop's invariant: the indices of every surface passed are taken. Assumes nothing.
-use mathlib.Core.Path.{◌≡◌, refl, sym, ◌∙◌}
-use Rattle.lists.specs.All.{all_below, all_more, not-all}
+-- `optics::checks::indices_taken` meets its contract. Assumes nothing.
+use Rattle.std.proofs.Common.{Bool, ℕ, sym, ◌∙◌, refl, arith, rules, tests}
+use Rattle.std.proofs.lemmas.Iterator.{YieldsList-from_range}
+use Rattle.std.proofs.lemmas.Iterator.Search.{all_from_yields_List}
+use Rattle.lists.specs.All.{all-counted}
 use Rattle.optics.specs.Check.{row_taken}
-use native.Mathlib.Omega.{arith}
 use Rattle.optics.proofs.checks.indices_taken.Goals as goal
-
-pub loop-i-init : goal.loop-i-init
-unfolding all_below
-loop-i-init c = refl
-
-pub returns-then-not-row_taken : goal.returns-then-not-row_taken
-returns-then-not-row_taken c =
-    let a = c.args in
-    sym (not-all (row_taken a.indices.now a.slots) _ c.loop-i.i (omega arith)
-    (sym c.row_taken.ensures ∙ c.if-not-row_taken.true))
-
-pub loop-i-preserved : goal.loop-i-preserved
-loop-i-preserved c =
-    let a = c.args in
-    all_more (row_taken a.indices.now a.slots) _ c.loop-i.invariant (sym c.row_taken.ensures ∙ c.if-not-row_taken.false)
 
 pub returns : goal.returns
 returns c =
-    let e : c.loop-i.i ≡ c.args.count = omega arith in
-    sym (rw e at c.loop-i.invariant)
+    let a = c.args in
+    let taken : ℕ → Bool = row_taken a.indices.now a.slots in
+    all_from_yields_List taken _ _ _ c.all.ensures.ran (YieldsList-from_range 0 a.count a.count refl (omega arith)) (λ x b q k. search (rules, tests))
+    ∙ sym (all-counted taken a.count)

@@ -1,4 +1,4 @@
--- `optics::properties::paraxial` meets its contract. Assumes nothing.
+-- `LaidLens::paraxial` meets its contract. Assumes nothing.
 use mathlib.Core.Path.{ap, ◌∙◌}
 use mathlib.Core.List.{List}
 use lib.ListN.{get_or}
@@ -6,7 +6,7 @@ use Rattle.lists.specs.Tab.{get_or-tab}
 use Rattle.std.specs.Prelude.{Option, None}
 use Rattle.optics.specs.declared.types.ParaxialProperties.{ParaxialProperties}
 use Rattle.std.proofs.Common.{rules}
-use Rattle.optics.proofs.properties.paraxial.Goals as goal
+use Rattle.optics.proofs.lens.LaidLens.paraxial.Goals as goal
 
 pub returns : goal.returns
 returns c =
