@@ -55,7 +55,7 @@ pub struct Head {
     pub total_merit: f64,
     pub initial_merit: f64,
     pub damping: f64,
-    // 0 first, 1 plus, 2 minus, 3 candidate, 4 finished; in annealing also 5 walk first and 6 walk. Numbers, since a row may hold any.
+    // One of `phases`, or any other number that a row may hold.
     pub phase: u64,
     pub iteration: u64,
     pub column: u64,
