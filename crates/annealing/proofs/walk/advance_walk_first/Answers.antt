@@ -11,7 +11,7 @@ use Rattle.annealing.proofs.walk.advance_walk_first.Goals as goal
 pub returns-then-is_first_cycle : goal.returns-then-is_first_cycle
 unfolding advance_at resume_cycles
 returns-then-is_first_cycle c = let x = c.args in
-    let base = standing x.surfaces.now in
+    let base = standing x.run.now.surfaces in
     λ a ec ev h e em. c.at_step.ensures a ev x.surfaces.now _
     ∙ ap (λ (w : Walk). at_step a x.merit w 0 0) (c.started-w.ensures
     a ec ev e em)
@@ -24,7 +24,7 @@ pub returns : goal.returns
 unfolding advance_at resume_cycles
 returns c =
     let x = c.args in
-    let base = standing x.surfaces.now in
+    let base = standing x.run.now.surfaces in
     λ a ec ev h e em. c.at_polish.ensures
     ∙ ap (λ (w : Walk). at_polish x.merit (at_first w.best_surfaces))
     (c.started-w.ensures a ec ev e em)
