@@ -26,7 +26,9 @@ pub(crate) fn at_step(
         state_from result run.new best.new ≡ at_step a initial_merit (walk_from w run.old best.old) c k) }
 {
     let drawn = draws::trial_params(w.rng, job, run.params);
-    run.candidate = drawn.params;
+    // By a variable: the borrow checker takes no array of another value straight into a field.
+    let trial = drawn.params;
+    run.candidate = trial;
     let damped = dls::holding(phases::WALK, run);
     best.values = [0.0; 12];
     best.residuals = [0.0; 12];

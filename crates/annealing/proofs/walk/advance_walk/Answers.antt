@@ -25,9 +25,9 @@ returns-then-has_next c =
     let im = x.h.best.initial_merit in
     let j : Annealer → MeritEvaluation → Walk =
     λ a e. judged a x.run.now.candidate e (walk_of (state_from x.h x.run.now x.best.now)) in
-    λ a ec ev e em. c.at_step.ensures a ev _ _
+    λ a ec ev e em. c.at_step.ensures a ev
     ∙ ap (λ (w : Walk). at_step a im w x.h.cycle (x.h.step + 1))
-    (c.judged-next.ensures a ev e em)
+    (c.judged-next.ensures.fact_1 a ev e em)
     ∙ ap (λ (k : ℕ). at_step a im (j a e) x.h.cycle k) (add-one x.h.step)
     ∙ ap (λ (t : Bool). resume_steps a t im (j a e) x.h.cycle (suc x.h.step))
     (sym (ap (λ (k : SimulatedAnnealingConfig). ltb (suc x.h.step) k.steps_per_temperature) ec
@@ -43,7 +43,7 @@ returns c =
     λ a e. judged a x.run.now.candidate e (walk_of (state_from x.h x.run.now x.best.now)) in
     λ a ec ev e em. c.next_cycle.ensures a ec ev (suc x.h.step)
     ∙ ap (λ (w : Walk). resume_steps a false im w x.h.cycle (suc x.h.step))
-    (c.judged-next.ensures a ev e em)
+    (c.judged-next.ensures.fact_1 a ev e em)
     ∙ ap (λ (t : Bool). resume_steps a t im (j a e) x.h.cycle (suc x.h.step))
     (sym (ap (λ (k : SimulatedAnnealingConfig). ltb (suc x.h.step) k.steps_per_temperature) ec
     ∙ sym c.has_next.ensures

@@ -12,9 +12,8 @@ pub returns-then-is_first_cycle : goal.returns-then-is_first_cycle
 unfolding advance_at resume_cycles
 returns-then-is_first_cycle c = let x = c.args in
     let base = standing x.run.now.surfaces in
-    λ a ec ev h e em. c.at_step.ensures a ev x.surfaces.now _
-    ∙ ap (λ (w : Walk). at_step a x.merit w 0 0) (c.started-w.ensures
-    a ec ev e em)
+    λ a ec ev h e em. c.at_step.ensures a ev
+    ∙ ap (λ (w : Walk). at_step a x.merit w 0 0) (c.started-w.ensures.fact_1 a ec ev e em)
     ∙ ap (λ (y : Float). at_step a y (started a base e) 0 0) (sym em)
     ∙ ap (λ (t : Bool). resume_cycles a t e.total_merit (started a base e) 0)
     (sym (sym (c.is_first_cycle.ensures a ec)
@@ -27,7 +26,7 @@ returns c =
     let base = standing x.run.now.surfaces in
     λ a ec ev h e em. c.at_polish.ensures
     ∙ ap (λ (w : Walk). at_polish x.merit (at_first w.best_surfaces))
-    (c.started-w.ensures a ec ev e em)
+    (c.started-w.ensures.fact_1 a ec ev e em)
     ∙ ap (λ (y : Float). at_polish y (at_first base)) (sym em)
     ∙ ap (λ (t : Bool). resume_cycles a t e.total_merit (started a base e) 0)
     (sym (sym (c.is_first_cycle.ensures a ec)
