@@ -43,7 +43,7 @@ unfolding Annealing.pending Annealing.pending_at
 returns-in_default c =
     let x = c.args in
     let p = c.pending_damped.ensures in record {
-      fact_1 = λ a ev best. p.fact_1 a.operand_count j v r e
+      fact_1 = λ a ev best. p.fact_1 a.operand_count
           ∙ (λ i. Damped.pending (optimizer (c.polish_settings.ensures i) (sym ev i) a.operand_count)
           (damped_from x.h.damped x.run.now))
           ∙ ap (λ (f : Annealing.Phase). Annealing.pending_at a f (state_from x.h x.run.now best))

@@ -31,7 +31,7 @@ returns-in-1-clause-fact_1 c = λ best.
     let x = c.args in
     let lo : 1 ≤ x.kind = omega arith in
     let hi : x.kind ≤ 2 = omega arith in
-    c.pending_damped.ensures.fact_1 (operand_count_from x.job.now.counts) j v r e
+    c.pending_damped.ensures.fact_1 (operand_count_from x.job.now.counts)
     ∙ ap (λ (k : DlsConfig). Damped.pending (optimizer k (variables_from x.job.now.counts x.job.now.numbers) (operand_count_from x.job.now.counts))
     (damped_from x.h.damped x.run.now)) c.dls_config.ensures
     ∙ damped-or-trial x.kind (settings_from x.job.now.counts x.job.now.numbers) (held_job x.job.now.counts x.job.now.numbers x.kind)

@@ -66,7 +66,7 @@ returns c =
     let state =
     state_from x.h x.run.now x.best.now in
     let pending =
-    laid.ensures.fact_1 x.jacobian.now x.values.now x.residuals.now x.plus_residuals.now x.best.now in
+    laid.ensures.fact_1 x.best.now in
     let a = c.advance_run.ensures in record {
       fact_1 = a.fact_1 x.kind (standing l) found ∙ ap (λ (p : Surfaces). advance_by job.method job state (evaluate_of job p)) pending;
       fact_2 = kept_on (behind-kept laid.ensures.fact_2) a.fact_2;
