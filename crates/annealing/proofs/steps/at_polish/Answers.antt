@@ -13,6 +13,5 @@ use Rattle.annealing.proofs.steps.at_polish.Goals as goal
 
 pub returns : goal.returns
 returns c = let x = c.args in
-    ap (λ (d : DampedState). with_best d (kept (standing (replicate 64 zero64)) x.initial_merit zero64))
-    (c.at_first-damped.ensures x.best_surfaces.now)
-    ∙ ap (λ (s : Surfaces). with_best (at_first (standing x.best_surfaces.now)) (kept s x.initial_merit zero64)) standing-zero
+    ap (λ (d : DampedState). with_best d (kept (standing (replicate 64 zero64)) x.initial_merit zero64)) c.at_first-damped.ensures
+    ∙ ap (λ (s : Surfaces). with_best (at_first (standing x.best.now.surfaces)) (kept s x.initial_merit zero64)) standing-zero

@@ -33,9 +33,9 @@ module _ (a : Annealer) (w : Walk) (initial_merit : Float) (c k : ℕ) where
   at-step e t n = λ i. drawn w initial_merit c k ((e ∙ ap (holding 6 w.surfaces w.params) t) i) (n i)
 
 pub returns : goal.returns
-returns c = λ a ev s bs.
+returns c = λ a ev.
     let x = c.args in
     let t = c.trial_params-drawn in
-    let w = walk_from x.w s x.params.now bs in
-    at-step a w x.initial_merit x.c x.k (c.holding-damped.ensures s x.params.now t.result.params) (t.ensures.0 a w ev refl refl)
+    let w = walk_from x.w x.run.now x.best.now in
+    at-step a w x.initial_merit x.c x.k c.holding-damped.ensures (t.ensures.0 a w ev refl refl)
     (t.ensures.1 ∙ ap (λ (v : VariableSet). step_times (num_active v) x.w.rng) (sym ev))

@@ -24,11 +24,10 @@ returns-then-has_next c =
     let x = c.args in
     let im = x.h.best.initial_merit in
     let j : Annealer → MeritEvaluation → Walk =
-    λ a e. judged a x.candidate.now e (walk_of (state_from x.h x.surfaces.now x.jacobian.now x.values.now x.residuals.now
-    x.plus_residuals.now x.params.now x.candidate.now x.best_surfaces.now x.best_values.now x.best_residuals.now)) in
-    λ a ec ev e em. c.at_step.ensures a ev _ _
+    λ a e. judged a x.run.now.candidate e (walk_of (state_from x.h x.run.now x.best.now)) in
+    λ a ec ev e em. c.at_step.ensures a ev
     ∙ ap (λ (w : Walk). at_step a im w x.h.cycle (x.h.step + 1))
-    (c.judged-next.ensures a ev e em)
+    (c.judged-next.ensures.fact_1 a ev e em)
     ∙ ap (λ (k : ℕ). at_step a im (j a e) x.h.cycle k) (add-one x.h.step)
     ∙ ap (λ (t : Bool). resume_steps a t im (j a e) x.h.cycle (suc x.h.step))
     (sym (ap (λ (k : SimulatedAnnealingConfig). ltb (suc x.h.step) k.steps_per_temperature) ec
@@ -41,11 +40,10 @@ returns c =
     let x = c.args in
     let im = x.h.best.initial_merit in
     let j : Annealer → MeritEvaluation → Walk =
-    λ a e. judged a x.candidate.now e (walk_of (state_from x.h x.surfaces.now x.jacobian.now x.values.now x.residuals.now
-    x.plus_residuals.now x.params.now x.candidate.now x.best_surfaces.now x.best_values.now x.best_residuals.now)) in
+    λ a e. judged a x.run.now.candidate e (walk_of (state_from x.h x.run.now x.best.now)) in
     λ a ec ev e em. c.next_cycle.ensures a ec ev (suc x.h.step)
     ∙ ap (λ (w : Walk). resume_steps a false im w x.h.cycle (suc x.h.step))
-    (c.judged-next.ensures a ev e em)
+    (c.judged-next.ensures.fact_1 a ev e em)
     ∙ ap (λ (t : Bool). resume_steps a t im (j a e) x.h.cycle (suc x.h.step))
     (sym (ap (λ (k : SimulatedAnnealingConfig). ltb (suc x.h.step) k.steps_per_temperature) ec
     ∙ sym c.has_next.ensures

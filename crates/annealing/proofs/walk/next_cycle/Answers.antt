@@ -21,8 +21,8 @@ overflow_add-c c = let x = c.args in
 pub returns-then-is_next_cycle : goal.returns-then-is_next_cycle
 unfolding resume_steps resume_cycles
 returns-then-is_next_cycle c = let x = c.args in
-    let w = walk_from x.w x.surfaces.now x.params.now x.best_surfaces.now in
-    λ a ec ev k. c.at_step.ensures a ev x.surfaces.now x.best_surfaces.now
+    let w = walk_from x.w x.run.now x.best.now in
+    λ a ec ev k. c.at_step.ensures a ev
     ∙ (λ i. at_step a x.initial_merit (cooled (sym ec i).cooling_rate w) (add-one x.c i) 0)
     ∙ ap (λ (t : Bool). resume_cycles a t x.initial_merit (cooled a.config.cooling_rate w) (suc x.c))
     (sym (sym (c.is_next_cycle.ensures a ec)
@@ -31,7 +31,7 @@ returns-then-is_next_cycle c = let x = c.args in
 pub returns : goal.returns
 unfolding resume_steps resume_cycles
 returns c = let x = c.args in
-    let w = walk_from x.w x.surfaces.now x.params.now x.best_surfaces.now in
+    let w = walk_from x.w x.run.now x.best.now in
     λ a ec ev k. c.at_polish.ensures
     ∙ ap (λ (t : Bool). resume_cycles a t x.initial_merit (cooled a.config.cooling_rate w) (suc x.c))
     (sym (sym (c.is_next_cycle.ensures a ec)

@@ -12,22 +12,20 @@ pub returns-then-gain-config : goal.returns-then-gain-config
 returns-then-gain-config c = λ k lens w em m.
     let x = c.args in
     accepted-over (optimizer x.config (variables_from x.job.now.counts x.job.now.numbers) m)
-    (damped_from x.h x.surfaces.now x.jacobian.now x.values.now x.residuals.now x.plus_residuals.now x.params.now
-    x.candidate.now) (evaluate_of (held_job x.job.now.counts x.job.now.numbers k) lens)
+    (damped_from x.h x.run.now) (evaluate_of (held_job x.job.now.counts x.job.now.numbers k) lens)
     c.requires.fact_3
     (c.rel_improvement-gain.ensures
     ∙ ap (λ (y : Float). relative_gain y x.h.total_merit) (sym em))
-    (c.moved-next.ensures k lens w em x.config m x.jacobian.now x.plus_residuals.now)
-    c.if-gain-config.true (c.ended.ensures _ _ _)
+    (c.moved-next.ensures k lens w em x.config m)
+    c.if-gain-config.true c.ended.ensures
 
 pub returns : goal.returns
 returns c = λ k lens w em m.
     let x = c.args in
     accepted-on (optimizer x.config (variables_from x.job.now.counts x.job.now.numbers) m)
-    (damped_from x.h x.surfaces.now x.jacobian.now x.values.now x.residuals.now x.plus_residuals.now x.params.now
-    x.candidate.now) (evaluate_of (held_job x.job.now.counts x.job.now.numbers k) lens)
+    (damped_from x.h x.run.now) (evaluate_of (held_job x.job.now.counts x.job.now.numbers k) lens)
     c.requires.fact_3
     (c.rel_improvement-gain.ensures
     ∙ ap (λ (y : Float). relative_gain y x.h.total_merit) (sym em))
-    (c.moved-next.ensures k lens w em x.config m x.jacobian.now x.plus_residuals.now)
-    c.if-gain-config.false (c.resume_iterations.ensures _ _ _)
+    (c.moved-next.ensures k lens w em x.config m)
+    c.if-gain-config.false c.resume_iterations.ensures

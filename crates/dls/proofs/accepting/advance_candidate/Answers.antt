@@ -16,8 +16,7 @@ pub returns-then-is_reduction : goal.returns-then-is_reduction
 returns-then-is_reduction c =
     let x = c.args in record {
       fact_1 = λ k lens w. candidate-taken (optimizer x.config (variables_from x.job.now.counts x.job.now.numbers) (operand_count_from x.job.now.counts))
-          (damped_from x.h x.surfaces.now x.jacobian.now x.values.now x.residuals.now x.plus_residuals.now x.params.now
-          x.candidate.now) (evaluate_of (held_job x.job.now.counts x.job.now.numbers k) lens)
+          (damped_from x.h x.run.now) (evaluate_of (held_job x.job.now.counts x.job.now.numbers k) lens)
           (c.is_reduction.ensures
           ∙ ap (λ (y : Float). finite_of y && lt y x.h.total_merit)
           (merit-held _ _ _ c.merit_of-merit.ensures k lens w))
@@ -33,11 +32,10 @@ returns c =
     let x = c.args in
     let a = c.resume_rejected.ensures in record {
       fact_1 = λ k lens w. candidate-left (optimizer x.config (variables_from x.job.now.counts x.job.now.numbers) (operand_count_from x.job.now.counts))
-          (damped_from x.h x.surfaces.now x.jacobian.now x.values.now x.residuals.now x.plus_residuals.now x.params.now
-          x.candidate.now) (evaluate_of (held_job x.job.now.counts x.job.now.numbers k) lens)
+          (damped_from x.h x.run.now) (evaluate_of (held_job x.job.now.counts x.job.now.numbers k) lens)
           (c.is_reduction.ensures
           ∙ ap (λ (y : Float). finite_of y && lt y x.h.total_merit)
           (merit-held _ _ _ c.merit_of-merit.ensures k lens w))
-          c.if-is_reduction.false (a.fact_1 x.config x.surfaces.now x.values.now);
+          c.if-is_reduction.false (a.fact_1 x.config);
       fact_2 = a.fact_2;
     }

@@ -4,7 +4,6 @@ use Rattle.variables.proofs.CallerLaws.{active-le}
 use Rattle.held.specs.JobFrom.{operand_count_from, variables_from}
 use Rattle.held.specs.RowFrom.{damped_from}
 use Rattle.dls.proofs.Kept.{kept-equations, kept_on}
-use mathlib.Core.List.{[]}
 use Rattle.dls.proofs.Trying.{rejected-on}
 use Rattle.dls.proofs.attempts.resume_rejected.Goals as goal
 
@@ -20,9 +19,9 @@ returns c =
     let e = rw c.operand_count-m.ensures at
     c.normal_equations-norm.ensures in
     let a = c.resume_attempts.ensures in record {
-      fact_1 = λ config s v. rejected-on config (variables_from x.job.now.counts x.job.now.numbers) (operand_count_from x.job.now.counts)
-          (damped_from x.h s x.jacobian.now v x.residuals.now x.plus_residuals.now x.params.now x.candidate.now)
+      fact_1 = λ config. rejected-on config (variables_from x.job.now.counts x.job.now.numbers) (operand_count_from x.job.now.counts)
+          (damped_from x.h x.run.now)
           c.num_active-p.ensures e
-          c.raise.ensures (a s v x.residuals.now);
-      fact_2 = kept_on (kept-equations e) (a [] [] []).kept;
+          c.raise.ensures a;
+      fact_2 = kept_on (kept-equations e) a.kept;
     }

@@ -4,7 +4,6 @@ use Rattle.variables.proofs.CallerLaws.{active-le}
 use Rattle.held.specs.JobFrom.{operand_count_from, variables_from}
 use Rattle.held.specs.RowFrom.{damped_from}
 use Rattle.dls.proofs.Kept.{kept-equations, kept_on}
-use mathlib.Core.List.{[]}
 use mathlib.Core.Path.{refl}
 use Rattle.dls.proofs.Trying.{stationary-over, stationary-on}
 use Rattle.dls.proofs.attempts.resume_stationary.Goals as goal
@@ -20,11 +19,11 @@ returns-then-is_stationary c =
     let x = c.args in
     let e = rw c.operand_count-m.ensures at
     c.normal_equations-norm.ensures in record {
-      fact_1 = λ s v. stationary-over x.config (variables_from x.job.now.counts x.job.now.numbers) (operand_count_from x.job.now.counts)
-          (damped_from x.h s x.jacobian.now v x.residuals.now x.plus_residuals.now x.params.now x.candidate.now)
+      fact_1 = stationary-over x.config (variables_from x.job.now.counts x.job.now.numbers) (operand_count_from x.job.now.counts)
+          (damped_from x.h x.run.now)
           c.num_active-p.ensures e
           c.is_stationary.ensures c.if-is_stationary.true
-          (c.ended.ensures s v x.residuals.now);
+          c.ended.ensures;
       fact_2 = kept-equations e;
     }
 
@@ -35,10 +34,10 @@ returns c =
     c.operand_count-m.ensures at
     c.normal_equations-norm.ensures in
     let a = c.resume_attempts.ensures in record {
-      fact_1 = λ s v. stationary-on x.config (variables_from x.job.now.counts x.job.now.numbers) (operand_count_from x.job.now.counts)
-          (damped_from x.h s x.jacobian.now v x.residuals.now x.plus_residuals.now x.params.now x.candidate.now)
+      fact_1 = stationary-on x.config (variables_from x.job.now.counts x.job.now.numbers) (operand_count_from x.job.now.counts)
+          (damped_from x.h x.run.now)
           c.num_active-p.ensures
           e c.is_stationary.ensures
-          c.if-is_stationary.false refl (a s v x.residuals.now);
-      fact_2 = kept_on (kept-equations e) (a [] [] []).kept;
+          c.if-is_stationary.false refl a;
+      fact_2 = kept_on (kept-equations e) a.kept;
     }

@@ -5,9 +5,9 @@ use Rattle.dls.proofs.Differences.{column-written}
 use Rattle.dls.proofs.columns.with_differences.Goals as goal
 
 pub returns : goal.returns
-returns c = λ s v r d.
+returns c =
     let x = c.args in
     column-written x.config (variables_from x.job.now.counts x.job.now.numbers) (operand_count_from x.job.now.counts)
-    (damped_from x.h s x.jacobian.now v r x.plus_residuals.now x.params.now d) _ _ _
-    (c.between-d.ensures (operand_count_from x.job.now.counts) s x.jacobian.now v r x.plus_residuals.now d)
+    (damped_from x.h x.run.now) _ _ _
+    (c.between-d.ensures (operand_count_from x.job.now.counts))
     (rw c.operand_count-m.ensures at c.jacobian_column.ensures)

@@ -18,8 +18,7 @@ unfolding phase_of
 returns-in-0 c =
     let x = c.args in record {
       fact_1 = λ k lens w. advance-at (optimizer x.config (variables_from x.job.now.counts x.job.now.numbers) (operand_count_from x.job.now.counts))
-          (damped_from x.h x.surfaces.now x.jacobian.now x.values.now x.residuals.now x.plus_residuals.now x.params.now
-          x.candidate.now) c.in-0.is
+          (damped_from x.h x.run.now) c.in-0.is
           (evaluate_of (held_job x.job.now.counts x.job.now.numbers k) lens) (c.advance_first.ensures k lens w (operand_count_from x.job.now.counts));
       fact_2 = kept_same x.scratch.now;
     }
@@ -29,11 +28,9 @@ unfolding phase_of advance_at
 returns-in-1 c =
     let x = c.args in record {
       fact_1 = λ k lens w. advance-at (optimizer x.config (variables_from x.job.now.counts x.job.now.numbers) (operand_count_from x.job.now.counts))
-          (damped_from x.h x.surfaces.now x.jacobian.now x.values.now x.residuals.now x.plus_residuals.now x.params.now
-          x.candidate.now) c.in-1.is (evaluate_of (held_job x.job.now.counts x.job.now.numbers k) lens)
-          (c.at_minus.ensures x.surfaces.now x.jacobian.now x.values.now x.residuals.now x.params.now
-          ∙ ap (λ (l : List Float). at_minus (current_of (damped_from x.h x.surfaces.now x.jacobian.now x.values.now x.residuals.now
-          x.plus_residuals.now x.params.now x.candidate.now)) x.jacobian.now x.h.column l)
+          (damped_from x.h x.run.now) c.in-1.is (evaluate_of (held_job x.job.now.counts x.job.now.numbers k) lens)
+          (c.at_minus.ensures
+          ∙ ap (λ (l : List Float). at_minus (current_of (damped_from x.h x.run.now)) x.run.now.jacobian x.h.column l)
           (residuals-held _ _ _ c.residuals_of.ensures k lens w));
       fact_2 = kept_same x.scratch.now;
     }
@@ -44,9 +41,8 @@ returns-in-2 c =
     let x = c.args in
     let a = c.advance_minus.ensures in record {
       fact_1 = λ k lens w. advance-at (optimizer x.config (variables_from x.job.now.counts x.job.now.numbers) (operand_count_from x.job.now.counts))
-          (damped_from x.h x.surfaces.now x.jacobian.now x.values.now x.residuals.now x.plus_residuals.now x.params.now
-          x.candidate.now) c.in-2.is
-          (evaluate_of (held_job x.job.now.counts x.job.now.numbers k) lens) (a.fact_1 k lens w x.surfaces.now x.values.now);
+          (damped_from x.h x.run.now) c.in-2.is
+          (evaluate_of (held_job x.job.now.counts x.job.now.numbers k) lens) (a.fact_1 k lens w);
       fact_2 = a.fact_2;
     }
 
@@ -56,8 +52,7 @@ returns-in-3 c =
     let x = c.args in
     let a = c.advance_candidate.ensures in record {
       fact_1 = λ k lens w. advance-at (optimizer x.config (variables_from x.job.now.counts x.job.now.numbers) (operand_count_from x.job.now.counts))
-          (damped_from x.h x.surfaces.now x.jacobian.now x.values.now x.residuals.now x.plus_residuals.now x.params.now
-          x.candidate.now) c.in-3.is
+          (damped_from x.h x.run.now) c.in-3.is
           (evaluate_of (held_job x.job.now.counts x.job.now.numbers k) lens) (a.fact_1 k lens w);
       fact_2 = a.fact_2;
     }
@@ -66,7 +61,6 @@ pub returns-in_default : goal.returns-in_default
 returns-in_default c =
     let x = c.args in record {
       fact_1 = λ k lens w. advance-over (optimizer x.config (variables_from x.job.now.counts x.job.now.numbers) (operand_count_from x.job.now.counts))
-          (damped_from x.h x.surfaces.now x.jacobian.now x.values.now x.residuals.now x.plus_residuals.now x.params.now
-          x.candidate.now) (evaluate_of (held_job x.job.now.counts x.job.now.numbers k) lens) (omega arith);
+          (damped_from x.h x.run.now) (evaluate_of (held_job x.job.now.counts x.job.now.numbers k) lens) (omega arith);
       fact_2 = kept_same x.scratch.now;
     }

@@ -13,7 +13,7 @@ use Rattle.dls.proofs.damped.advance_first.Goals as goal
 pub returns : goal.returns
 returns c = λ k lens w m.
     let x = c.args in
-    let r = c.residuals_of in
+    let r = c.residuals_of-run in
     let e : record { values = x.found.now; residuals = r.result; total_merit = c.merit_of-merit.result }
     ≡ (evaluate_of (held_job x.job.now.counts x.job.now.numbers k) lens) = λ i.
     record {
@@ -22,15 +22,14 @@ returns c = λ k lens w m.
       total_merit = merit-held _ _ _ c.merit_of-merit.ensures k lens w i;
     } in
     first_on (optimizer x.config (variables_from x.job.now.counts x.job.now.numbers) m)
-    (damped_from x.h x.surfaces.now x.jacobian.now x.values.now x.residuals.now x.plus_residuals.now x.params.now
-    x.candidate.now) (evaluate_of (held_job x.job.now.counts x.job.now.numbers k) lens)
+    (damped_from x.h x.run.now) (evaluate_of (held_job x.job.now.counts x.job.now.numbers k) lens)
     c.requires.fact_3
-    c.extract_values.ensures
-    (c.resume_iterations.ensures x.surfaces.now x.found.now r.result
+    c.extract_values-run.ensures
+    (c.resume_iterations.ensures
     ∙ ap (λ (q : MeritEvaluation). iteration_entered (ltb 0 x.config.max_iterations)
     (record {
-      surfaces = standing x.surfaces.now;
-      params = c.extract_values.result;
+      surfaces = standing x.run.now.surfaces;
+      params = c.extract_values-run.result;
       evaluation = q;
       initial_merit = q.total_merit;
       damping = x.config.initial_damping;

@@ -29,17 +29,16 @@ pub returns-then-column-p : goal.returns-then-column-p
 returns-then-column-p c =
     let x = c.args in
     let n = c.num_active-p.ensures in record {
-      fact_1 = λ k lens w s v. column-on (optimizer x.config (variables_from x.job.now.counts x.job.now.numbers) (operand_count_from x.job.now.counts))
-          (damped_from x.h s x.jacobian.now v x.residuals.now x.plus_residuals.now x.params.now x.candidate.now)
+      fact_1 = λ k lens w. column-on (optimizer x.config (variables_from x.job.now.counts x.job.now.numbers) (operand_count_from x.job.now.counts))
+          (damped_from x.h x.run.now)
           (evaluate_of (held_job x.job.now.counts x.job.now.numbers k) lens)
-          (c.with_differences.ensures s v x.residuals.now x.candidate.now
-          ∙ ap (λ (l : List Float). with_jacobian (damped_from x.h s x.jacobian.now v x.residuals.now x.plus_residuals.now x.params.now
-          x.candidate.now) (with_differences (optimizer x.config (variables_from x.job.now.counts x.job.now.numbers) (operand_count_from x.job.now.counts))
-          (current_of (damped_from x.h s x.jacobian.now v x.residuals.now x.plus_residuals.now x.params.now x.candidate.now))
+          (c.with_differences.ensures
+          ∙ ap (λ (l : List Float). with_jacobian (damped_from x.h x.run.now) (with_differences (optimizer x.config (variables_from x.job.now.counts x.job.now.numbers) (operand_count_from x.job.now.counts))
+          (current_of (damped_from x.h x.run.now))
           x.h.column
-          x.jacobian.now x.plus_residuals.now l))
+          x.run.now.jacobian x.run.now.plus_residuals l))
           (residuals-held _ _ _ c.residuals_of-below.ensures k lens w))
-          (omega arith) (c.at_plus.ensures s _ v x.residuals.now x.params.now);
+          (omega arith) c.at_plus.ensures;
       fact_2 = kept_same x.scratch.now;
     }
 
@@ -48,18 +47,16 @@ returns c =
     let x = c.args in
     let n = c.num_active-p.ensures in
     let a = c.resume_stationary.ensures in record {
-      fact_1 = λ k lens w s v. column-over (optimizer x.config (variables_from x.job.now.counts x.job.now.numbers) (operand_count_from x.job.now.counts))
-          (damped_from x.h s x.jacobian.now v x.residuals.now x.plus_residuals.now x.params.now x.candidate.now)
+      fact_1 = λ k lens w. column-over (optimizer x.config (variables_from x.job.now.counts x.job.now.numbers) (operand_count_from x.job.now.counts))
+          (damped_from x.h x.run.now)
           (evaluate_of (held_job x.job.now.counts x.job.now.numbers k) lens)
-          (c.with_differences.ensures s v x.residuals.now
-          x.candidate.now
-          ∙ ap (λ (l : List Float). with_jacobian (damped_from x.h s x.jacobian.now v x.residuals.now x.plus_residuals.now x.params.now
-          x.candidate.now) (with_differences (optimizer x.config (variables_from x.job.now.counts x.job.now.numbers) (operand_count_from x.job.now.counts))
-          (current_of (damped_from x.h s x.jacobian.now v x.residuals.now x.plus_residuals.now x.params.now x.candidate.now))
+          (c.with_differences.ensures
+          ∙ ap (λ (l : List Float). with_jacobian (damped_from x.h x.run.now) (with_differences (optimizer x.config (variables_from x.job.now.counts x.job.now.numbers) (operand_count_from x.job.now.counts))
+          (current_of (damped_from x.h x.run.now))
           x.h.column
-          x.jacobian.now x.plus_residuals.now l))
+          x.run.now.jacobian x.run.now.plus_residuals l))
           (residuals-held _ _ _
           c.residuals_of-below.ensures
-          k lens w)) (omega arith) (a.fact_1 s v);
+          k lens w)) (omega arith) a.fact_1;
       fact_2 = a.fact_2;
     }

@@ -21,8 +21,8 @@ returns-in-1 c =
     let x = c.args in
     let v = variables_from x.job.now.counts x.job.now.numbers in
     let p = c.lay_moved.ensures in record {
-      fact_1 = λ m j v' r e.
-          let d = damped_from x.h x.surfaces.now j v' r e x.params.now x.candidate.now in
+      fact_1 = λ m.
+          let d = damped_from x.h x.run.now in
           pending-at (optimizer x.config v m) d c.in-1.is (plus-surfaces x.config v m d refl p.fact_1.1.1 p.fact_1.2);
       fact_2 = p.fact_2;
     }
@@ -37,8 +37,8 @@ returns-in-2 c =
     let x = c.args in
     let v = variables_from x.job.now.counts x.job.now.numbers in
     let p = c.lay_moved-in-2.ensures in record {
-      fact_1 = λ m j v' r e.
-          let d = damped_from x.h x.surfaces.now j v' r e x.params.now x.candidate.now in
+      fact_1 = λ m.
+          let d = damped_from x.h x.run.now in
           pending-at (optimizer x.config v m) d c.in-2.is (minus-surfaces x.config v m d refl p.fact_1.1.1 p.fact_1.2);
       fact_2 = p.fact_2;
     }
@@ -48,8 +48,8 @@ unfolding phase_of pending_at test_presc
 returns-in-3 c =
     let x = c.args in
     let p = c.lay_applied.ensures in record {
-      fact_1 = λ m j v r e. pending-at (optimizer x.config (variables_from x.job.now.counts x.job.now.numbers) m)
-          (damped_from x.h x.surfaces.now j v r e x.params.now x.candidate.now) c.in-3.is
+      fact_1 = λ m. pending-at (optimizer x.config (variables_from x.job.now.counts x.job.now.numbers) m)
+          (damped_from x.h x.run.now) c.in-3.is
           p.fact_1;
       fact_2 = p.fact_2;
     }
@@ -58,8 +58,8 @@ pub returns-in_default : goal.returns-in_default
 returns-in_default c =
     let x = c.args in
     let p = c.copy.ensures in record {
-      fact_1 = λ m j v r e. p.fact_1 ∙ pending-same (optimizer x.config (variables_from x.job.now.counts x.job.now.numbers) m)
-          (damped_from x.h x.surfaces.now j v r e x.params.now x.candidate.now)
+      fact_1 = λ m. p.fact_1 ∙ pending-same (optimizer x.config (variables_from x.job.now.counts x.job.now.numbers) m)
+          (damped_from x.h x.run.now)
           (λ e. omega arith) (λ e. omega arith)
           (λ e. omega arith);
       fact_2 = p.fact_2;

@@ -8,20 +8,20 @@ use Rattle.multistart.proofs.merging.merged.Goals as goal
 
 pub returns-then-h-eq0 : goal.returns-then-h-eq0
 unfolding merged best_before is_lower
-returns-then-h-eq0 c = λ j p y d. let x = c.args in
+returns-then-h-eq0 c = let x = c.args in
     elim c.then-h-eq0.branch [
-      | then-h-eq0-via-then-h-eq0 w ↦ simp w.if-h-eq0.true (c.keep.ensures j p y d)
+      | then-h-eq0-via-then-h-eq0 w ↦ simp w.if-h-eq0.true c.keep.ensures
       | then-h-eq0-via-else-h-eq0+then-h w ↦ simp (
-        before-some x.h.trial (result_from x.h.best x.best_surfaces.now x.best_values.now x.best_residuals.now) w.if-h-eq0.false,
+        before-some x.h.trial (result_from x.h.best x.best.now) w.if-h-eq0.false,
         w.if-h.true,
-      ) (c.keep.ensures j p y d)
+      ) c.keep.ensures
     ]
 
 pub returns : goal.returns
 unfolding merged is_lower
-returns c = λ j p y d. let x = c.args in
+returns c = let x = c.args in
     simp (
-      before-some x.h.trial (result_from x.h.best x.best_surfaces.now x.best_values.now x.best_residuals.now)
+      before-some x.h.trial (result_from x.h.best x.best.now)
           c.if-h-eq0.false,
       c.if-h.false,
     )

@@ -20,13 +20,11 @@ returns c =
     let x = c.args in
     let v = (variables_from x.job.now.counts x.job.now.numbers) in
     let o = optimizer (dls_config (settings_from x.job.now.counts x.job.now.numbers)) v (operand_count_from x.job.now.counts) in
-    let d = (damped_from x.h.damped x.surfaces.now x.jacobian.now x.values.now x.residuals.now x.plus_residuals.now x.params.now
-    x.candidate.now) in
+    let d = (damped_from x.h.damped x.run.now) in
     let a = c.advance_damped-damped.ensures in record {
       fact_1 = λ k lens w. c.resume_damped.ensures o refl d
           ∙ ap (λ (w : DampedState). resume_damped o (standing x.job.now.numbers) (num_trials_from x.job.now.counts) (is_finished w)
-          (state_from x.h x.surfaces.now x.jacobian.now x.values.now x.residuals.now x.plus_residuals.now x.params.now
-          x.candidate.now x.best_surfaces.now x.best_values.now x.best_residuals.now) w)
+          (state_from x.h x.run.now x.best.now) w)
           (a.fact_1 k lens w ∙ ap (λ (l : DlsConfig). Damped.advance (optimizer l v (operand_count_from x.job.now.counts)) d
           (evaluate_of (held_job x.job.now.counts x.job.now.numbers k) lens))
           c.dls_config.ensures);

@@ -12,7 +12,7 @@ use Rattle.draws.proofs.Zero.{standing-zero}
 use Rattle.multistart.proofs.trials.ended.Goals as goal
 
 pub returns : goal.returns
-returns c = λ bs bv br.
-    let b = result_from c.args.best bs bv br in
-    ap (λ (d : DampedState). with_best d b) (c.holding-damped.ensures (replicate 64 zero64) zero_params zero_params)
+returns c = λ kept.
+    let b = result_from c.args.best kept in
+    ap (λ (d : DampedState). with_best d b) c.holding-damped.ensures
     ∙ ap (λ (s : Surfaces). with_best (holding 4 s zero_params zero_params) b) standing-zero

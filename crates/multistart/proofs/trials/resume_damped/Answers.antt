@@ -15,16 +15,13 @@ pub returns-then-damped_over : goal.returns-then-damped_over
 unfolding resume_damped
 returns-then-damped_over c = λ o ev before.
     let x = c.args in
-    let d = (damped_from x.h.damped x.surfaces.now x.jacobian.now x.values.now x.residuals.now x.plus_residuals.now x.params.now
-    x.candidate.now) in
+    let d = (damped_from x.h.damped x.run.now) in
     let base = standing x.job.now.numbers in
-    c.resume_trials.ensures o ev _ _ _
+    c.resume_trials.ensures o ev _
     ∙ ap (λ (b : OptimizationResult). resume_trials o base (num_trials_from x.job.now.counts) (ltb x.h.trial (num_trials_from x.job.now.counts)) b
-    x.h.generator x.h.trial) (c.merged-best.ensures x.jacobian.now
-    x.plus_residuals.now x.params.now x.candidate.now)
+    x.h.generator x.h.trial) c.merged-found.ensures
     ∙ ap (λ (t : Bool). resume_damped o base (num_trials_from x.job.now.counts) t
-    (with_damped (state_from x.h x.surfaces.now x.jacobian.now x.values.now x.residuals.now x.plus_residuals.now x.params.now
-    x.candidate.now x.best_surfaces.now x.best_values.now x.best_residuals.now) before) d)
+    (with_damped (state_from x.h x.run.now x.best.now) before) d)
     (sym c.if-damped_over.true
     ∙ c.damped_over.ensures d refl)
 
@@ -32,9 +29,7 @@ pub returns : goal.returns
 unfolding resume_damped
 returns c = λ o ev before.
     let x = c.args in
-    let d = (damped_from x.h.damped x.surfaces.now x.jacobian.now x.values.now x.residuals.now x.plus_residuals.now x.params.now
-    x.candidate.now) in
+    let d = (damped_from x.h.damped x.run.now) in
     ap (λ (t : Bool). resume_damped o (standing x.job.now.numbers) (num_trials_from x.job.now.counts) t
-    (with_damped (state_from x.h x.surfaces.now x.jacobian.now x.values.now x.residuals.now x.plus_residuals.now x.params.now
-    x.candidate.now x.best_surfaces.now x.best_values.now x.best_residuals.now) before) d)
+    (with_damped (state_from x.h x.run.now x.best.now) before) d)
     (sym c.if-damped_over.false ∙ c.damped_over.ensures d refl)

@@ -11,10 +11,10 @@ use Rattle.multistart.proofs.trials.resume_trials.Goals as goal
 
 pub returns-then-trial-num_trials : goal.returns-then-trial-num_trials
 unfolding resume_trials
-returns-then-trial-num_trials c = λ o ev bs bv br.
+returns-then-trial-num_trials c = λ o ev best.
     let x = c.args in
     let t = c.trial_surfaces-next in
-    ap (λ (w : DampedState). in_trial w (result_from x.best bs bv br) t.result (x.trial + 1)) (c.at_first-damped.ensures _)
+    ap (λ (w : DampedState). in_trial w (result_from x.best best) t.result (x.trial + 1)) c.at_first-damped.ensures
     ∙ simp (
       lt-ltb x.trial (num_trials_from x.job.now.counts)
           (rw c.num_trials.ensures at
@@ -27,7 +27,7 @@ returns-then-trial-num_trials c = λ o ev bs bv br.
 
 pub returns : goal.returns
 unfolding resume_trials
-returns c = λ o ev bs bv br. let x = c.args in
+returns c = λ o ev best. let x = c.args in
     rw (le-ltb x.trial (num_trials_from x.job.now.counts)
     (rw c.num_trials.ensures at
-    c.if-trial-num_trials.false)) (c.ended.ensures bs bv br)
+    c.if-trial-num_trials.false)) (c.ended.ensures best)

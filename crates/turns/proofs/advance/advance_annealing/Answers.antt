@@ -27,8 +27,7 @@ returns-in-5 c =
           x.h (evaluate_of (held_job x.job.now.counts x.job.now.numbers k) lens)
           (sym (merit-held _ _ _ c.merit_of.ensures k lens w))
           ∙ ap (λ (n : ℕ). Annealing.advance_at a (Annealing.phase_of n)
-          (state_from x.h x.surfaces.now x.jacobian.now x.values.now x.residuals.now x.plus_residuals.now x.params.now
-          x.candidate.now x.best_surfaces.now x.best_values.now x.best_residuals.now)
+          (state_from x.h x.run.now x.best.now)
           (evaluate_of (held_job x.job.now.counts x.job.now.numbers k) lens))
           (sym c.in-5.is);
       fact_2 = kept_same x.scratch.now;
@@ -44,8 +43,7 @@ returns-in-6 c =
           refl (evaluate_of (held_job x.job.now.counts x.job.now.numbers k) lens)
           (sym (merit-held _ _ _ c.merit_of-in-6.ensures k lens w))
           ∙ ap (λ (n : ℕ). Annealing.advance_at a (Annealing.phase_of n)
-          (state_from x.h x.surfaces.now x.jacobian.now x.values.now x.residuals.now x.plus_residuals.now x.params.now
-          x.candidate.now x.best_surfaces.now x.best_values.now x.best_residuals.now)
+          (state_from x.h x.run.now x.best.now)
           (evaluate_of (held_job x.job.now.counts x.job.now.numbers k) lens))
           (sym c.in-6.is);
       fact_2 = kept_same x.scratch.now;
@@ -57,16 +55,13 @@ returns-in_default c =
     let x = c.args in
     let a = (annealer_of (held_job x.job.now.counts x.job.now.numbers 3) (annealing_config (settings_from x.job.now.counts x.job.now.numbers))) in
     let p = c.advance_part.ensures in record {
-      fact_1 = λ k lens w. p.fact_1 k lens w x.best_surfaces.now x.best_values.now x.best_residuals.now
-          ∙ ap (λ (l : DlsConfig). with_damped (state_from x.h x.surfaces.now x.jacobian.now x.values.now x.residuals.now
-          x.plus_residuals.now x.params.now x.candidate.now x.best_surfaces.now x.best_values.now x.best_residuals.now)
+      fact_1 = λ k lens w. p.fact_1 k lens w x.best.now
+          ∙ ap (λ (l : DlsConfig). with_damped (state_from x.h x.run.now x.best.now)
           (Damped.advance (optimizer l (variables_from x.job.now.counts x.job.now.numbers) (operand_count_from x.job.now.counts))
-          (damped_from x.h.damped x.surfaces.now x.jacobian.now x.values.now x.residuals.now x.plus_residuals.now x.params.now
-          x.candidate.now) (evaluate_of (held_job x.job.now.counts x.job.now.numbers k) lens)))
+          (damped_from x.h.damped x.run.now) (evaluate_of (held_job x.job.now.counts x.job.now.numbers k) lens)))
           c.polish_settings.ensures
           ∙ ap (λ (f : Annealing.Phase). Annealing.advance_at a f
-          (state_from x.h x.surfaces.now x.jacobian.now x.values.now x.residuals.now x.plus_residuals.now x.params.now
-          x.candidate.now x.best_surfaces.now x.best_values.now x.best_residuals.now)
+          (state_from x.h x.run.now x.best.now)
           (evaluate_of (held_job x.job.now.counts x.job.now.numbers k) lens))
           (sym (polish-phase x.h.damped.phase
           (λ e. omega arith)

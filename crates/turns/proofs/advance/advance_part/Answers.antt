@@ -9,7 +9,6 @@ pub returns : goal.returns
 returns c =
     let x = c.args in
     let a = c.advance_damped-damped.ensures in record {
-      fact_1 = λ k lens w bs bv br. ap (λ (d : DampedState). with_damped (state_from x.h x.surfaces.now x.jacobian.now x.values.now x.residuals.now
-          x.plus_residuals.now x.params.now x.candidate.now bs bv br) d) (a.fact_1 k lens w);
+      fact_1 = λ k lens w best. ap (λ (d : DampedState). with_damped (state_from x.h x.run.now best) d) (a.fact_1 k lens w);
       fact_2 = a.fact_2;
     }

@@ -18,16 +18,13 @@ unfolding advance_by
 returns-in-1 c =
     let x = c.args in
     let a = c.advance_part.ensures in record {
-      fact_1 = λ k lens w. a.fact_1 k lens w x.best_surfaces.now x.best_values.now x.best_residuals.now
-          ∙ ap (λ (l : DlsConfig). with_damped (state_from x.h x.surfaces.now x.jacobian.now x.values.now x.residuals.now
-          x.plus_residuals.now x.params.now x.candidate.now x.best_surfaces.now x.best_values.now x.best_residuals.now)
+      fact_1 = λ k lens w. a.fact_1 k lens w x.best.now
+          ∙ ap (λ (l : DlsConfig). with_damped (state_from x.h x.run.now x.best.now)
           (Damped.advance (optimizer l (variables_from x.job.now.counts x.job.now.numbers) (operand_count_from x.job.now.counts))
-          (damped_from x.h.damped x.surfaces.now x.jacobian.now x.values.now x.residuals.now x.plus_residuals.now x.params.now
-          x.candidate.now) (evaluate_of (held_job x.job.now.counts x.job.now.numbers k) lens)))
+          (damped_from x.h.damped x.run.now) (evaluate_of (held_job x.job.now.counts x.job.now.numbers k) lens)))
           c.dls_config.ensures
           ∙ ap (λ (m : Method). advance_by m (held_job x.job.now.counts x.job.now.numbers x.kind)
-          (state_from x.h x.surfaces.now x.jacobian.now x.values.now x.residuals.now x.plus_residuals.now x.params.now
-          x.candidate.now x.best_surfaces.now x.best_values.now x.best_residuals.now)
+          (state_from x.h x.run.now x.best.now)
           (evaluate_of (held_job x.job.now.counts x.job.now.numbers k) lens))
           (sym (is-damped x.kind (settings_from x.job.now.counts x.job.now.numbers)
           c.in-1.is));
@@ -41,8 +38,7 @@ returns-in-2 c =
     let a = c.advance_trials.ensures in record {
       fact_1 = λ k lens w. a.fact_1 k lens w
           ∙ ap (λ (m : Method). advance_by m (held_job x.job.now.counts x.job.now.numbers x.kind)
-          (state_from x.h x.surfaces.now x.jacobian.now x.values.now x.residuals.now x.plus_residuals.now x.params.now
-          x.candidate.now x.best_surfaces.now x.best_values.now x.best_residuals.now)
+          (state_from x.h x.run.now x.best.now)
           (evaluate_of (held_job x.job.now.counts x.job.now.numbers k) lens))
           (sym (is-multi-start x.kind (settings_from x.job.now.counts x.job.now.numbers)
           c.in-2.is));
@@ -56,8 +52,7 @@ returns-in_default c =
     let a = c.advance_annealing.ensures in record {
       fact_1 = λ k lens w. a.fact_1 k lens w
           ∙ ap (λ (m : Method). advance_by m (held_job x.job.now.counts x.job.now.numbers x.kind)
-          (state_from x.h x.surfaces.now x.jacobian.now x.values.now x.residuals.now x.plus_residuals.now x.params.now
-          x.candidate.now x.best_surfaces.now x.best_values.now x.best_residuals.now)
+          (state_from x.h x.run.now x.best.now)
           (evaluate_of (held_job x.job.now.counts x.job.now.numbers k) lens))
           (sym (is-annealing x.kind (settings_from x.job.now.counts x.job.now.numbers)
           (λ e. omega arith)

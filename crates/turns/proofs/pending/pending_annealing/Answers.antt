@@ -18,9 +18,9 @@ unfolding Annealing.pending Annealing.pending_at Annealing.phase_of
 returns-in-5 c =
     let x = c.args in
     let p = c.copy.ensures in record {
-      fact_1 = λ a ev j v r e bs bv br. p.fact_1
+      fact_1 = λ a ev best. p.fact_1
           ∙ ap (λ (k : ℕ). Annealing.pending_at a (Annealing.phase_of k)
-          (state_from x.h x.surfaces.now j v r e x.params.now x.candidate.now bs bv br))
+          (state_from x.h x.run.now best))
           (sym c.in-5.is);
       fact_2 = p.fact_2;
     }
@@ -30,10 +30,10 @@ unfolding Annealing.pending Annealing.pending_at Annealing.phase_of trial_presc
 returns-in-6 c =
     let x = c.args in
     let p = c.lay_applied.ensures in record {
-      fact_1 = λ a ev j v r e bs bv br. p.fact_1
-          ∙ ap (λ (q : VariableSet). applied q x.candidate.now (standing x.surfaces.now)) (sym ev)
+      fact_1 = λ a ev best. p.fact_1
+          ∙ ap (λ (q : VariableSet). applied q x.run.now.candidate (standing x.run.now.surfaces)) (sym ev)
           ∙ ap (λ (k : ℕ). Annealing.pending_at a (Annealing.phase_of k)
-          (state_from x.h x.surfaces.now j v r e x.params.now x.candidate.now bs bv br))
+          (state_from x.h x.run.now best))
           (sym c.in-6.is);
       fact_2 = p.fact_2;
     }
@@ -43,10 +43,10 @@ unfolding Annealing.pending Annealing.pending_at
 returns-in_default c =
     let x = c.args in
     let p = c.pending_damped.ensures in record {
-      fact_1 = λ a ev j v r e bs bv br. p.fact_1 a.operand_count j v r e
+      fact_1 = λ a ev best. p.fact_1 a.operand_count
           ∙ (λ i. Damped.pending (optimizer (c.polish_settings.ensures i) (sym ev i) a.operand_count)
-          (damped_from x.h.damped x.surfaces.now j v r e x.params.now x.candidate.now))
-          ∙ ap (λ (f : Annealing.Phase). Annealing.pending_at a f (state_from x.h x.surfaces.now j v r e x.params.now x.candidate.now bs bv br))
+          (damped_from x.h.damped x.run.now))
+          ∙ ap (λ (f : Annealing.Phase). Annealing.pending_at a f (state_from x.h x.run.now best))
           (sym (polish-phase x.h.damped.phase (λ e. omega arith)
           (λ e. omega arith)));
       fact_2 = p.fact_2;

@@ -64,11 +64,9 @@ returns c =
     c.values_of-found.ensures x.kind
     (standing l) (drop (4 * count) l) (lies l count n.surfaces (omega (arith, laid.ensures.fact_2.long, pre.fact_1))) in
     let state =
-    state_from x.h x.surfaces.now x.jacobian.now x.values.now x.residuals.now x.plus_residuals.now x.params.now
-    x.candidate.now x.best_surfaces.now x.best_values.now x.best_residuals.now in
+    state_from x.h x.run.now x.best.now in
     let pending =
-    laid.ensures.fact_1 x.jacobian.now x.values.now x.residuals.now x.plus_residuals.now x.best_surfaces.now x.best_values.now
-    x.best_residuals.now in
+    laid.ensures.fact_1 x.best.now in
     let a = c.advance_run.ensures in record {
       fact_1 = a.fact_1 x.kind (standing l) found ∙ ap (λ (p : Surfaces). advance_by job.method job state (evaluate_of job p)) pending;
       fact_2 = kept_on (behind-kept laid.ensures.fact_2) a.fact_2;
