@@ -9,10 +9,14 @@ use Rattle.text.specs.Numbers.{bits_of}
 use Rattle.optics.specs.declared.types.OpticalSurface.{OpticalSurface}
 use Rattle.optics.specs.Types.{no_surface, surface_at}
 use Rattle.runs.specs.declared.types.OptimizationResult.{OptimizationResult}
+use Rattle.held.specs.declared.types.HeldBest.{HeldBest}
+use Rattle.held.specs.declared.types.HeldHead.{HeldHead}
+use Rattle.held.specs.declared.types.HeldJob.{HeldJob}
 use Rattle.held.specs.declared.types.HeldRow.{HeldRow}
+use Rattle.held.specs.declared.types.HeldRun.{HeldRun}
 use Rattle.bench.specs.declared.types.Bench.{Bench}
 use Rattle.bench.specs.Benches.{no_row, held_at}
-use Rattle.alike.specs.Same.{same_float, same_floats, same_words, same_job, same_head, same_lens, same_step, same_best, same_row, same_bench}
+use Rattle.alike.specs.Same.{same_float, same_floats, same_words, same_job, same_head, same_run, same_best, same_row, same_bench}
 use Rattle.alike.specs.Same.{same_surface, same_surfaces, same_merits, same_result}
 
 -- ---- what 64 bits hold
@@ -22,9 +26,7 @@ Fits x = T (fits binary64 x)
 abbrev AllFit : List Float → Type 0
 AllFit l = (i : ℕ) → Fits (get_or l i nan)
 
-pub record RowFits (r : HeldRow) : Type 0 where
-  pub scalars : AllFit r.scalars
-  pub numbers : AllFit r.job.numbers
+pub record RunFits (r : HeldRun) : Type 0 where
   pub surfaces : AllFit r.surfaces
   pub jacobian : AllFit r.jacobian
   pub values : AllFit r.values
@@ -32,9 +34,17 @@ pub record RowFits (r : HeldRow) : Type 0 where
   pub plus_residuals : AllFit r.plus_residuals
   pub params : AllFit r.params
   pub candidate : AllFit r.candidate
-  pub best_surfaces : AllFit r.best_surfaces
-  pub best_values : AllFit r.best_values
-  pub best_residuals : AllFit r.best_residuals
+
+pub record BestFits (b : HeldBest) : Type 0 where
+  pub surfaces : AllFit b.surfaces
+  pub values : AllFit b.values
+  pub residuals : AllFit b.residuals
+
+pub record RowFits (r : HeldRow) : Type 0 where
+  pub scalars : AllFit r.head.scalars
+  pub numbers : AllFit r.job.numbers
+  pub run : RunFits r.run
+  pub best : BestFits r.best
 
 pub record BenchFits (b : Bench) : Type 0 where
   pub rows : (place : ℕ) → RowFits (held_at b place)
@@ -86,47 +96,46 @@ one-words : (a b : List ℕ) → same_words a b ≡ true → a ≡ b
 one-words a b = one-long a b 0 _ (λ i. eqb-true (get_or a i 0) (get_or b i 0))
 
 -- ---- held rows and benches
-module _ (a b : HeldRow) (f : RowFits a) (g : RowFits b) where
-  one-job : same_job a b ≡ true → (a.job.counts ≡ b.job.counts) × (a.job.numbers ≡ b.job.numbers)
-  one-job = both _ _ (one-words a.job.counts b.job.counts) (one-array a.job.numbers b.job.numbers f.numbers g.numbers)
+one-job : (a b : HeldJob) → AllFit a.numbers → AllFit b.numbers → same_job a b ≡ true → a ≡ b
+one-job a b f g e =
+    let parts = both _ _ (one-words a.counts b.counts) (one-array a.numbers b.numbers f g) e in
+    λ i. record { counts = parts.0 i; numbers = parts.1 i }
 
-  one-head : same_head a b ≡ true → (a.words ≡ b.words) × (a.scalars ≡ b.scalars)
-  one-head = both _ _ (one-words a.words b.words) (one-array a.scalars b.scalars f.scalars g.scalars)
+one-head : (a b : HeldHead) → AllFit a.scalars → AllFit b.scalars → same_head a b ≡ true → a ≡ b
+one-head a b f g e =
+    let parts = both _ _ (one-words a.words b.words) (one-array a.scalars b.scalars f g) e in
+    λ i. record { words = parts.0 i; scalars = parts.1 i }
 
-  one-lens : same_lens a b ≡ true → (a.surfaces ≡ b.surfaces) × ((a.values ≡ b.values) × (a.residuals ≡ b.residuals))
-  one-lens = both _ _ (one-array a.surfaces b.surfaces f.surfaces g.surfaces) (
-      both _ _ (one-array a.values b.values f.values g.values) (one-array a.residuals b.residuals f.residuals g.residuals))
+one-run : (a b : HeldRun) → RunFits a → RunFits b → same_run a b ≡ true → a ≡ b
+one-run a b f g e =
+    let parts = both _ _ (one-array a.surfaces b.surfaces f.surfaces g.surfaces) (
+    both _ _ (one-array a.values b.values f.values g.values) (
+    both _ _ (one-array a.residuals b.residuals f.residuals g.residuals) (
+    both _ _ (one-array a.jacobian b.jacobian f.jacobian g.jacobian) (
+    both _ _ (one-array a.plus_residuals b.plus_residuals f.plus_residuals g.plus_residuals) (
+    both _ _ (one-array a.params b.params f.params g.params) (one-array a.candidate b.candidate f.candidate g.candidate)))))) e in
+    λ i. record {
+      surfaces = parts.0 i;
+      jacobian = parts.1.1.1.0 i;
+      values = parts.1.0 i;
+      residuals = parts.1.1.0 i;
+      plus_residuals = parts.1.1.1.1.0 i;
+      params = parts.1.1.1.1.1.0 i;
+      candidate = parts.1.1.1.1.1.1 i;
+    }
 
-  one-step : same_step a b ≡ true
-      → (a.jacobian ≡ b.jacobian) × ((a.plus_residuals ≡ b.plus_residuals) × ((a.params ≡ b.params) × (a.candidate ≡ b.candidate)))
-  one-step = both _ _ (one-array a.jacobian b.jacobian f.jacobian g.jacobian) (
-      both _ _ (one-array a.plus_residuals b.plus_residuals f.plus_residuals g.plus_residuals) (
-      both _ _ (one-array a.params b.params f.params g.params) (one-array a.candidate b.candidate f.candidate g.candidate)))
+one-best : (a b : HeldBest) → BestFits a → BestFits b → same_best a b ≡ true → a ≡ b
+one-best a b f g e =
+    let parts = both _ _ (one-array a.surfaces b.surfaces f.surfaces g.surfaces) (
+    both _ _ (one-array a.values b.values f.values g.values) (one-array a.residuals b.residuals f.residuals g.residuals)) e in
+    λ i. record { surfaces = parts.0 i; values = parts.1.0 i; residuals = parts.1.1 i }
 
-  one-best : same_best a b ≡ true
-      → (a.best_surfaces ≡ b.best_surfaces) × ((a.best_values ≡ b.best_values) × (a.best_residuals ≡ b.best_residuals))
-  one-best = both _ _ (one-array a.best_surfaces b.best_surfaces f.best_surfaces g.best_surfaces) (
-      both _ _ (one-array a.best_values b.best_values f.best_values g.best_values) (
-      one-array a.best_residuals b.best_residuals f.best_residuals g.best_residuals))
-
-  pub one-row : same_row a b ≡ true → a ≡ b
-  one-row e =
-      let parts = both _ _ one-job (both _ _ one-head (both _ _ one-lens (both _ _ one-step one-best))) e in
-      λ i. record {
-        words = parts.1.0.0 i;
-        scalars = parts.1.0.1 i;
-        job = record { counts = parts.0.0 i; numbers = parts.0.1 i };
-        surfaces = parts.1.1.0.0 i;
-        jacobian = parts.1.1.1.0.0 i;
-        values = parts.1.1.0.1.0 i;
-        residuals = parts.1.1.0.1.1 i;
-        plus_residuals = parts.1.1.1.0.1.0 i;
-        params = parts.1.1.1.0.1.1.0 i;
-        candidate = parts.1.1.1.0.1.1.1 i;
-        best_surfaces = parts.1.1.1.1.0 i;
-        best_values = parts.1.1.1.1.1.0 i;
-        best_residuals = parts.1.1.1.1.1.1 i;
-      }
+pub one-row : (a b : HeldRow) → RowFits a → RowFits b → same_row a b ≡ true → a ≡ b
+one-row a b f g e =
+    let parts = both _ _ (one-job a.job b.job f.numbers g.numbers) (
+    both _ _ (one-head a.head b.head f.scalars g.scalars) (
+    both _ _ (one-run a.run b.run f.run g.run) (one-best a.best b.best f.best g.best))) e in
+    λ i. record { head = parts.1.0 i; job = parts.0 i; run = parts.1.1.0 i; best = parts.1.1.1 i }
 
 pub one-bench : (a b : Bench) → BenchFits a → BenchFits b → same_bench a b ≡ true → a ≡ b
 one-bench a b f g e =

@@ -7,10 +7,14 @@ use Rattle.lists.specs.All.{all_below, all_from}
 use Rattle.optics.specs.declared.types.OpticalSurface.{OpticalSurface}
 use Rattle.optics.specs.Types.{surface_at}
 use Rattle.runs.specs.declared.types.OptimizationResult.{OptimizationResult}
+use Rattle.held.specs.declared.types.HeldBest.{HeldBest}
+use Rattle.held.specs.declared.types.HeldHead.{HeldHead}
+use Rattle.held.specs.declared.types.HeldJob.{HeldJob}
 use Rattle.held.specs.declared.types.HeldRow.{HeldRow}
+use Rattle.held.specs.declared.types.HeldRun.{HeldRun}
 use Rattle.bench.specs.declared.types.Bench.{Bench}
 use Rattle.bench.specs.Benches.{held_at}
-use Rattle.alike.specs.Same.{same_floats, same_words, same_row, same_bench, same_surface, same_result}
+use Rattle.alike.specs.Same.{same_floats, same_words, same_job, same_head, same_run, same_best, same_row, same_bench, same_surface, same_result}
 use Rattle.alike.proofs.FloatItself.{float}
 use Rattle.alike.proofs.SameLaws.{all_alike}
 
@@ -27,12 +31,22 @@ floats a = all_alike (length a) (length a) _ refl (all _ (length a) (λ i. float
 words : (a : List ℕ) → same_words a a ≡ true
 words a = all_alike (length a) (length a) _ refl (all _ (length a) (λ i. eq-eqb (get_or a i 0) (get_or a i 0) refl))
 
+pub job : (a : HeldJob) → same_job a a ≡ true
+job a = and _ _ (words a.counts) (floats a.numbers)
+
+pub head : (a : HeldHead) → same_head a a ≡ true
+head a = and _ _ (words a.words) (floats a.scalars)
+
+pub run : (a : HeldRun) → same_run a a ≡ true
+run a =
+    and _ _ (floats a.surfaces) (and _ _ (floats a.values) (and _ _ (floats a.residuals) (and _ _ (floats a.jacobian)
+    (and _ _ (floats a.plus_residuals) (and _ _ (floats a.params) (floats a.candidate))))))
+
+pub best : (a : HeldBest) → same_best a a ≡ true
+best a = and _ _ (floats a.surfaces) (and _ _ (floats a.values) (floats a.residuals))
+
 pub row : (a : HeldRow) → same_row a a ≡ true
-row a =
-    and _ _ (and _ _ (words a.job.counts) (floats a.job.numbers)) (and _ _ (and _ _ (words a.words) (floats a.scalars))
-    (and _ _ (and _ _ (floats a.surfaces) (and _ _ (floats a.values) (floats a.residuals)))
-    (and _ _ (and _ _ (floats a.jacobian) (and _ _ (floats a.plus_residuals) (and _ _ (floats a.params) (floats a.candidate))))
-    (and _ _ (floats a.best_surfaces) (and _ _ (floats a.best_values) (floats a.best_residuals))))))
+row a = and _ _ (job a.job) (and _ _ (head a.head) (and _ _ (run a.run) (best a.best)))
 
 pub bench-alike : (a : Bench) → same_bench a a ≡ true
 bench-alike a = and _ _ (all _ 4 (λ place. row (held_at a place))) (eq-eqb a.next_place a.next_place refl)

@@ -1,4 +1,4 @@
--- Alike bit for bit, every NaN as one: arrays by their lengths and entries, held rows and benches array by array. Definitions only.
+-- Alike bit for bit, every NaN as one: arrays by their lengths and entries, held rows array by array, and benches row by row. Definitions only.
 use Rattle.std.specs.Prelude.{Bool, ◌&&◌, List, ℕ, eqb, Float, length, get_or}
 use Rattle.std.specs.Float.{nan}
 use Rattle.lists.specs.All.{all_below}
@@ -6,7 +6,11 @@ use Rattle.text.specs.Numbers.{bits_of}
 use Rattle.optics.specs.declared.types.OpticalSurface.{OpticalSurface}
 use Rattle.optics.specs.Types.{surface_at}
 use Rattle.runs.specs.declared.types.OptimizationResult.{OptimizationResult}
+use Rattle.held.specs.declared.types.HeldBest.{HeldBest}
+use Rattle.held.specs.declared.types.HeldHead.{HeldHead}
+use Rattle.held.specs.declared.types.HeldJob.{HeldJob}
 use Rattle.held.specs.declared.types.HeldRow.{HeldRow}
+use Rattle.held.specs.declared.types.HeldRun.{HeldRun}
 use Rattle.bench.specs.declared.types.Bench.{Bench}
 use Rattle.bench.specs.Benches.{held_at}
 
@@ -25,27 +29,25 @@ abbrev pub same_words : List ℕ → List ℕ → Bool
 same_words = same_list eqb 0
 
 -- ---- held rows and benches
-abbrev pub same_job : HeldRow → HeldRow → Bool
-same_job a b = same_words a.job.counts b.job.counts && same_floats a.job.numbers b.job.numbers
+abbrev pub same_job : HeldJob → HeldJob → Bool
+same_job a b = same_words a.counts b.counts && same_floats a.numbers b.numbers
 
-abbrev pub same_head : HeldRow → HeldRow → Bool
+abbrev pub same_head : HeldHead → HeldHead → Bool
 same_head a b = same_words a.words b.words && same_floats a.scalars b.scalars
 
-abbrev pub same_lens : HeldRow → HeldRow → Bool
-same_lens a b = same_floats a.surfaces b.surfaces && (same_floats a.values b.values && same_floats a.residuals b.residuals)
+abbrev pub same_run : HeldRun → HeldRun → Bool
+same_run a b =
+    same_floats a.surfaces b.surfaces
+    && (same_floats a.values b.values
+    && (same_floats a.residuals b.residuals
+    && (same_floats a.jacobian b.jacobian
+    && (same_floats a.plus_residuals b.plus_residuals && (same_floats a.params b.params && same_floats a.candidate b.candidate)))))
 
-abbrev pub same_step : HeldRow → HeldRow → Bool
-same_step a b =
-    same_floats a.jacobian b.jacobian
-    && (same_floats a.plus_residuals b.plus_residuals && (same_floats a.params b.params && same_floats a.candidate b.candidate))
-
-abbrev pub same_best : HeldRow → HeldRow → Bool
-same_best a b =
-    same_floats a.best_surfaces b.best_surfaces
-    && (same_floats a.best_values b.best_values && same_floats a.best_residuals b.best_residuals)
+abbrev pub same_best : HeldBest → HeldBest → Bool
+same_best a b = same_floats a.surfaces b.surfaces && (same_floats a.values b.values && same_floats a.residuals b.residuals)
 
 abbrev pub same_row : HeldRow → HeldRow → Bool
-same_row a b = same_job a b && (same_head a b && (same_lens a b && (same_step a b && same_best a b)))
+same_row a b = same_job a.job b.job && (same_head a.head b.head && (same_run a.run b.run && same_best a.best b.best))
 
 abbrev pub same_rows : Bench → Bench → Bool
 same_rows a b = all_below (λ (place : ℕ). same_row (held_at a place) (held_at b place)) 4

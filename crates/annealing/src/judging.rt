@@ -1,11 +1,11 @@
-// A step of annealing's walk judged: the arrays that the walk holds are lent, its numbers go by value.
+// A step of annealing's walk judged: the run and the best result are lent, the walk's numbers go by value.
 ghost use Rattle.std.specs.Prelude.{◌≡◌, ◌≤◌};
 ghost use Rattle.runs.specs.AnnealingRun as Run;
 ghost use Rattle.held.specs.JobFrom.{standing, variable_count_from, variables_from};
 ghost use Rattle.draws.specs.Parts.{ForAnnealer, ForAnnealerBy};
-ghost use Rattle.annealing.specs.WalkFrom.{walk_from};
+ghost use Rattle.annealing.specs.WalkFrom.{walk_from, WalkAlone};
 
-use held::HeldJob;
+use held::{HeldBest, HeldJob, HeldRun};
 use jobs::SimulatedAnnealingConfig;
 use merit::MeritEvaluation;
 
@@ -24,17 +24,16 @@ pub(crate) fn started(
     config: SimulatedAnnealingConfig,
     merit: f64,
     job: &HeldJob,
-    surfaces: &[f64; 64],
-    params: &mut [f64; 8],
-    best_surfaces: &mut [f64; 64],
+    run: &mut HeldRun,
+    best: &mut HeldBest,
 ) -> WalkHead
     requires { variable_count_from job.now.counts ≤ 8 }
-    ensures { ForAnnealerBy config (variables_from job.now.counts job.now.numbers) (λ a. (e : MeritEvaluation) → e.total_merit ≡ merit →
-        let after = walk_from result surfaces.now params.new best_surfaces.new in
-        after ≡ Run.started a (standing surfaces.now) e) }
+    ensures fact_1 { ForAnnealerBy config (variables_from job.now.counts job.now.numbers) (λ a. (e : MeritEvaluation) → e.total_merit ≡ merit →
+        walk_from result run.new best.new ≡ Run.started a (standing run.old.surfaces) e) }
+    ensures fact_2 { WalkAlone run.old best.old run.new best.new }
 {
-    *params = held::extract_values(job, surfaces);
-    *best_surfaces = *surfaces;
+    run.params = held::extract_values(job, &run.surfaces);
+    best.surfaces = run.surfaces;
     WalkHead {
         current_merit: merit,
         best_merit: merit,
@@ -58,21 +57,18 @@ fn accepted(
     w: WalkHead,
     merit: f64,
     job: &HeldJob,
-    surfaces: &mut [f64; 64],
-    params: &mut [f64; 8],
-    candidate: &[f64; 8],
-    best_surfaces: &mut [f64; 64],
+    run: &mut HeldRun,
+    best: &mut HeldBest,
 ) -> WalkHead
     requires { variable_count_from job.now.counts ≤ 8 }
-    ensures { ForAnnealer (variables_from job.now.counts job.now.numbers) (λ a.
-        let walking = walk_from w surfaces.old params.old best_surfaces.old in
-        let after = walk_from result surfaces.new params.new best_surfaces.new in
-        after ≡ Run.accepted a candidate.now merit walking) }
+    ensures fact_1 { ForAnnealer (variables_from job.now.counts job.now.numbers) (λ a.
+        walk_from result run.new best.new ≡ Run.accepted a run.old.candidate merit (walk_from w run.old best.old)) }
+    ensures fact_2 { WalkAlone run.old best.old run.new best.new }
 {
-    held::apply_values(job, *candidate, surfaces);
-    *params = *candidate;
+    held::apply_values(job, run.candidate, &mut run.surfaces);
+    run.params = run.candidate;
     if merit < w.best_merit {
-        *best_surfaces = *surfaces;
+        best.surfaces = run.surfaces;
         return WalkHead {
             current_merit: merit,
             best_merit: merit,
@@ -87,24 +83,22 @@ fn accepted(
 
 // Metropolis acceptance: a draw only when the merit rose.
 // global.rs: `accept`
+#[tactic(auto, unfolding(runs::specs::AnnealingRun::judged, runs::specs::AnnealingRun::if_not_risen, runs::specs::AnnealingRun::if_drawn))]
 pub(crate) fn judged(
     w: WalkHead,
     merit: f64,
     job: &HeldJob,
-    surfaces: &mut [f64; 64],
-    params: &mut [f64; 8],
-    candidate: &[f64; 8],
-    best_surfaces: &mut [f64; 64],
+    run: &mut HeldRun,
+    best: &mut HeldBest,
 ) -> WalkHead
     requires { variable_count_from job.now.counts ≤ 8 }
-    ensures { ForAnnealer (variables_from job.now.counts job.now.numbers) (λ a. (e : MeritEvaluation) → e.total_merit ≡ merit →
-        let walking = walk_from w surfaces.old params.old best_surfaces.old in
-        let after = walk_from result surfaces.new params.new best_surfaces.new in
-        after ≡ Run.judged a candidate.now e walking) }
+    ensures fact_1 { ForAnnealer (variables_from job.now.counts job.now.numbers) (λ a. (e : MeritEvaluation) → e.total_merit ≡ merit →
+        walk_from result run.new best.new ≡ Run.judged a run.old.candidate e (walk_from w run.old best.old)) }
+    ensures fact_2 { WalkAlone run.old best.old run.new best.new }
 {
     let delta_merit = merit - w.current_merit;
     if delta_merit <= 0.0 {
-        return accepted(w, merit, job, surfaces, params, candidate, best_surfaces);
+        return accepted(w, merit, job, run, best);
     }
     let draw = xorshift::drawn(w.rng);
     let drawn = WalkHead {
@@ -112,15 +106,7 @@ pub(crate) fn judged(
         ..w
     };
     if draw.unit < prob(delta_merit, w.temp) {
-        return accepted(
-            drawn,
-            merit,
-            job,
-            surfaces,
-            params,
-            candidate,
-            best_surfaces,
-        );
+        return accepted(drawn, merit, job, run, best);
     }
     drawn
 }

@@ -1,4 +1,4 @@
-// Annealing's walk, over lent arrays, from merit to merit (out of global.rs).
+// Annealing's walk, over a row's lent run and best result, from merit to merit (out of global.rs).
 // Stands on `dls`, which has the polish's beginning, and `draws`; called by `turns`.
 #![tactic(auto)]
 

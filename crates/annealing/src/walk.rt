@@ -9,70 +9,34 @@ ghost use Rattle.annealing.specs.WalkFrom.{walk_from};
 use crate::judging::WalkHead;
 use crate::steps::{at_polish, at_step};
 use crate::{cycles, judging};
-use held::{HeldJob, RowHead};
+use held::{HeldBest, HeldJob, HeldRun, RowHead};
 use jobs::SimulatedAnnealingConfig;
 use merit::MeritEvaluation;
 
 // The cycle is over: it cools, and the next one begins, or the polish.
 // global.rs: `temp *= self.config.cooling_rate`
+#[tactic(auto, unfolding(runs::specs::AnnealingRow::resume_steps, runs::specs::AnnealingRow::resume_cycles))]
 fn next_cycle(
     w: WalkHead,
     config: SimulatedAnnealingConfig,
     initial_merit: f64,
     c: u64,
     job: &HeldJob,
-    surfaces: &mut [f64; 64],
-    jacobian: &mut [f64; 96],
-    values: &mut [f64; 12],
-    residuals: &mut [f64; 12],
-    plus_residuals: &mut [f64; 12],
-    params: &mut [f64; 8],
-    candidate: &mut [f64; 8],
-    best_surfaces: &mut [f64; 64],
-    best_values: &mut [f64; 12],
-    best_residuals: &mut [f64; 12],
+    run: &mut HeldRun,
+    best: &mut HeldBest,
 ) -> RowHead
     requires { variable_count_from job.now.counts ≤ 8 }
     ensures { ForAnnealerBy config (variables_from job.now.counts job.now.numbers) (λ a. (k : ℕ) →
-        let walking = walk_from w surfaces.old params.old best_surfaces.old in
-        let after = state_from result surfaces.new jacobian.new values.new residuals.new plus_residuals.new
-        params.new candidate.new best_surfaces.new best_values.new best_residuals.new in
-        after ≡ resume_steps a false initial_merit walking c k) }
+        state_from result run.new best.new ≡ resume_steps a false initial_merit (walk_from w run.old best.old) c k) }
 {
     let cool = WalkHead {
         temp: w.temp * config.cooling_rate,
         ..w
     };
     if cycles::is_next_cycle(config, c) {
-        return at_step(
-            cool,
-            initial_merit,
-            c + 1,
-            0,
-            job,
-            jacobian,
-            values,
-            residuals,
-            plus_residuals,
-            params,
-            candidate,
-            best_values,
-            best_residuals,
-        );
+        return at_step(cool, initial_merit, c + 1, 0, job, run, best);
     }
-    at_polish(
-        initial_merit,
-        surfaces,
-        jacobian,
-        values,
-        residuals,
-        plus_residuals,
-        params,
-        candidate,
-        best_surfaces,
-        best_values,
-        best_residuals,
-    )
+    at_polish(initial_merit, run, best)
 }
 
 // After the merit of the base: the first step, or the polish where there is none.
@@ -80,86 +44,35 @@ pub fn advance_walk_first(
     config: SimulatedAnnealingConfig,
     merit: f64,
     job: &HeldJob,
-    surfaces: &mut [f64; 64],
-    jacobian: &mut [f64; 96],
-    values: &mut [f64; 12],
-    residuals: &mut [f64; 12],
-    plus_residuals: &mut [f64; 12],
-    params: &mut [f64; 8],
-    candidate: &mut [f64; 8],
-    best_surfaces: &mut [f64; 64],
-    best_values: &mut [f64; 12],
-    best_residuals: &mut [f64; 12],
+    run: &mut HeldRun,
+    best: &mut HeldBest,
 ) -> RowHead
     requires { variable_count_from job.now.counts ≤ 8 }
     ensures { ForAnnealerBy config (variables_from job.now.counts job.now.numbers)
         (λ a. (h : RowHead) (e : MeritEvaluation) → e.total_merit ≡ merit →
-        let before = state_from h surfaces.old jacobian.old values.old residuals.old
-        plus_residuals.old params.old candidate.old best_surfaces.old best_values.old
-        best_residuals.old in
-        let after = state_from result surfaces.new jacobian.new values.new residuals.new plus_residuals.new
-        params.new candidate.new best_surfaces.new best_values.new best_residuals.new in
-        after ≡ advance_at a walk_first before e) }
+        state_from result run.new best.new ≡ advance_at a walk_first (state_from h run.old best.old) e) }
 {
-    let w = judging::started(config, merit, job, surfaces, params, best_surfaces);
+    let w = judging::started(config, merit, job, run, best);
     if cycles::is_first_cycle(config) {
-        return at_step(
-            w,
-            merit,
-            0,
-            0,
-            job,
-            jacobian,
-            values,
-            residuals,
-            plus_residuals,
-            params,
-            candidate,
-            best_values,
-            best_residuals,
-        );
+        return at_step(w, merit, 0, 0, job, run, best);
     }
-    at_polish(
-        merit,
-        surfaces,
-        jacobian,
-        values,
-        residuals,
-        plus_residuals,
-        params,
-        candidate,
-        best_surfaces,
-        best_values,
-        best_residuals,
-    )
+    at_polish(merit, run, best)
 }
 
 // After the merit of a step: the next step, the next cycle, or the polish.
 // global.rs: `optimize`, from one `evaluate` to the next
+#[tactic(auto, unfolding(runs::specs::AnnealingRow::advance_at, runs::specs::AnnealingRow::resume_steps))]
 pub fn advance_walk(
     h: RowHead,
     config: SimulatedAnnealingConfig,
     merit: f64,
     job: &HeldJob,
-    surfaces: &mut [f64; 64],
-    jacobian: &mut [f64; 96],
-    values: &mut [f64; 12],
-    residuals: &mut [f64; 12],
-    plus_residuals: &mut [f64; 12],
-    params: &mut [f64; 8],
-    candidate: &mut [f64; 8],
-    best_surfaces: &mut [f64; 64],
-    best_values: &mut [f64; 12],
-    best_residuals: &mut [f64; 12],
+    run: &mut HeldRun,
+    best: &mut HeldBest,
 ) -> RowHead
     requires { variable_count_from job.now.counts ≤ 8 }
     ensures { ForAnnealerBy config (variables_from job.now.counts job.now.numbers) (λ a. (e : MeritEvaluation) → e.total_merit ≡ merit →
-        let before = state_from h surfaces.old jacobian.old values.old residuals.old
-        plus_residuals.old params.old candidate.old best_surfaces.old best_values.old
-        best_residuals.old in
-        let after = state_from result surfaces.new jacobian.new values.new residuals.new plus_residuals.new
-        params.new candidate.new best_surfaces.new best_values.new best_residuals.new in
-        after ≡ advance_at a walk before e) }
+        state_from result run.new best.new ≡ advance_at a walk (state_from h run.old best.old) e) }
 {
     let w = WalkHead {
         current_merit: h.current_merit,
@@ -167,40 +80,10 @@ pub fn advance_walk(
         rng: h.generator,
         temp: h.temperature,
     };
-    let next = judging::judged(w, merit, job, surfaces, params, candidate, best_surfaces);
+    let next = judging::judged(w, merit, job, run, best);
     let initial_merit = h.best.initial_merit;
     if cycles::has_next(h.step, config.steps_per_temperature) {
-        return at_step(
-            next,
-            initial_merit,
-            h.cycle,
-            h.step + 1,
-            job,
-            jacobian,
-            values,
-            residuals,
-            plus_residuals,
-            params,
-            candidate,
-            best_values,
-            best_residuals,
-        );
+        return at_step(next, initial_merit, h.cycle, h.step + 1, job, run, best);
     }
-    next_cycle(
-        next,
-        config,
-        initial_merit,
-        h.cycle,
-        job,
-        surfaces,
-        jacobian,
-        values,
-        residuals,
-        plus_residuals,
-        params,
-        candidate,
-        best_surfaces,
-        best_values,
-        best_residuals,
-    )
+    next_cycle(next, config, initial_merit, h.cycle, job, run, best)
 }

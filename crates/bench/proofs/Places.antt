@@ -78,19 +78,19 @@ zero-turns = refl
 
 -- "the empty bench from which others are reached is all zero": so is each array of an empty place
 pub zero_held : held_from zero_row ≡ record {
-  words = replicate 13 0;
-  scalars = replicate 7 zero64;
+  head = record { words = replicate 13 0; scalars = replicate 7 zero64 };
   job = record { counts = replicate 73 0; numbers = replicate 195 zero64 };
-  surfaces = replicate 64 zero64;
-  jacobian = replicate 96 zero64;
-  values = replicate 12 zero64;
-  residuals = replicate 12 zero64;
-  plus_residuals = replicate 12 zero64;
-  params = replicate 8 zero64;
-  candidate = replicate 8 zero64;
-  best_surfaces = replicate 64 zero64;
-  best_values = replicate 12 zero64;
-  best_residuals = replicate 12 zero64;
+  run =
+      record {
+        surfaces = replicate 64 zero64;
+        jacobian = replicate 96 zero64;
+        values = replicate 12 zero64;
+        residuals = replicate 12 zero64;
+        plus_residuals = replicate 12 zero64;
+        params = replicate 8 zero64;
+        candidate = replicate 8 zero64;
+      };
+  best = record { surfaces = replicate 64 zero64; values = replicate 12 zero64; residuals = replicate 12 zero64 };
 }
 unfolding zero_row held_counts held_numbers in_turn laid_flat tab
 zero_held = refl

@@ -59,19 +59,10 @@ with_row b place r = with_held b place (held_from r)
 
 abbrev pub no_row : HeldRow
 no_row = record {
-  words = [];
-  scalars = [];
+  head = record { words = []; scalars = [] };
   job = record { counts = []; numbers = [] };
-  surfaces = [];
-  jacobian = [];
-  values = [];
-  residuals = [];
-  plus_residuals = [];
-  params = [];
-  candidate = [];
-  best_surfaces = [];
-  best_values = [];
-  best_residuals = [];
+  run = record { surfaces = []; jacobian = []; values = []; residuals = []; plus_residuals = []; params = []; candidate = [] };
+  best = record { surfaces = []; values = []; residuals = [] };
 }
 
 abbrev pub held_at : Bench → (place : ℕ) → HeldRow

@@ -21,7 +21,7 @@ use Rattle.held.specs.Written.{held_from}
 use Rattle.held.specs.declared.types.HeldRow.{HeldRow}
 use Rattle.bench.specs.Benches.{zero_row, no_row, held_at, with_held, row_at, with_row}
 use Rattle.bench.specs.Refusals.{no_place, admit_refusals}
-use Rattle.bench.specs.Calls.{is_vacant, row_release_refusals, admit_number, admitted_bench, turn_number, turned_bench, scratch_after, fetch_number}
+use Rattle.bench.specs.Calls.{is_vacant, admit_number, admitted_bench, turn_number, turned_bench, scratch_after, fetch_number}
 use Rattle.bench.specs.Calls.{fetched_result}
 use Rattle.bench.specs.Calls.{release_number, released_bench}
 use Rattle.rows.specs.Calls.{turn_row_number, turned_row, scratch_of, admit_row_number, admitted_row, fetch_row_number, fetched_of_row}

@@ -84,7 +84,7 @@ fn row_long(row: &HeldRow)
     );
 }
 
-fn take_turn(bench: &mut Bench, place: usize, scratch: &mut [f64]) -> Result<(), Refusal>
+pub(crate) fn take_turn(bench: &mut Bench, place: usize, scratch: &mut [f64]) -> Result<(), Refusal>
     ensures { (answered result ≡ turn_number bench.old place (length scratch.old))
         × (bench.new ≡ turned_bench bench.old place (length scratch.old))
         × (scratch.new ≡ scratch_after bench.old place scratch.old) }

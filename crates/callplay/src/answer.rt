@@ -20,9 +20,9 @@ pub(crate) fn answer(output: &mut Output, bench: &mut Bench, call: Call) {
         Call::Turn { place, room, turns } => {
             let mut scratch = [0.0; SCRATCH];
             let to = room.min(SCRATCH);
-            let played = benchcalls::play_turns(*bench, place, turns, &mut scratch[..to]);
-            *bench = played.bench;
-            pieces::put_answer(output, b"T", played.number, &[played.taken]);
+            let played = benchcalls::play_turns(bench, place, turns, &mut scratch[..to]);
+            let number = refusals::answered(played.answer);
+            pieces::put_answer(output, b"T", number, &[played.taken]);
         }
         Call::Release { place } => {
             let number = benchcalls::release(bench, place);

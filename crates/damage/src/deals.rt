@@ -21,8 +21,10 @@ pub(crate) fn refuses_past(bench: &Bench) -> bool {
 
 // The place, where a turn is taken, is served.
 pub(crate) fn serves(bench: &Bench, place: usize) -> bool {
-    let left = benchcalls::turned(*bench, place, &mut [0.5; 256]).bench;
-    answers(bench, 1, 1, 0, &with_next(&left, (place % 4 + 1) % 4))
+    let mut left = *bench;
+    benchcalls::turn(&mut left, place, &mut [0.5; 256]);
+    left.next_place = (place % 4 + 1) % 4;
+    answers(bench, 1, 1, 0, &left)
 }
 
 fn with_next(bench: &Bench, next: usize) -> Bench {
@@ -35,9 +37,10 @@ fn with_next(bench: &Bench, next: usize) -> Bench {
 // Whether a dealing of so many turns deals so many, answers the number and leaves that bench, with scratch as its turns leave it.
 fn answers(bench: &Bench, turns: u16, dealt: u32, number: u32, after: &Bench) -> bool {
     let mut scratch = [0.5; 256];
-    let dealing = benchcalls::dealt(*bench, turns, &mut scratch);
-    same::same_benches(&dealing.bench, after)
+    let mut left = *bench;
+    let answer = benchcalls::deal(&mut left, turns, &mut scratch);
+    same::same_benches(&left, after)
         && verdict::is_scratch(&scratch, dealt > 0)
-        && dealing.dealt == dealt
-        && dealing.number == number
+        && answer.dealt == dealt
+        && answer.number == number
 }

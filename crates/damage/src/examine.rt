@@ -18,9 +18,11 @@ pub(crate) struct Case {
 
 // The run's rows after 0, 1, 3, 7, .. turns, up to the last, which may come more than once. Each has the next place for the
 // damaged row; the place to go next is two further.
-pub(crate) fn examine_job(tally: &mut Tally, admitted: Bench, request: JobRequest) {
-    let last = played(admitted, u64::MAX).rows[0];
-    let mut bench = admitted;
+pub(crate) fn examine_job(tally: &mut Tally, admitted: &Bench, request: JobRequest) {
+    let mut bench = *admitted;
+    play(&mut bench, u64::MAX);
+    let last = bench.rows[0];
+    bench = *admitted;
     for stop in 0..12 {
         let place = stop % 4;
         let case = Case {
@@ -33,14 +35,13 @@ pub(crate) fn examine_job(tally: &mut Tally, admitted: Bench, request: JobReques
             place,
         };
         examine_row(tally, &case);
-        bench = played(bench, 1 << stop);
+        play(&mut bench, 1 << stop);
     }
 }
 
-// The bench after so many turns of place 0, or as many as there are.
-fn played(bench: Bench, count: u64) -> Bench {
-    let mut scratch = [0.0; 128];
-    benchcalls::play_turns(bench, 0, count, &mut scratch).bench
+// So many turns of place 0, or as many as there are.
+fn play(bench: &mut Bench, count: u64) {
+    benchcalls::play_turns(bench, 0, count, &mut [0.0; 128]);
 }
 
 fn examine_row(tally: &mut Tally, case: &Case) {

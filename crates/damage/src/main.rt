@@ -34,11 +34,10 @@ impl Program for Examined {
         let job = joblines::read_job(line, kind.next);
         let read = joblines::read_request(line, kind.value, job);
         answers::end(line, read.next)?;
-        let admitted = benchcalls::admitted(benchcalls::empty_bench(), 0, read.value);
-        if admitted.number > 0 {
-            output.count(true);
-        } else {
-            examine::examine_job(&mut self.tally, admitted.bench, read.value);
+        let mut bench = benchcalls::empty_bench();
+        match benchcalls::admit(&mut bench, 0, read.value) {
+            Ok(()) => examine::examine_job(&mut self.tally, &bench, read.value),
+            Err(_) => output.count(true),
         }
         Ok(())
     }

@@ -26,14 +26,15 @@ fn is_out(bench: &Bench, place: usize, number: u32) -> bool {
 
 // Whether an admission answers the number and leaves that bench.
 fn admits(bench: &Bench, place: usize, request: JobRequest, number: u32, after: &Bench) -> bool {
-    let answer = benchcalls::admitted(*bench, place, request);
-    answer.number == number && same::same_benches(&answer.bench, after)
+    let mut left = *bench;
+    let answer = benchcalls::admit(&mut left, place, request);
+    refusals::answered(answer) == number && same::same_benches(&left, after)
 }
 
 // The same of a release.
 fn releases(bench: &Bench, place: usize, number: u32, after: &Bench) -> bool {
-    let answer = benchcalls::released(*bench, place);
-    answer.number == number && same::same_benches(&answer.bench, after)
+    let mut left = *bench;
+    benchcalls::release(&mut left, place) == number && same::same_benches(&left, after)
 }
 
 // Damage: a turn and a fetch give 12, an admission 10, the place is not listed, and a release empties it.
@@ -47,9 +48,11 @@ fn is_refused(bench: &Bench, place: usize, request: JobRequest) -> bool {
 
 // An empty place: a turn, a fetch and a release give 11, and an admission leaves nothing of what the row had.
 fn is_empty(bench: &Bench, place: usize, request: JobRequest) -> bool {
-    let admitted = benchcalls::admitted(benchcalls::empty_bench(), place, request).bench;
+    let mut admitted = benchcalls::empty_bench();
+    let is_admitted = benchcalls::admit(&mut admitted, place, request).is_ok();
     let fresh = admitted.rows[place % 4];
-    is_out(bench, place, 11)
+    is_admitted
+        && is_out(bench, place, 11)
         && releases(bench, place, 11, bench)
         && admits(bench, place, request, 0, &with_row(bench, place, fresh))
         && deals::deals_none(bench)
@@ -69,10 +72,11 @@ fn is_taken(bench: &Bench, place: usize) -> bool {
 // The number of a turn, if it leaves what it must: nothing is changed where it is refused, and else scratch is cleared.
 fn turn_number(bench: &Bench, place: usize) -> Option<u32> {
     let mut scratch = [0.5; 256];
-    let turn = benchcalls::turned(*bench, place, &mut scratch);
-    let is_done = turn.number == 0;
-    let is_kept = is_done || same::same_benches(&turn.bench, bench);
-    (is_kept && is_scratch(&scratch, is_done)).then_some(turn.number)
+    let mut left = *bench;
+    let number = benchcalls::turn(&mut left, place, &mut scratch);
+    let is_done = number == 0;
+    let is_kept = is_done || same::same_benches(&left, bench);
+    (is_kept && is_scratch(&scratch, is_done)).then_some(number)
 }
 
 // As a call leaves it: the first 128 are +0.0 if a turn was taken, and all others what they were (request 11).
@@ -83,9 +87,10 @@ pub(crate) fn is_scratch(scratch: &[f64; 256], is_cleared: bool) -> bool {
 
 // The number of a fetch, if it leaves what it must: the result is not changed where it is refused.
 fn fetch_number(bench: &Bench, place: usize) -> Option<u32> {
-    let fetch = benchcalls::fetched(*bench, place, marked());
-    let is_kept = fetch.number == 0 || same::same_results(&fetch.result, &marked());
-    is_kept.then_some(fetch.number)
+    let mut res = marked();
+    let number = benchcalls::fetch(bench, place, &mut res);
+    let is_kept = number == 0 || same::same_results(&res, &marked());
+    is_kept.then_some(number)
 }
 
 // The listing has the three other places: 0 to 3 but this one make 6 less this one.

@@ -1,5 +1,5 @@
 -- Where a dealing stands between two places: what is still to serve, and that all in all it is what the dealing serves. Assumes nothing.
-use Rattle.std.specs.Prelude.{◌≡◌, refl, Bool, true, false, not, cond, ◌||◌, ltb, Float, replicate, drop}
+use Rattle.std.specs.Prelude.{◌≡◌, refl, Bool, true, false, not, cond, ◌||◌, ltb, Float, replicate, drop, Result, Ok, Err}
 use Rattle.std.proofs.Math.Path.{sym, ap}
 use Rattle.std.proofs.Common.{◌∙◌, subst, zero-add, zero-lt-suc, lt-ltb, ltb-true, ltb-false}
 use mathlib.Core.List.{List, [], ◌∷◌, ◌++◌}
@@ -24,7 +24,7 @@ use Rattle.bench.specs.Calls.{cleared_by}
 use Rattle.bench.specs.Calls.{dealt_scratch}
 use Rattle.bench.proofs.Dealings.{with_next, starts-below, long, turn-taken, turn-live}
 use Rattle.dealing.specs.declared.types.Round.{Round}
-use Rattle.dealing.specs.Rounds.{begun_of, served_of, passed_of, moved_of}
+use Rattle.dealing.specs.Rounds.{round_unless, first_round, begun_of, served_of, passed_of, moved_of}
 
 -- the places that n more turns serve, where the next is found to be this one
 abbrev served_from : Found → (n : ℕ) → Bench → List ℕ
@@ -40,9 +40,20 @@ pub record Standing (b₀ : Bench) (turns : ℕ) (s₀ : List Float) (r : Round)
   pub bench : left_by served_bench (with_next b r.next) (rest_of r b) ≡ dealt_bench b₀ turns (length s₀)
   pub dealt : r.dealt + length (rest_of r b) ≡ length (served_in b₀ turns (length s₀))
   pub scratch : cleared_by (rest_of r b) s ≡ dealt_scratch b₀ turns s₀
-  pub number : r.number ≡ deal_number b₀ (length s₀)
+  pub number : 0 ≡ deal_number b₀ (length s₀)
   pub long : length s ≡ length s₀
   pub goes : r.dealt < r.limit → (r.at < 4) × (r.missed < 4) × (scratch_short (length s₀) ≡ false)
+
+-- one that is refused by this number deals nothing and changes nothing
+pub record Undealt (b₀ : Bench) (turns : ℕ) (s₀ : List Float) (number : ℕ) : Type 0 where
+  pub dealt : ◌≡◌ {A = Dealt} (record { dealt = 0; number = number }) (dealt_of b₀ turns (length s₀))
+  pub bench : b₀ ≡ dealt_bench b₀ turns (length s₀)
+  pub scratch : s₀ ≡ dealt_scratch b₀ turns s₀
+
+-- how a dealing begins: it stands at its first round, or is refused
+abbrev pub Begun : Bench → (turns : ℕ) → List Float → Result Round ℕ → Type 0
+Begun b₀ turns s₀ (Ok r) = Standing b₀ turns s₀ r b₀ s₀
+Begun b₀ turns s₀ (Err number) = Undealt b₀ turns s₀ number
 
 -- the loop's measure
 abbrev pub measure : Round → ℕ
@@ -70,38 +81,44 @@ cleared-again (p ∷ ps) s =
 
 module _ (b₀ : Bench) (turns : ℕ) (s₀ : List Float) where
   -- ---- before the first place
-  rest-begun : rest_of (begun_of b₀ turns (length s₀)) b₀ ≡ served_in b₀ turns (length s₀)
-  rest-begun = go (deal_number b₀ (length s₀))
+  rest-begun : deal_number b₀ (length s₀) ≡ 0 → rest_of (first_round b₀ turns) b₀ ≡ served_in b₀ turns (length s₀)
+  rest-begun e =
+      ap (λ (n : ℕ). served_from (next_served bench_dealer b₀) n b₀) (same turns) ∙ from_start turns b₀
+      ∙ ap (λ (k : ℕ). unless_refused k (served bench_dealer turns b₀) []) (sym e)
     where
       same : (n : ℕ) → n - 0 ≡ n
       same n = omega arith
 
-      go : (k : ℕ) → served_from (next_served bench_dealer b₀) (unless_refused k turns 0 - 0) b₀ ≡ unless_refused k (served bench_dealer turns b₀) []
-      go zero = ap (λ (n : ℕ). served_from (next_served bench_dealer b₀) n b₀) (same turns) ∙ from_start turns b₀
-      go (suc k) = refl
-
-  pub stands : Standing b₀ turns s₀ (begun_of b₀ turns (length s₀)) b₀ s₀
-  stands = record {
-    bench = ap (left_by served_bench b₀) rest-begun;
-    dealt = zero-add _ ∙ ap length rest-begun;
-    scratch = ap (λ (ps : List ℕ). cleared_by ps s₀) rest-begun;
-    number = refl;
+  stands-at-first : deal_number b₀ (length s₀) ≡ 0 → Standing b₀ turns s₀ (first_round b₀ turns) b₀ s₀
+  stands-at-first e = record {
+    bench = ap (left_by served_bench b₀) (rest-begun e);
+    dealt = zero-add _ ∙ ap length (rest-begun e);
+    scratch = ap (λ (ps : List ℕ). cleared_by ps s₀) (rest-begun e);
+    number = sym e;
     long = refl;
-    goes = go (deal_number b₀ (length s₀)) refl;
+    goes = λ h. (starts-below b₀ (length s₀) e, omega arith, long b₀ (length s₀) e);
   }
+
+  deals-nothing : (k : ℕ) → deal_number b₀ (length s₀) ≡ suc k → Undealt b₀ turns s₀ (suc k)
+  unfolding left_by
+  deals-nothing k e =
+      let none : [] ≡ served_in b₀ turns (length s₀) = ap (λ (n : ℕ). unless_refused n (served bench_dealer turns b₀) []) (sym e) in record {
+        dealt = λ i. record { dealt = length (none i); number = sym e i };
+        bench = ap (left_by served_bench b₀) none;
+        scratch = ap (λ (ps : List ℕ). cleared_by ps s₀) none;
+      }
+
+  pub stands : Begun b₀ turns s₀ (begun_of b₀ turns (length s₀))
+  stands = go (deal_number b₀ (length s₀)) refl
     where
-      go : (k : ℕ) → deal_number b₀ (length s₀) ≡ k → 0 < unless_refused k turns 0
-          → (b₀.next_place < 4) × (0 < 4) × (scratch_short (length s₀) ≡ false)
-      go zero e h = (starts-below b₀ (length s₀) e, omega arith, long b₀ (length s₀) e)
-      go (suc k) e h = absurd (none h)
-        where
-          none : 0 < 0 → ⊥
-          none h = omega arith
+      go : (k : ℕ) → deal_number b₀ (length s₀) ≡ k → Begun b₀ turns s₀ (round_unless k (first_round b₀ turns))
+      go zero e = stands-at-first e
+      go (suc k) e = deals-nothing k e
 
   module _ (r : Round) (b : Bench) (s : List Float) (st : Standing b₀ turns s₀ r b s) where
     -- ---- at the end
     pub ends : r.limit ≤ r.dealt →
-        (◌≡◌ {A = Dealt} (record { dealt = r.dealt; number = r.number }) (dealt_of b₀ turns (length s₀)))
+        (◌≡◌ {A = Dealt} (record { dealt = r.dealt; number = 0 }) (dealt_of b₀ turns (length s₀)))
         × (with_next b r.next ≡ dealt_bench b₀ turns (length s₀)) × (s ≡ dealt_scratch b₀ turns s₀)
     unfolding left_by
     ends h = (
@@ -169,7 +186,6 @@ module _ (b₀ : Bench) (turns : ℕ) (s₀ : List Float) where
           missed = cond t r.missed (r.missed + 1);
           dealt = r.dealt;
           limit = cond t r.dealt r.limit;
-          number = r.number;
         }
 
         passed-one : rest_of r b ≡ served_from (first_from (λ place. is_live (row_at b place)) (4 - (r.missed + 1)) (place_after r.at)) (r.limit - r.dealt) b

@@ -6,5 +6,4 @@ mod checks;
 mod rounds;
 mod types;
 
-pub use rounds::{begun, moved};
 pub use types::Round;

@@ -1,7 +1,7 @@
 // Where a dealing stands.
 
 // The place to try and the place to go next; how many places in a row had no job to serve; how many turns were dealt and how
-// many are at most; and 01's number, 0 where the dealing is not refused.
+// many are at most.
 #[derive(Clone, Copy)]
 pub struct Round {
     pub at: usize,
@@ -9,5 +9,4 @@ pub struct Round {
     pub missed: u32,
     pub dealt: u32,
     pub limit: u32,
-    pub number: u32,
 }

@@ -1,5 +1,5 @@
 // The candidate's merit: an accepted step, and the next iteration, or the attempts that are left.
-ghost use Rattle.std.specs.Prelude.{◌≡◌, ◌&&◌, List, ℕ, ◌≤◌, ◌<◌, ltb, length, Float};
+ghost use Rattle.std.specs.Prelude.{◌≡◌, ◌&&◌, ℕ, ◌≤◌, ◌<◌, ltb, length};
 ghost use Rattle.std.specs.Float.Ieee.{lt};
 ghost use Rattle.floats.specs.Basic.{finite_of};
 ghost use Rattle.normal.specs.Layout.{scratch_length, most_operands, most_variables};
@@ -16,7 +16,7 @@ ghost use Rattle.dls.specs.Found.{ForFound};
 use crate::attempts::resume_rejected;
 use crate::states::{at_plus, ended};
 use floats::{is_finite, max};
-use held::{Head, HeldJob, apply_values};
+use held::{Head, HeldJob, HeldRun, apply_values};
 use heldmerit::{merit_of, residuals_of};
 use jobs::DlsConfig;
 use normal::Damping;
@@ -38,60 +38,35 @@ fn rel_improvement(merit: f64, current: f64) -> f64
 
 // The next iteration, where there is one: its Jacobian is zero, and its first column comes first.
 // dls.rs: `while iteration < self.config.max_iterations`
-pub(crate) fn resume_iterations(
-    h: Head,
-    limit: u64,
-    jacobian: &mut [f64; 96],
-    plus_residuals: &mut [f64; 12],
-    params: &mut [f64; 8],
-    candidate: &mut [f64; 8],
-) -> Head
-    ensures { (surfaces values residuals : List Float) →
-        let before = damped_from h surfaces jacobian.old values residuals plus_residuals.old params.old
-        candidate.old in
-        let after = damped_from result surfaces jacobian.new values residuals plus_residuals.new params.new
-        candidate.new in
-        after ≡ iteration_entered (ltb h.iteration limit) (current_of before) }
+#[tactic(auto, unfolding(crate::specs::DampedSteps::iteration_entered))]
+pub(crate) fn resume_iterations(h: Head, limit: u64, run: &mut HeldRun) -> Head
+    ensures { damped_from result run.new ≡ iteration_entered (ltb h.iteration limit) (current_of (damped_from h run.old)) }
 {
     if h.iteration < limit {
-        *jacobian = [0.0; 96];
+        run.jacobian = [0.0; 96];
         let next = Head {
             iteration: h.iteration + 1,
             ..h
         };
-        return at_plus(next, 0, plus_residuals, candidate);
+        return at_plus(next, 0, run);
     }
-    ended(h, false, jacobian, plus_residuals, params, candidate)
+    ended(h, false, run)
 }
 
 // The candidate's surfaces, parameters and merit become the current ones, and the damping is eased.
 // dls.rs: `current_prescription = test_presc` and on
-fn moved(
-    h: Head,
-    merit: f64,
-    job: &HeldJob,
-    found: &[f64; 12],
-    surfaces: &mut [f64; 64],
-    values: &mut [f64; 12],
-    residuals: &mut [f64; 12],
-    params: &mut [f64; 8],
-    candidate: &[f64; 8],
-) -> Head
+fn moved(h: Head, merit: f64, job: &HeldJob, found: &[f64; 12], run: &mut HeldRun) -> Head
     requires fact_1 { variable_count_from job.now.counts ≤ most_variables }
     requires fact_2 { operand_count_from job.now.counts ≤ most_operands }
-    ensures { ForFound job.now.counts job.now.numbers found.now
-        (λ e. e.total_merit ≡ merit → (config : DlsConfig) (m : ℕ) (jacobian plus : List Float) →
+    ensures { ForFound job.now.counts job.now.numbers found.now (λ e. e.total_merit ≡ merit → (config : DlsConfig) (m : ℕ) →
         let o = optimizer config (variables_from job.now.counts job.now.numbers) m in
-        let before = damped_from h surfaces.old jacobian values.old residuals.old plus params.old
-        candidate.now in
-        let after = damped_from result surfaces.new jacobian values.new residuals.new plus params.new
-        candidate.now in
-        after ≡ with_current before (moved o candidate.now e (current_of before))) }
+        let before = damped_from h run.old in
+        damped_from result run.new ≡ with_current before (moved o run.old.candidate e (current_of before))) }
 {
-    apply_values(job, *candidate, surfaces);
-    *params = *candidate;
-    *values = *found;
-    *residuals = residuals_of(found, job);
+    apply_values(job, run.candidate, &mut run.surfaces);
+    run.params = run.candidate;
+    run.values = *found;
+    run.residuals = residuals_of(found, job);
     let damping = Damping { value: h.damping };
     Head {
         total_merit: merit,
@@ -107,40 +82,21 @@ fn advance_accepted(
     merit: f64,
     job: &HeldJob,
     found: &[f64; 12],
-    surfaces: &mut [f64; 64],
-    jacobian: &mut [f64; 96],
-    values: &mut [f64; 12],
-    residuals: &mut [f64; 12],
-    plus_residuals: &mut [f64; 12],
-    params: &mut [f64; 8],
-    candidate: &mut [f64; 8],
+    run: &mut HeldRun,
 ) -> Head
     requires fact_1 { variable_count_from job.now.counts ≤ most_variables }
     requires fact_2 { operand_count_from job.now.counts ≤ most_operands }
     requires fact_3 { 0 < num_active (variables_from job.now.counts job.now.numbers) }
     ensures { ForFound job.now.counts job.now.numbers found.now (λ e. e.total_merit ≡ merit → (m : ℕ) →
         let o = optimizer config (variables_from job.now.counts job.now.numbers) m in
-        let before = damped_from h surfaces.old jacobian.old values.old residuals.old
-        plus_residuals.old params.old candidate.old in
-        let after = damped_from result surfaces.new jacobian.new values.new residuals.new plus_residuals.new
-        params.new candidate.new in
-        after ≡ resume_after o (accepted o candidate.old e (current_of before))) }
+        damped_from result run.new ≡ resume_after o (accepted o run.old.candidate e (current_of (damped_from h run.old)))) }
 {
     let gain = rel_improvement(merit, h.total_merit);
-    let next = moved(
-        h, merit, job, found, surfaces, values, residuals, params, candidate,
-    );
+    let next = moved(h, merit, job, found, run);
     if gain < config.relative_merit_tolerance {
-        return ended(next, true, jacobian, plus_residuals, params, candidate);
+        return ended(next, true, run);
     }
-    resume_iterations(
-        next,
-        config.max_iterations,
-        jacobian,
-        plus_residuals,
-        params,
-        candidate,
-    )
+    resume_iterations(next, config.max_iterations, run)
 }
 
 // The candidate's merit.
@@ -149,13 +105,7 @@ pub(crate) fn advance_candidate(
     config: DlsConfig,
     job: &HeldJob,
     found: &[f64; 12],
-    surfaces: &mut [f64; 64],
-    jacobian: &mut [f64; 96],
-    values: &mut [f64; 12],
-    residuals: &mut [f64; 12],
-    plus_residuals: &mut [f64; 12],
-    params: &mut [f64; 8],
-    candidate: &mut [f64; 8],
+    run: &mut HeldRun,
     scratch: &mut [f64],
 ) -> Head
     requires fact_1 { scratch_length ≤ length scratch.old }
@@ -164,38 +114,12 @@ pub(crate) fn advance_candidate(
     requires fact_4 { 0 < num_active (variables_from job.now.counts job.now.numbers) }
     ensures fact_1 { ForFound job.now.counts job.now.numbers found.now (λ e.
         let o = optimizer config (variables_from job.now.counts job.now.numbers) (operand_count_from job.now.counts) in
-        let before = damped_from h surfaces.old jacobian.old values.old residuals.old
-        plus_residuals.old params.old candidate.old in
-        let after = damped_from result surfaces.new jacobian.new values.new residuals.new plus_residuals.new
-        params.new candidate.new in
-        after ≡ advance_at o Damped.candidate before e) }
+        damped_from result run.new ≡ advance_at o Damped.candidate (damped_from h run.old) e) }
     ensures fact_2 { ScratchKept scratch.old scratch.new }
 {
     let merit = merit_of(found, job);
     if is_reduction(merit, h.total_merit) {
-        return advance_accepted(
-            h,
-            config,
-            merit,
-            job,
-            found,
-            surfaces,
-            jacobian,
-            values,
-            residuals,
-            plus_residuals,
-            params,
-            candidate,
-        );
+        return advance_accepted(h, config, merit, job, found, run);
     }
-    resume_rejected(
-        h,
-        job,
-        jacobian,
-        residuals,
-        plus_residuals,
-        params,
-        candidate,
-        scratch,
-    )
+    resume_rejected(h, job, run, scratch)
 }

@@ -1,6 +1,6 @@
 // The normal equations of a damped run and the attempts at a step, from where they are entered to just before the next
 // merit, or to the end. The product and the gradient stand in scratch through all attempts of a turn.
-ghost use Rattle.std.specs.Prelude.{◌≡◌, not, ◌||◌, List, ◌-◌, ◌≤◌, length, Float};
+ghost use Rattle.std.specs.Prelude.{◌≡◌, not, ◌||◌, ◌-◌, ◌≤◌, length};
 ghost use Rattle.std.specs.Float.Ieee.{lt};
 ghost use Rattle.floats.specs.Basic.{finite_of};
 ghost use Rattle.normal.specs.Layout.{scratch_length, most_operands, most_variables};
@@ -14,7 +14,7 @@ ghost use Rattle.held.specs.RowFrom.{damped_from};
 
 use crate::states::{at_candidate, ended};
 use floats::is_finite;
-use held::{Head, HeldJob, clamp_values};
+use held::{Head, HeldJob, HeldRun, clamp_values};
 use jobs::DlsConfig;
 use normal::{Damping, STEP, attempt_step, normal_equations};
 
@@ -33,6 +33,7 @@ fn stepped(params: [f64; 8], p: usize, scratch: &[f64]) -> [f64; 8]
 }
 
 // The candidate: each parameter after its step, within its bounds.
+#[tactic(auto, using(crate::proofs::Few::few))]
 fn candidate_params(p: usize, job: &HeldJob, params: [f64; 8], scratch: &[f64]) -> [f64; 8]
     requires fact_1 { scratch_length ≤ length scratch.now }
     requires fact_2 { variable_count_from job.now.counts ≤ most_variables }
@@ -45,27 +46,21 @@ fn candidate_params(p: usize, job: &HeldJob, params: [f64; 8], scratch: &[f64]) 
 
 // The attempts from number `first` on, under a damping: the next candidate, or the end where none of the ten has a step.
 // dls.rs: `for _attempt in 0..10`
+#[tactic(auto, using(crate::proofs::Few::few))]
 fn resume_attempts(
     h: Head,
     p: usize,
     damping: Damping,
     first: u64,
     job: &HeldJob,
-    jacobian: &mut [f64; 96],
-    plus_residuals: &mut [f64; 12],
-    params: &mut [f64; 8],
-    candidate: &mut [f64; 8],
+    run: &mut HeldRun,
     scratch: &mut [f64],
 ) -> Head
     requires fact_1 { scratch_length ≤ length scratch.old }
     requires fact_2 { variable_count_from job.now.counts ≤ most_variables }
     requires fact_3 { p ≡ num_active (variables_from job.now.counts job.now.numbers) }
-    ensures { (surfaces values residuals : List Float) →
-        let before = damped_from h surfaces jacobian.old values residuals plus_residuals.old params.old
-        candidate.old in
-        let after = damped_from result surfaces jacobian.new values residuals plus_residuals.new params.new
-        candidate.new in
-        AttemptsMade (variables_from job.now.counts job.now.numbers) before damping first scratch.old scratch.new after }
+    ensures { AttemptsMade (variables_from job.now.counts job.now.numbers) (damped_from h run.old) damping first scratch.old scratch.new
+        (damped_from result run.new) }
 {
     let mut now = damping;
     for k in first..10 {
@@ -73,10 +68,10 @@ fn resume_attempts(
             now = now.raise();
             continue;
         }
-        let found = candidate_params(p, job, *params, scratch);
-        return at_candidate(h, now.value, k + 1, found, plus_residuals, candidate);
+        let found = candidate_params(p, job, run.params, scratch);
+        return at_candidate(h, now.value, k + 1, found, run);
     }
-    ended(h, false, jacobian, plus_residuals, params, candidate)
+    ended(h, false, run)
 }
 
 // Whether the gradient stops the run: also where its norm is not finite.
@@ -88,88 +83,53 @@ fn is_stationary(norm: f64, tolerance: f64) -> bool
 }
 
 // The Jacobian is whole: the gradient's stop comes before any attempt.
+#[tactic(auto, using(crate::proofs::Few::few))]
 pub(crate) fn resume_stationary(
     h: Head,
     config: DlsConfig,
     job: &HeldJob,
-    jacobian: &mut [f64; 96],
-    residuals: &[f64; 12],
-    plus_residuals: &mut [f64; 12],
-    params: &mut [f64; 8],
-    candidate: &mut [f64; 8],
+    run: &mut HeldRun,
     scratch: &mut [f64],
 ) -> Head
     requires fact_1 { scratch_length ≤ length scratch.old }
     requires fact_2 { variable_count_from job.now.counts ≤ most_variables }
     requires fact_3 { operand_count_from job.now.counts ≤ most_operands }
-    ensures fact_1 { ((surfaces values : List Float) →
-        let o = optimizer config (variables_from job.now.counts job.now.numbers) (operand_count_from job.now.counts) in
-        let before = damped_from h surfaces jacobian.old values residuals.now plus_residuals.old params.old
-        candidate.old in
-        let after = damped_from result surfaces jacobian.new values residuals.now plus_residuals.new params.new
-        candidate.new in
-        after ≡ resume_stationary o (is_stationary o jacobian.old (current_of before)) jacobian.old (current_of before)) }
+    ensures fact_1 { (let o = optimizer config (variables_from job.now.counts job.now.numbers) (operand_count_from job.now.counts) in
+        let before = current_of (damped_from h run.old) in
+        damped_from result run.new ≡ resume_stationary o (is_stationary o run.old.jacobian before) run.old.jacobian before) }
     ensures fact_2 { ScratchKept scratch.old scratch.new }
 {
     let p = job.num_active();
     let m = job.operand_count();
-    let norm = normal_equations(scratch, jacobian, residuals, m, p);
+    let norm = normal_equations(scratch, &run.jacobian, &run.residuals, m, p);
     if is_stationary(norm, config.gradient_tolerance) {
-        return ended(h, true, jacobian, plus_residuals, params, candidate);
+        return ended(h, true, run);
     }
     let damping = Damping { value: h.damping };
-    resume_attempts(
-        h,
-        p,
-        damping,
-        0,
-        job,
-        jacobian,
-        plus_residuals,
-        params,
-        candidate,
-        scratch,
-    )
+    resume_attempts(h, p, damping, 0, job, run, scratch)
 }
 
 // A candidate was not accepted: its attempt is over, and the damping is raised.
 // dls.rs: "step rejected .. increase damping"
+#[tactic(auto, using(crate::proofs::Few::few))]
 pub(crate) fn resume_rejected(
     h: Head,
     job: &HeldJob,
-    jacobian: &mut [f64; 96],
-    residuals: &[f64; 12],
-    plus_residuals: &mut [f64; 12],
-    params: &mut [f64; 8],
-    candidate: &mut [f64; 8],
+    run: &mut HeldRun,
     scratch: &mut [f64],
 ) -> Head
     requires fact_1 { scratch_length ≤ length scratch.old }
     requires fact_2 { variable_count_from job.now.counts ≤ most_variables }
     requires fact_3 { operand_count_from job.now.counts ≤ most_operands }
-    ensures fact_1 { ((config : DlsConfig) (surfaces values : List Float) →
+    ensures fact_1 { ((config : DlsConfig) →
         let o = optimizer config (variables_from job.now.counts job.now.numbers) (operand_count_from job.now.counts) in
-        let before = damped_from h surfaces jacobian.old values residuals.now plus_residuals.old params.old
-        candidate.old in
-        let after = damped_from result surfaces jacobian.new values residuals.now plus_residuals.new params.new
-        candidate.new in
-        after ≡ resume_attempts o (10 - h.attempt) jacobian.old (raised (current_of before)) h.attempt) }
+        damped_from result run.new
+        ≡ resume_attempts o (10 - h.attempt) run.old.jacobian (raised (current_of (damped_from h run.old))) h.attempt) }
     ensures fact_2 { ScratchKept scratch.old scratch.new }
 {
     let p = job.num_active();
     let m = job.operand_count();
-    let norm = normal_equations(scratch, jacobian, residuals, m, p);
+    let norm = normal_equations(scratch, &run.jacobian, &run.residuals, m, p);
     let damping = Damping { value: h.damping };
-    resume_attempts(
-        h,
-        p,
-        damping.raise(),
-        h.attempt,
-        job,
-        jacobian,
-        plus_residuals,
-        params,
-        candidate,
-        scratch,
-    )
+    resume_attempts(h, p, damping.raise(), h.attempt, job, run, scratch)
 }

@@ -1,6 +1,6 @@
 // The Jacobian of a damped run, by central differences: the surfaces on either side of a parameter, and the column out of
 // their residuals.
-ghost use Rattle.std.specs.Prelude.{◌≡◌, List, ℕ, ◌≤◌, ◌<◌, Float, length, get_or, set};
+ghost use Rattle.std.specs.Prelude.{◌≡◌, ℕ, ◌≤◌, ◌<◌, Float, length, get_or, set};
 ghost use Rattle.std.specs.Float.{nan};
 ghost use Rattle.variables.specs.Active.{active_at};
 ghost use Rattle.normal.specs.Layout.{most_operands, most_variables};
@@ -12,7 +12,7 @@ ghost use Rattle.held.specs.JobFrom.{standing, variable_count_from, operand_coun
 ghost use Rattle.held.specs.RowFrom.{damped_from};
 ghost use Rattle.held.specs.Standing.{Behind};
 
-use held::{Head, HeldJob, lay_applied};
+use held::{Head, HeldJob, HeldRun, lay_applied};
 use jobs::DlsConfig;
 use normal::{delta, denominator, jacobian_column, minus_value, plus_value};
 use variables::VariableDef;
@@ -41,8 +41,7 @@ pub(crate) fn lay_moved<F: Fn(f64, f64, VariableDef) -> f64>(
     h: Head,
     config: DlsConfig,
     job: &HeldJob,
-    surfaces: &[f64; 64],
-    params: &[f64; 8],
+    run: &HeldRun,
     flat: &mut [f64],
 )
     requires fact_1 { variable_count_from job.now.counts ≤ most_variables }
@@ -50,33 +49,32 @@ pub(crate) fn lay_moved<F: Fn(f64, f64, VariableDef) -> f64>(
     requires fact_3 { 64 ≤ length flat.old }
     requires fact_4 { F.IsAlwaysCallable side }
     ensures fact_1 { let v = variables_from job.now.counts job.now.numbers in
-        (x : Float) × F.post side (get_or params.now h.column nan) config.finite_difference_relative_step (active_at v h.column) x
-        × (standing flat.new ≡ applied v (set params.now h.column x) (standing surfaces.now)) }
+        (x : Float) × F.post side (get_or run.now.params h.column nan) config.finite_difference_relative_step (active_at v h.column) x
+        × (standing flat.new ≡ applied v (set run.now.params h.column x) (standing run.now.surfaces)) }
     ensures fact_2 { Behind flat.old flat.new }
 {
     let q = h.column as usize;
-    let mut moved = *params;
+    let mut moved = run.params;
     moved[q] = side(
-        params[q],
+        run.params[q],
         config.finite_difference_relative_step,
         job.active_at(q),
     );
-    lay_applied(job, moved, surfaces, flat);
+    lay_applied(job, moved, &run.surfaces, flat);
 }
 
 // What lies between the parameter moved up and moved down.
 // dls.rs: `denom`
-fn between(h: Head, config: DlsConfig, job: &HeldJob, params: &[f64; 8]) -> f64
+fn between(h: Head, config: DlsConfig, job: &HeldJob, run: &HeldRun) -> f64
     requires fact_1 { variable_count_from job.now.counts ≤ most_variables }
     requires fact_2 { h.column < most_variables }
-    ensures { (m : ℕ) (surfaces jacobian values residuals plus candidate : List Float) →
+    ensures { (m : ℕ) →
         let o = optimizer config (variables_from job.now.counts job.now.numbers) m in
-        let state = damped_from h surfaces jacobian values residuals plus params.now candidate in
-        result ≡ denom o (current_of state) h.column }
+        result ≡ denom o (current_of (damped_from h run.now)) h.column }
 {
     let q = h.column as usize;
     let variable = job.active_at(q);
-    let x0 = params[q];
+    let x0 = run.params[q];
     let relative = config.finite_difference_relative_step;
     let plus = moved_up(x0, relative, variable);
     let minus = moved_down(x0, relative, variable);
@@ -90,21 +88,17 @@ pub(crate) fn with_differences(
     config: DlsConfig,
     job: &HeldJob,
     minus: [f64; 12],
-    jacobian: &mut [f64; 96],
-    plus_residuals: &[f64; 12],
-    params: &[f64; 8],
+    run: &mut HeldRun,
 )
     requires fact_1 { variable_count_from job.now.counts ≤ most_variables }
     requires fact_2 { operand_count_from job.now.counts ≤ most_operands }
     requires fact_3 { h.column < most_variables }
-    ensures { (surfaces values residuals candidate : List Float) →
-        let o = optimizer config (variables_from job.now.counts job.now.numbers) (operand_count_from job.now.counts) in
-        let before = damped_from h surfaces jacobian.old values residuals plus_residuals.now params.now candidate in
-        let after = damped_from h surfaces jacobian.new values residuals plus_residuals.now params.now candidate in
-        after ≡ with_jacobian before (with_differences o (current_of before) h.column jacobian.old plus_residuals.now minus) }
+    ensures { let o = optimizer config (variables_from job.now.counts job.now.numbers) (operand_count_from job.now.counts) in
+        let before = damped_from h run.old in
+        damped_from h run.new ≡ with_jacobian before (with_differences o (current_of before) h.column run.old.jacobian run.old.plus_residuals minus) }
 {
-    let d = between(h, config, job, params);
+    let d = between(h, config, job, run);
     let q = h.column as usize;
     let m = job.operand_count();
-    jacobian_column(jacobian, q, plus_residuals, &minus, m, d);
+    jacobian_column(&mut run.jacobian, q, &run.plus_residuals, &minus, m, d);
 }

@@ -1,4 +1,4 @@
-// The damped run of a row over lent arrays, from one merit to the next (out of dls.rs).
+// The damped run of a row, lent as one, from one merit to the next (out of dls.rs).
 // Stands on `heldmerit` and `normal`; called by `turns`, by `multistart` for a trial's run and by `annealing` for the polish.
 #![tactic(auto)]
 

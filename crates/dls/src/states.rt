@@ -1,31 +1,21 @@
 // The states that a damped run stands in between two merits, one function a phase. What a phase does not use is zero.
-// An array that is not lent is any array: it stays as it is. The functions are alike but for the fields and arrays that a phase uses,
-// which is all that they say: one for several would be handed them.
-ghost use Rattle.std.specs.Prelude.{◌≡◌, List, Float};
+// The functions are alike but for the fields and arrays that a phase uses, which is all that they say: one for several would be handed them.
+ghost use Rattle.std.specs.Prelude.{◌≡◌};
 ghost use Rattle.runs.specs.DampedRow.{current_of, holding, at_first, at_plus, at_minus, at_candidate, ended};
 ghost use Rattle.dls.specs.DampedSteps.{with_damping};
 ghost use Rattle.held.specs.JobFrom.{standing};
 ghost use Rattle.held.specs.RowFrom.{damped_from};
 
-use held::Head;
+use held::{Head, HeldRun, phases};
 
 // Outside the loops: the phase, and surfaces, params and a candidate that stand already.
-pub fn holding(
-    phase: u64,
-    jacobian: &mut [f64; 96],
-    values: &mut [f64; 12],
-    residuals: &mut [f64; 12],
-    plus_residuals: &mut [f64; 12],
-) -> Head
-    ensures { (surfaces params candidate : List Float) →
-        let after = damped_from result surfaces jacobian.new values.new residuals.new plus_residuals.new params
-        candidate in
-        after ≡ holding phase (standing surfaces) params candidate }
+pub fn holding(phase: u64, run: &mut HeldRun) -> Head
+    ensures { damped_from result run.new ≡ holding phase (standing run.old.surfaces) run.old.params run.old.candidate }
 {
-    *jacobian = [0.0; 96];
-    *values = [0.0; 12];
-    *residuals = [0.0; 12];
-    *plus_residuals = [0.0; 12];
+    run.jacobian = [0.0; 96];
+    run.values = [0.0; 12];
+    run.residuals = [0.0; 12];
+    run.plus_residuals = [0.0; 12];
     Head {
         total_merit: 0.0,
         initial_merit: 0.0,
@@ -39,40 +29,22 @@ pub fn holding(
 }
 
 // Just before the first merit, of surfaces that stand already.
-pub fn at_first(
-    jacobian: &mut [f64; 96],
-    values: &mut [f64; 12],
-    residuals: &mut [f64; 12],
-    plus_residuals: &mut [f64; 12],
-    params: &mut [f64; 8],
-    candidate: &mut [f64; 8],
-) -> Head
-    ensures { (surfaces : List Float) →
-        let after = damped_from result surfaces jacobian.new values.new residuals.new plus_residuals.new
-        params.new candidate.new in
-        after ≡ at_first (standing surfaces) }
+pub fn at_first(run: &mut HeldRun) -> Head
+    ensures { damped_from result run.new ≡ at_first (standing run.old.surfaces) }
 {
-    *params = [0.0; 8];
-    *candidate = [0.0; 8];
-    holding(0, jacobian, values, residuals, plus_residuals)
+    run.params = [0.0; 8];
+    run.candidate = [0.0; 8];
+    holding(phases::FIRST, run)
 }
 
 // Just before the merit that moves parameter `column` up.
-pub(crate) fn at_plus(
-    h: Head,
-    column: u64,
-    plus_residuals: &mut [f64; 12],
-    candidate: &mut [f64; 8],
-) -> Head
-    ensures { (surfaces jacobian values residuals params : List Float) →
-        let before = damped_from h surfaces jacobian values residuals plus_residuals.old params candidate.old in
-        let after = damped_from result surfaces jacobian values residuals plus_residuals.new params candidate.new in
-        after ≡ at_plus (current_of before) jacobian column }
+pub(crate) fn at_plus(h: Head, column: u64, run: &mut HeldRun) -> Head
+    ensures { damped_from result run.new ≡ at_plus (current_of (damped_from h run.old)) run.old.jacobian column }
 {
-    *plus_residuals = [0.0; 12];
-    *candidate = [0.0; 8];
+    run.plus_residuals = [0.0; 12];
+    run.candidate = [0.0; 8];
     Head {
-        phase: 1,
+        phase: phases::PLUS,
         column,
         attempt: 0,
         converged: 0,
@@ -81,21 +53,13 @@ pub(crate) fn at_plus(
 }
 
 // Just before the merit that moves it down.
-pub(crate) fn at_minus(
-    h: Head,
-    found: [f64; 12],
-    plus_residuals: &mut [f64; 12],
-    candidate: &mut [f64; 8],
-) -> Head
-    ensures { (surfaces jacobian values residuals params : List Float) →
-        let before = damped_from h surfaces jacobian values residuals plus_residuals.old params candidate.old in
-        let after = damped_from result surfaces jacobian values residuals plus_residuals.new params candidate.new in
-        after ≡ at_minus (current_of before) jacobian h.column found }
+pub(crate) fn at_minus(h: Head, found: [f64; 12], run: &mut HeldRun) -> Head
+    ensures { damped_from result run.new ≡ at_minus (current_of (damped_from h run.old)) run.old.jacobian h.column found }
 {
-    *plus_residuals = found;
-    *candidate = [0.0; 8];
+    run.plus_residuals = found;
+    run.candidate = [0.0; 8];
     Head {
-        phase: 2,
+        phase: phases::MINUS,
         attempt: 0,
         converged: 0,
         ..h
@@ -108,19 +72,16 @@ pub(crate) fn at_candidate(
     damping: f64,
     attempt: u64,
     found: [f64; 8],
-    plus_residuals: &mut [f64; 12],
-    candidate: &mut [f64; 8],
+    run: &mut HeldRun,
 ) -> Head
-    ensures { (surfaces jacobian values residuals params : List Float) →
-        let before = damped_from h surfaces jacobian values residuals plus_residuals.old params candidate.old in
-        let after = damped_from result surfaces jacobian values residuals plus_residuals.new params candidate.new in
-        after ≡ at_candidate (with_damping damping (current_of before)) jacobian attempt found }
+    ensures { damped_from result run.new
+        ≡ at_candidate (with_damping damping (current_of (damped_from h run.old))) run.old.jacobian attempt found }
 {
-    *plus_residuals = [0.0; 12];
-    *candidate = found;
+    run.plus_residuals = [0.0; 12];
+    run.candidate = found;
     Head {
         damping,
-        phase: 3,
+        phase: phases::CANDIDATE,
         column: 0,
         attempt,
         converged: 0,
@@ -129,28 +90,16 @@ pub(crate) fn at_candidate(
 }
 
 // At the end.
-pub(crate) fn ended(
-    h: Head,
-    converged: bool,
-    jacobian: &mut [f64; 96],
-    plus_residuals: &mut [f64; 12],
-    params: &mut [f64; 8],
-    candidate: &mut [f64; 8],
-) -> Head
-    ensures { (surfaces values residuals : List Float) →
-        let before = damped_from h surfaces jacobian.old values residuals plus_residuals.old params.old
-        candidate.old in
-        let after = damped_from result surfaces jacobian.new values residuals plus_residuals.new params.new
-        candidate.new in
-        after ≡ ended converged (current_of before) }
+pub(crate) fn ended(h: Head, converged: bool, run: &mut HeldRun) -> Head
+    ensures { damped_from result run.new ≡ ended converged (current_of (damped_from h run.old)) }
 {
-    *jacobian = [0.0; 96];
-    *plus_residuals = [0.0; 12];
-    *params = [0.0; 8];
-    *candidate = [0.0; 8];
+    run.jacobian = [0.0; 96];
+    run.plus_residuals = [0.0; 12];
+    run.params = [0.0; 8];
+    run.candidate = [0.0; 8];
     Head {
         damping: 0.0,
-        phase: 4,
+        phase: phases::FINISHED,
         column: 0,
         attempt: 0,
         converged: u64::from(converged),

@@ -3,28 +3,20 @@
 #![tactic(auto)]
 
 ghost use Rattle.std.specs.Prelude.{◌≡◌, ◌≤◌};
-ghost use Rattle.held.specs.RowFrom.{turns_from};
 ghost use Rattle.bench.specs.Calls.{listing_of};
 ghost use Rattle.finished.specs.Inserted.{turns_of, turns_in, position_from, entry_opened, opened_at};
 
 use bench::{Bench, Finished};
-use held::HeldRow;
-
-fn row_turns(row: &HeldRow) -> u64
-    ensures { result ≡ turns_from row.now.words }
-{
-    held::turns(&row.words)
-}
 
 // Each place's working turns.
 fn turns_of(bench: &Bench) -> [u64; 4]
     ensures { result ≡ turns_of bench.now }
 {
     [
-        row_turns(&bench.rows[0]),
-        row_turns(&bench.rows[1]),
-        row_turns(&bench.rows[2]),
-        row_turns(&bench.rows[3]),
+        bench.rows[0].head.turns(),
+        bench.rows[1].head.turns(),
+        bench.rows[2].head.turns(),
+        bench.rows[3].head.turns(),
     ]
 }
 

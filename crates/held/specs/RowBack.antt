@@ -61,19 +61,25 @@ scalars-back words scalars e = scalars-read words scalars ∙ whole scalars nan 
 
 pub held_back : (h : HeldRow) → Long h → held_from (row_from h) ≡ h
 held_back h l = λ i. record {
-  words = words_back h.words h.scalars l.words i;
-  scalars = scalars-back h.words h.scalars l.scalars i;
+  head = record {
+    words = words_back h.head.words h.head.scalars l.words i;
+    scalars = scalars-back h.head.words h.head.scalars l.scalars i;
+  };
   job = record { counts = counts-back h.job.counts h.job.numbers l.counts i; numbers = numbers-back h.job.counts h.job.numbers l.numbers i };
-  surfaces = laid-standing h.surfaces l.surfaces i;
-  jacobian = h.jacobian;
-  values = h.values;
-  residuals = h.residuals;
-  plus_residuals = h.plus_residuals;
-  params = h.params;
-  candidate = h.candidate;
-  best_surfaces = laid-standing h.best_surfaces l.best_surfaces i;
-  best_values = h.best_values;
-  best_residuals = h.best_residuals;
+  run = record {
+    surfaces = laid-standing h.run.surfaces l.surfaces i;
+    jacobian = h.run.jacobian;
+    values = h.run.values;
+    residuals = h.run.residuals;
+    plus_residuals = h.run.plus_residuals;
+    params = h.run.params;
+    candidate = h.run.candidate;
+  };
+  best = record {
+    surfaces = laid-standing h.best.surfaces l.best_surfaces i;
+    values = h.best.values;
+    residuals = h.best.residuals;
+  };
 }
 
 -- so two held rows that stand for one row are one
@@ -158,8 +164,8 @@ pub read-full : (h : HeldRow) → Full (row_from h)
 unfolding variable_records_from operand_records_from
 read-full h = record {
   job = record { surfaces = standing-long h.job.numbers; indices = indices-long h.job.numbers; variables = length-tab _ 8; operands = length-tab _ 12 };
-  surfaces = standing-long h.surfaces;
-  best_surfaces = standing-long h.best_surfaces;
+  surfaces = standing-long h.run.surfaces;
+  best_surfaces = standing-long h.best.surfaces;
 }
 
 pub counts-long : (r : JobRecord) → length (held_counts r) ≡ 73

@@ -7,7 +7,9 @@ use Rattle.runs.specs.declared.types.Row.{Row}
 use Rattle.runs.specs.State.{State, row_of}
 use Rattle.held.specs.declared.types.BestHead.{BestHead}
 use Rattle.held.specs.declared.types.Head.{Head}
+use Rattle.held.specs.declared.types.HeldBest.{HeldBest}
 use Rattle.held.specs.declared.types.HeldRow.{HeldRow}
+use Rattle.held.specs.declared.types.HeldRun.{HeldRun}
 use Rattle.held.specs.declared.types.RowHead.{RowHead}
 use Rattle.held.specs.JobFrom.{standing, job_record_from}
 use Rattle.held.specs.Places.{kind_at, turns_at, phase_at, iteration_at, column_at, attempt_at, converged_at, generator_at, trial_at, cycle_at, step_at}
@@ -77,14 +79,14 @@ module _ (words : List ℕ) (scalars : List Float) where
   }
 
 -- ---- these and the arrays
-abbrev pub damped_from : Head → (surfaces jacobian values residuals plus_residuals params candidate : List Float) → DampedState
-damped_from h surfaces jacobian values residuals plus_residuals params candidate = record {
-  surfaces = standing surfaces;
-  jacobian = jacobian;
-  evaluation = record { values = values; residuals = residuals; total_merit = h.total_merit };
-  plus_residuals = plus_residuals;
-  params = params;
-  candidate = candidate;
+abbrev pub damped_from : Head → HeldRun → DampedState
+damped_from h run = record {
+  surfaces = standing run.surfaces;
+  jacobian = run.jacobian;
+  evaluation = record { values = run.values; residuals = run.residuals; total_merit = h.total_merit };
+  plus_residuals = run.plus_residuals;
+  params = run.params;
+  candidate = run.candidate;
   initial_merit = h.initial_merit;
   damping = h.damping;
   phase = h.phase;
@@ -94,22 +96,21 @@ damped_from h surfaces jacobian values residuals plus_residuals params candidate
   converged = h.converged;
 }
 
-abbrev pub result_from : BestHead → (surfaces values residuals : List Float) → OptimizationResult
-result_from b surfaces values residuals = record {
-  surfaces = standing surfaces;
-  values = values;
-  residuals = residuals;
+abbrev pub result_from : BestHead → HeldBest → OptimizationResult
+result_from b best = record {
+  surfaces = standing best.surfaces;
+  values = best.values;
+  residuals = best.residuals;
   initial_merit = b.initial_merit;
   final_merit = b.final_merit;
   iterations = b.iterations;
   converged = b.converged;
 }
 
-abbrev pub state_from : RowHead → (surfaces jacobian values residuals plus_residuals params candidate best_surfaces best_values best_residuals : List Float)
-    → State
-state_from h surfaces jacobian values residuals plus_residuals params candidate best_surfaces best_values best_residuals = record {
-  damped = damped_from h.damped surfaces jacobian values residuals plus_residuals params candidate;
-  best = result_from h.best best_surfaces best_values best_residuals;
+abbrev pub state_from : RowHead → HeldRun → HeldBest → State
+state_from h run best = record {
+  damped = damped_from h.damped run;
+  best = result_from h.best best;
   generator = h.generator;
   trial = h.trial;
   cycle = h.cycle;
@@ -120,26 +121,24 @@ state_from h surfaces jacobian values residuals plus_residuals params candidate 
 
 -- ---- the row that a held row stands for
 abbrev pub held_state : HeldRow → State
-held_state h =
-    state_from (head_from h.words h.scalars) h.surfaces h.jacobian h.values h.residuals h.plus_residuals h.params h.candidate
-    h.best_surfaces h.best_values h.best_residuals
+held_state h = state_from (head_from h.head.words h.head.scalars) h.run h.best
 
 abbrev pub row_from : HeldRow → Row
-row_from h = row_of (job_record_from h.job.counts h.job.numbers) (kind_from h.words) (turns_from h.words) (held_state h)
+row_from h = row_of (job_record_from h.job.counts h.job.numbers) (kind_from h.head.words) (turns_from h.head.words) (held_state h)
 
 -- every array has its length
 pub record Long (h : HeldRow) : Type 0 where
-  pub words : length h.words ≡ 13
-  pub scalars : length h.scalars ≡ 7
+  pub words : length h.head.words ≡ 13
+  pub scalars : length h.head.scalars ≡ 7
   pub counts : length h.job.counts ≡ 73
   pub numbers : length h.job.numbers ≡ 195
-  pub surfaces : length h.surfaces ≡ 64
-  pub jacobian : length h.jacobian ≡ 96
-  pub values : length h.values ≡ 12
-  pub residuals : length h.residuals ≡ 12
-  pub plus_residuals : length h.plus_residuals ≡ 12
-  pub params : length h.params ≡ 8
-  pub candidate : length h.candidate ≡ 8
-  pub best_surfaces : length h.best_surfaces ≡ 64
-  pub best_values : length h.best_values ≡ 12
-  pub best_residuals : length h.best_residuals ≡ 12
+  pub surfaces : length h.run.surfaces ≡ 64
+  pub jacobian : length h.run.jacobian ≡ 96
+  pub values : length h.run.values ≡ 12
+  pub residuals : length h.run.residuals ≡ 12
+  pub plus_residuals : length h.run.plus_residuals ≡ 12
+  pub params : length h.run.params ≡ 8
+  pub candidate : length h.run.candidate ≡ 8
+  pub best_surfaces : length h.best.surfaces ≡ 64
+  pub best_values : length h.best.values ≡ 12
+  pub best_residuals : length h.best.residuals ≡ 12

@@ -13,7 +13,10 @@ use Rattle.runs.specs.declared.types.Row.{Row}
 use Rattle.runs.specs.State.{State, state_of}
 use Rattle.held.specs.declared.types.BestHead.{BestHead}
 use Rattle.held.specs.declared.types.Head.{Head}
+use Rattle.held.specs.declared.types.HeldBest.{HeldBest}
+use Rattle.held.specs.declared.types.HeldHead.{HeldHead}
 use Rattle.held.specs.declared.types.HeldRow.{HeldRow}
+use Rattle.held.specs.declared.types.HeldRun.{HeldRun}
 use Rattle.held.specs.declared.types.RowHead.{RowHead}
 
 -- n lists, one after the other
@@ -129,20 +132,29 @@ held_scalars h =
     ∷ h.best.final_merit
     ∷ []
 
+abbrev pub held_head : (kind turns : ℕ) → RowHead → HeldHead
+held_head kind turns h = record { words = held_words kind turns h; scalars = held_scalars h }
+
+-- ---- the arrays
+abbrev pub held_run : DampedState → HeldRun
+held_run d = record {
+  surfaces = laid_flat d.surfaces 16;
+  jacobian = d.jacobian;
+  values = d.evaluation.values;
+  residuals = d.evaluation.residuals;
+  plus_residuals = d.plus_residuals;
+  params = d.params;
+  candidate = d.candidate;
+}
+
+abbrev pub held_best : OptimizationResult → HeldBest
+held_best b = record { surfaces = laid_flat b.surfaces 16; values = b.values; residuals = b.residuals }
+
 -- ---- the held row that stands for a row
 abbrev pub held_from : Row → HeldRow
 held_from r = record {
-  words = held_words r.kind r.turns (head_of (state_of r));
-  scalars = held_scalars (head_of (state_of r));
+  head = held_head r.kind r.turns (head_of (state_of r));
   job = record { counts = held_counts r.job; numbers = held_numbers r.job };
-  surfaces = laid_flat r.damped.surfaces 16;
-  jacobian = r.damped.jacobian;
-  values = r.damped.evaluation.values;
-  residuals = r.damped.evaluation.residuals;
-  plus_residuals = r.damped.plus_residuals;
-  params = r.damped.params;
-  candidate = r.damped.candidate;
-  best_surfaces = laid_flat r.best.surfaces 16;
-  best_values = r.best.values;
-  best_residuals = r.best.residuals;
+  run = held_run r.damped;
+  best = held_best r.best;
 }

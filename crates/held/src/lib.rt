@@ -6,15 +6,13 @@
 mod entries;
 mod flat;
 mod head;
+pub mod methods;
+pub mod phases;
 pub mod places;
 mod sets;
 mod types;
 mod values;
 
 pub use flat::{copy, stand};
-pub use head::{
-    attempt, column, cycle, head_of, iteration, kind, phase, put_scalars, put_words, step, trial,
-    turns,
-};
-pub use types::{BestHead, Head, HeldJob, HeldRow, RowHead};
+pub use types::{BestHead, Head, HeldBest, HeldHead, HeldJob, HeldRow, HeldRun, RowHead};
 pub use values::{apply_values, clamp_values, extract_values, lay_applied};

@@ -1,4 +1,4 @@
-// A row as the bench holds it: arrays of numbers and nothing else, so that a call can lend each of them. `specs/RowFrom.antt` reads it as a row.
+// A row as the bench holds it: arrays of numbers and nothing else, in four parts that a call lends whole. `specs/RowFrom.antt` reads it as a row.
 
 // The job of it: it goes by reference wherever the row's code needs it, and nothing writes it after admission.
 #[repr(C)]
@@ -8,13 +8,18 @@ pub struct HeldJob {
     pub numbers: [f64; 195],
 }
 
-// `places.rt` says where an entry stands. Surfaces are laid flat, four numbers each.
+// What tells where the row's run is: the words and scalars of its kind, turns, phase and heads. `places.rt` says where an entry stands.
 #[repr(C)]
 #[derive(Clone, Copy)]
-pub struct HeldRow {
+pub struct HeldHead {
     pub words: [u64; 13],
     pub scalars: [f64; 7],
-    pub job: HeldJob,
+}
+
+// The arrays of the damped run. Surfaces are laid flat, four numbers each.
+#[repr(C)]
+#[derive(Clone, Copy)]
+pub struct HeldRun {
     pub surfaces: [f64; 64],
     pub jacobian: [f64; 96],
     pub values: [f64; 12],
@@ -22,9 +27,25 @@ pub struct HeldRow {
     pub plus_residuals: [f64; 12],
     pub params: [f64; 8],
     pub candidate: [f64; 8],
-    pub best_surfaces: [f64; 64],
-    pub best_values: [f64; 12],
-    pub best_residuals: [f64; 12],
+}
+
+// Those of the best result.
+#[repr(C)]
+#[derive(Clone, Copy)]
+pub struct HeldBest {
+    pub surfaces: [f64; 64],
+    pub values: [f64; 12],
+    pub residuals: [f64; 12],
+}
+
+// The parts lie one after the other, as C has them.
+#[repr(C)]
+#[derive(Clone, Copy)]
+pub struct HeldRow {
+    pub head: HeldHead,
+    pub job: HeldJob,
+    pub run: HeldRun,
+    pub best: HeldBest,
 }
 
 // The numbers of a damped run that go by value; its arrays are lent.
@@ -34,7 +55,7 @@ pub struct Head {
     pub total_merit: f64,
     pub initial_merit: f64,
     pub damping: f64,
-    // 0 first, 1 plus, 2 minus, 3 candidate, 4 finished; in annealing also 5 walk first and 6 walk. Numbers, since a row may hold any.
+    // One of `phases`, or any other number that a row may hold.
     pub phase: u64,
     pub iteration: u64,
     pub column: u64,

@@ -1,3 +1,2 @@
--- What a contract says whatever the arrays are that it is not lent (`Others`), and what the tests amount to (`Verdicts`).
-pub mod Others
+-- What the tests amount to.
 pub mod Verdicts

@@ -15,12 +15,11 @@ use Rattle.jobs.specs.Records.{dls_config, multi_start_config, annealing_config,
 use Rattle.runs.specs.Rows.{is_finished, finished_by, bound}
 use Rattle.runs.specs.Damage.{is_kind, state_sound, job_sound, turns_sound, damaged}
 use Rattle.kinds.specs.Limits.{CountsWithin}
-use Rattle.held.specs.declared.types.HeldJob.{HeldJob}
+use Rattle.held.specs.declared.types.HeldRow.{HeldRow}
 use Rattle.held.specs.JobFrom.{surface_count_from, slot_count_from, operand_count_from, settings_from, job_record_from, held_job, prescription_from}
 use Rattle.held.specs.JobFrom.{variables_from}
 use Rattle.held.specs.JobFrom.{operands_from}
-use Rattle.held.specs.RowFrom.{kind_from, turns_from, row_from}
-use Rattle.helddamage.specs.Others.{Others, held_with, state_with}
+use Rattle.held.specs.RowFrom.{kind_from, turns_from, held_state, row_from}
 
 -- ---- two tests in one loop
 pub first-fails : (a b : Bool) → a ≡ false → a && b ≡ false
@@ -127,31 +126,31 @@ within-any counts numbers numbers' kind h = go (eqb kind 1) (eqb kind 2) h
     go false false h = h
 
 -- ---- the row
-module _ (words : List ℕ) (job : HeldJob) (surfaces best : List Float) (o : Others) where
+module _ (h : HeldRow) where
   abbrev pub judged : Bool
-  judged = damaged (row_from (held_with words job surfaces best o))
+  judged = damaged (row_from h)
 
   abbrev pub sound_state : Bool
-  sound_state = state_sound (method (kind_from words) (settings_from job.counts job.numbers)) (held_job job.counts job.numbers (kind_from words))
-      (state_with words surfaces best o)
+  sound_state = state_sound (method (kind_from h.head.words) (settings_from h.job.counts h.job.numbers))
+      (held_job h.job.counts h.job.numbers (kind_from h.head.words)) (held_state h)
 
   abbrev pub ended : Bool
-  ended = finished_by (method (kind_from words) (settings_from job.counts job.numbers)) (state_with words surfaces best o)
+  ended = finished_by (method (kind_from h.head.words) (settings_from h.job.counts h.job.numbers)) (held_state h)
 
   verdict : judged
-      ≡ not (is_kind (kind_from words) && record_taken (kind_from words) (job_record_from job.counts job.numbers) && sound_state
-      && (ended || ltb (turns_from words) (bound (held_job job.counts job.numbers (kind_from words)))))
+      ≡ not (is_kind (kind_from h.head.words) && record_taken (kind_from h.head.words) (job_record_from h.job.counts h.job.numbers) && sound_state
+      && (ended || ltb (turns_from h.head.words) (bound (held_job h.job.counts h.job.numbers (kind_from h.head.words)))))
   unfolding damaged job_sound turns_sound is_finished
   verdict = refl
 
-  pub no_kind : is_kind (kind_from words) ≡ false → judged ≡ true
+  pub no_kind : is_kind (kind_from h.head.words) ≡ false → judged ≡ true
   no_kind e = verdict ∙ rw e refl
 
-  module _ (k : is_kind (kind_from words) ≡ true) where
-    pub no-job : record_taken (kind_from words) (job_record_from job.counts job.numbers) ≡ false → judged ≡ true
+  module _ (k : is_kind (kind_from h.head.words) ≡ true) where
+    pub no-job : record_taken (kind_from h.head.words) (job_record_from h.job.counts h.job.numbers) ≡ false → judged ≡ true
     no-job e = verdict ∙ rw (k, e) refl
 
-    module _ (j : record_taken (kind_from words) (job_record_from job.counts job.numbers) ≡ true) where
+    module _ (j : record_taken (kind_from h.head.words) (job_record_from h.job.counts h.job.numbers) ≡ true) where
       pub no-state : sound_state ≡ false → judged ≡ true
       no-state e = verdict ∙ rw (k, j, e) refl
 
@@ -159,5 +158,5 @@ module _ (words : List ℕ) (job : HeldJob) (surfaces best : List Float) (o : Ot
         pub at-end : ended ≡ true → judged ≡ false
         at-end e = verdict ∙ rw (k, j, s, e) refl
 
-        pub before-end : ended ≡ false → judged ≡ not (ltb (turns_from words) (bound (held_job job.counts job.numbers (kind_from words))))
+        pub before-end : ended ≡ false → judged ≡ not (ltb (turns_from h.head.words) (bound (held_job h.job.counts h.job.numbers (kind_from h.head.words))))
         before-end e = verdict ∙ rw (k, j, s, e) refl

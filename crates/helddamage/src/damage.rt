@@ -1,18 +1,17 @@
 // Whether a held row is damaged.
-ghost use Rattle.std.specs.Prelude.{◌≡◌, List, ◌≤◌, Float, length};
+ghost use Rattle.std.specs.Prelude.{◌≡◌, ◌≤◌, length};
 ghost use Rattle.jobs.specs.declared.types.SettingsRecord.{SettingsRecord};
 ghost use Rattle.jobs.specs.Records.{method};
 ghost use Rattle.runs.specs.Damage.{taken_if, surfaces_sound, counters_sound, state_sound, damaged};
 ghost use Rattle.variables.specs.Active.{num_active};
 ghost use Rattle.held.specs.JobFrom.{standing, surface_count_from, settings_from, held_job, variables_from};
-ghost use Rattle.held.specs.RowFrom.{kind_from, row_from};
-ghost use Rattle.helddamage.specs.Others.{Others, held_with, state_with};
+ghost use Rattle.held.specs.RowFrom.{kind_from, held_state, row_from};
 
 use crate::{checks, limits};
-use held::HeldJob;
+use held::HeldRow;
 
-fn taken_if(used: bool, flat: &[f64], count: usize) -> bool
-    requires { (count ≤ 16) × (64 ≤ length flat.now) }
+fn taken_if(used: bool, flat: &[f64; 64], count: usize) -> bool
+    requires { count ≤ 16 }
     ensures { result ≡ taken_if used (standing flat.now) count }
 {
     !used || checks::surfaces_taken(flat, count)
@@ -20,64 +19,64 @@ fn taken_if(used: bool, flat: &[f64], count: usize) -> bool
 
 // The surfaces in use.
 #[tactic(auto, unfolding(runs::specs::Damage::surfaces_sound))]
-fn surfaces_sound(words: &[u64; 13], count: usize, surfaces: &[f64], best: &[f64]) -> bool
-    requires { (count ≤ 16) × (64 ≤ length surfaces.now) × (64 ≤ length best.now) }
-    ensures { (c : SettingsRecord) (o : Others)
-        → result ≡ surfaces_sound (method (kind_from words.now) c) count (state_with words.now surfaces.now best.now o) }
+fn surfaces_sound(row: &HeldRow, count: usize) -> bool
+    requires { count ≤ 16 }
+    ensures { (c : SettingsRecord) → result ≡ surfaces_sound (method (kind_from row.now.head.words) c) count (held_state row.now) }
 {
-    let kind = held::kind(words);
-    let phase = held::phase(words);
-    let trial = held::trial(words);
-    taken_if(limits::uses_current(kind, phase), surfaces, count)
-        && taken_if(limits::uses_best(kind, phase, trial), best, count)
+    let kind = row.head.kind();
+    let phase = row.head.phase();
+    let trial = row.head.trial();
+    taken_if(limits::uses_current(kind, phase), &row.run.surfaces, count)
+        && taken_if(
+            limits::uses_best(kind, phase, trial),
+            &row.best.surfaces,
+            count,
+        )
 }
 
 // Column, attempt and iteration below their limits, and trial, cycle and step.
 #[tactic(auto, unfolding(runs::specs::Damage::counters_sound))]
-fn counters_sound(words: &[u64; 13], job: &HeldJob, p: usize) -> bool
-    ensures { (numbers surfaces best : List Float) (o : Others)
-        → result ≡ counters_sound (method (kind_from words.now) (settings_from job.now.counts numbers)) p
-        (state_with words.now surfaces best o) }
+fn counters_sound(row: &HeldRow, p: usize) -> bool
+    ensures { result ≡ counters_sound (method (kind_from row.now.head.words) (settings_from row.now.job.counts row.now.job.numbers)) p
+        (held_state row.now) }
 {
-    let most = limits::counter_limits(held::kind(words), job);
-    held::column(words) < p as u64
-        && held::attempt(words) <= 10
-        && held::iteration(words) <= most.iteration
-        && held::trial(words) <= most.trial
-        && held::cycle(words) < kinds::at_least_one(most.cycle)
-        && held::step(words) < kinds::at_least_one(most.step)
+    let head = &row.head;
+    let most = limits::counter_limits(head.kind(), &row.job);
+    head.column() < p as u64
+        && head.attempt() <= 10
+        && head.iteration() <= most.iteration
+        && head.trial() <= most.trial
+        && head.cycle() < kinds::at_least_one(most.cycle)
+        && head.step() < kinds::at_least_one(most.step)
 }
 
 // Phase, surfaces and counters; p variables are enabled.
 #[tactic(auto, unfolding(runs::specs::Damage::state_sound))]
-fn state_sound(words: &[u64; 13], job: &HeldJob, p: usize, surfaces: &[f64], best: &[f64]) -> bool
-    requires { (surface_count_from job.now.counts ≤ 16) × (64 ≤ length surfaces.now) × (64 ≤ length best.now) }
-    ensures { (numbers : List Float) (o : Others) → p ≡ num_active (variables_from job.now.counts numbers)
-        → result ≡ state_sound (method (kind_from words.now) (settings_from job.now.counts numbers))
-        (held_job job.now.counts numbers (kind_from words.now))
-        (state_with words.now surfaces.now best.now o) }
+fn state_sound(row: &HeldRow, p: usize) -> bool
+    requires { surface_count_from row.now.job.counts ≤ 16 }
+    ensures { p ≡ num_active (variables_from row.now.job.counts row.now.job.numbers)
+        → result ≡ state_sound (method (kind_from row.now.head.words) (settings_from row.now.job.counts row.now.job.numbers))
+        (held_job row.now.job.counts row.now.job.numbers (kind_from row.now.head.words))
+        (held_state row.now) }
 {
-    held::phase(words) <= limits::last_phase(held::kind(words))
-        && surfaces_sound(words, job.surface_count(), surfaces, best)
-        && counters_sound(words, job, p)
+    row.head.phase() <= limits::last_phase(row.head.kind())
+        && surfaces_sound(row, row.job.surface_count())
+        && counters_sound(row, p)
 }
 
-// Whether the row is damaged, whatever the arrays are that it is not lent.
 #[tactic(auto, unfolding(runs::specs::Damage::damaged, runs::specs::Damage::job_sound, runs::specs::Damage::turns_sound, runs::specs::Rows::is_finished))]
-pub fn is_damaged(words: &[u64; 13], job: &HeldJob, surfaces: &[f64], best_surfaces: &[f64]) -> bool
-    requires { (64 ≤ length surfaces.now) × (64 ≤ length best_surfaces.now) }
-    ensures { (o : Others)
-        → result ≡ damaged (row_from (held_with words.now job.now surfaces.now
-        best_surfaces.now o)) }
+pub fn is_damaged(row: &HeldRow) -> bool
+    ensures { result ≡ damaged (row_from row.now) }
 {
-    let kind = held::kind(words);
+    let kind = row.head.kind();
+    let job = &row.job;
     if !kinds::is_kind(kind) || !checks::counts_taken(job) {
         return true;
     }
     let p = job.num_active();
-    if !checks::job_taken(kind, job, p) || !state_sound(words, job, p, surfaces, best_surfaces) {
+    if !checks::job_taken(kind, job, p) || !state_sound(row, p) {
         return true;
     }
-    !limits::is_over(kind, held::phase(words))
-        && held::turns(words) >= limits::bound(kind, job, p as u64)
+    !limits::is_over(kind, row.head.phase())
+        && row.head.turns() >= limits::bound(kind, job, p as u64)
 }

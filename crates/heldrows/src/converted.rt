@@ -2,12 +2,13 @@
 ghost use Rattle.std.specs.Prelude.{◌≡◌};
 ghost use Rattle.optics.specs.Flat.{laid_flat};
 ghost use Rattle.runs.specs.State.{state_of};
-ghost use Rattle.held.specs.Written.{head_of, held_from};
+ghost use Rattle.held.specs.Written.{head_of, held_run, held_best, held_from};
 
 use crate::written;
-use held::{BestHead, Head, HeldRow, RowHead};
+use held::{BestHead, Head, HeldBest, HeldHead, HeldJob, HeldRow, HeldRun, RowHead};
+use merit::MeritEvaluation;
 use optics::OpticalSurface;
-use runs::Row;
+use runs::{DampedState, OptimizationResult, Row};
 
 // The numbers of a row that are no arrays.
 fn head_from(row: Row) -> RowHead
@@ -52,33 +53,25 @@ fn laid(surfaces: [OpticalSurface; 16]) -> [f64; 64]
     flat
 }
 
-pub fn held_of(row: Row) -> HeldRow
-    ensures { result ≡ held_from row }
+// Arrays by a pattern: the borrow checker takes none straight from a field into a literal.
+fn held_run(damped: DampedState) -> HeldRun
+    ensures { result ≡ held_run damped }
 {
-    let h = head_from(row);
-    let mut words = [0; 13];
-    held::put_words(row.kind, row.turns, h, &mut words);
-    let mut scalars = [0.0; 7];
-    held::put_scalars(h, &mut scalars);
-    let job = written::held_job(row.job);
-    let d = row.damped;
-    let b = row.best;
-    let e = d.evaluation;
-    let surfaces = laid(d.surfaces);
-    // Each array by a variable: the borrow checker takes none straight from a field into a literal.
-    let jacobian = d.jacobian;
-    let values = e.values;
-    let residuals = e.residuals;
-    let plus_residuals = d.plus_residuals;
-    let params = d.params;
-    let candidate = d.candidate;
-    let best_surfaces = laid(b.surfaces);
-    let best_values = b.values;
-    let best_residuals = b.residuals;
-    HeldRow {
-        words,
-        scalars,
-        job,
+    let DampedState {
+        jacobian,
+        evaluation,
+        plus_residuals,
+        params,
+        candidate,
+        ..
+    } = damped;
+    let MeritEvaluation {
+        values,
+        residuals,
+        ..
+    } = evaluation;
+    let surfaces = laid(damped.surfaces);
+    HeldRun {
         surfaces,
         jacobian,
         values,
@@ -86,8 +79,33 @@ pub fn held_of(row: Row) -> HeldRow
         plus_residuals,
         params,
         candidate,
-        best_surfaces,
-        best_values,
-        best_residuals,
+    }
+}
+
+fn held_best(best: OptimizationResult) -> HeldBest
+    ensures { result ≡ held_best best }
+{
+    let OptimizationResult {
+        values,
+        residuals,
+        ..
+    } = best;
+    let surfaces = laid(best.surfaces);
+    HeldBest {
+        surfaces,
+        values,
+        residuals,
+    }
+}
+
+// No `From`: neither type is of this crate, and an impl of std's trait must name one that is.
+pub fn held_of(row: Row) -> HeldRow
+    ensures { result ≡ held_from row }
+{
+    HeldRow {
+        head: HeldHead::of(row.kind, row.turns, head_from(row)),
+        job: written::held_job(row.job),
+        run: held_run(row.damped),
+        best: held_best(row.best),
     }
 }

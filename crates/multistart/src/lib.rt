@@ -1,4 +1,4 @@
-// Multi-start's trials, over lent arrays, from merit to merit (out of global.rs).
+// Multi-start's trials, over a row's lent run and best result, from merit to merit (out of global.rs).
 // Stands on `dls`, `kinds` and `draws`; called by `turns`.
 #![tactic(auto)]
 

@@ -1,5 +1,5 @@
 // Multi-start: a trial of it, and from the end of a trial to just before the next one's first merit.
-ghost use Rattle.std.specs.Prelude.{◌≡◌, List, ◌≤◌, ◌<◌, ltb, Float, length};
+ghost use Rattle.std.specs.Prelude.{◌≡◌, ◌≤◌, ◌<◌, ltb, length};
 ghost use Rattle.normal.specs.Layout.{scratch_length, most_operands, most_variables};
 ghost use Rattle.variables.specs.Active.{num_active};
 ghost use Rattle.runs.specs.declared.types.DampedState.{DampedState};
@@ -12,13 +12,15 @@ ghost use Rattle.dls.specs.DampedSteps.{optimizer, ScratchKept};
 ghost use Rattle.held.specs.JobFrom.{standing, variable_count_from, operand_count_from, num_trials_from, settings_from, variables_from};
 ghost use Rattle.dls.specs.Found.{ForFound};
 ghost use Rattle.draws.specs.Parts.{ForOptimizer};
+ghost use Rattle.held.specs.declared.types.HeldBest.{HeldBest};
 ghost use Rattle.held.specs.RowFrom.{result_from, state_from};
 
 use crate::merging::merged;
-use held::{BestHead, HeldJob, RowHead};
+use held::{BestHead, HeldBest, HeldJob, HeldRun, RowHead, phases};
 
 // The surfaces that a trial starts from; the generator after its draws.
 // global.rs: `trial_presc`
+#[tactic(auto, unfolding(runs::specs::MultiStartRun::trial_presc))]
 fn trial_surfaces(generator: u64, job: &HeldJob, surfaces: &mut [f64; 64]) -> u64
     requires { variable_count_from job.now.counts ≤ 8 }
     ensures { ForOptimizer (variables_from job.now.counts job.now.numbers)
@@ -31,26 +33,14 @@ fn trial_surfaces(generator: u64, job: &HeldJob, surfaces: &mut [f64; 64]) -> u6
 }
 
 // At the end the best result alone is left.
-fn ended(
-    best: BestHead,
-    surfaces: &mut [f64; 64],
-    jacobian: &mut [f64; 96],
-    values: &mut [f64; 12],
-    residuals: &mut [f64; 12],
-    plus_residuals: &mut [f64; 12],
-    params: &mut [f64; 8],
-    candidate: &mut [f64; 8],
-) -> RowHead
-    ensures { (bs bv br : List Float) →
-        let kept = result_from best bs bv br in
-        let after = state_from result surfaces.new jacobian.new values.new residuals.new plus_residuals.new
-        params.new candidate.new bs bv br in
-        after ≡ ended kept }
+#[tactic(auto, unfolding(held::specs::JobFrom::standing, lists::specs::Tab::tab))]
+fn ended(best: BestHead, run: &mut HeldRun) -> RowHead
+    ensures { (kept : HeldBest) → state_from result run.new kept ≡ ended (result_from best kept) }
 {
-    *surfaces = [0.0; 64];
-    *params = [0.0; 8];
-    *candidate = [0.0; 8];
-    let damped = dls::holding(4, jacobian, values, residuals, plus_residuals);
+    run.surfaces = [0.0; 64];
+    run.params = [0.0; 8];
+    run.candidate = [0.0; 8];
+    let damped = dls::holding(phases::FINISHED, run);
     RowHead {
         damped,
         best,
@@ -65,37 +55,23 @@ fn ended(
 
 // From the end of a trial, with the best of all so far: the next trial, or the end.
 // global.rs: `for trial in 0..self.config.num_trials`
+#[tactic(auto, unfolding(runs::specs::MultiStartRow::resume_trials))]
 fn resume_trials(
     best: BestHead,
     generator: u64,
     trial: u64,
     job: &HeldJob,
-    surfaces: &mut [f64; 64],
-    jacobian: &mut [f64; 96],
-    values: &mut [f64; 12],
-    residuals: &mut [f64; 12],
-    plus_residuals: &mut [f64; 12],
-    params: &mut [f64; 8],
-    candidate: &mut [f64; 8],
+    run: &mut HeldRun,
 ) -> RowHead
     requires { variable_count_from job.now.counts ≤ 8 }
-    ensures { ForOptimizer (variables_from job.now.counts job.now.numbers) (λ o. (bs bv br : List Float) →
-        let kept = result_from best bs bv br in
-        let after = state_from result surfaces.new jacobian.new values.new residuals.new plus_residuals.new
-        params.new candidate.new bs bv br in
-        after ≡ resume_trials o (standing job.now.numbers) (num_trials_from job.now.counts) (ltb trial (num_trials_from job.now.counts)) kept
-        generator trial) }
+    ensures { ForOptimizer (variables_from job.now.counts job.now.numbers) (λ o. (kept : HeldBest) →
+        let trials = num_trials_from job.now.counts in
+        state_from result run.new kept
+        ≡ resume_trials o (standing job.now.numbers) trials (ltb trial trials) (result_from best kept) generator trial) }
 {
     if trial < job.num_trials() {
-        let next = trial_surfaces(generator, job, surfaces);
-        let damped = dls::at_first(
-            jacobian,
-            values,
-            residuals,
-            plus_residuals,
-            params,
-            candidate,
-        );
+        let next = trial_surfaces(generator, job, &mut run.surfaces);
+        let damped = dls::at_first(run);
         return RowHead {
             damped,
             best,
@@ -107,85 +83,34 @@ fn resume_trials(
             current_merit: 0.0,
         };
     }
-    ended(
-        best,
-        surfaces,
-        jacobian,
-        values,
-        residuals,
-        plus_residuals,
-        params,
-        candidate,
-    )
+    ended(best, run)
 }
 
 // After a merit has taken the trial's damped part to where it stands: it goes on there, or the trial is over.
-fn resume_damped(
-    h: RowHead,
-    job: &HeldJob,
-    surfaces: &mut [f64; 64],
-    jacobian: &mut [f64; 96],
-    values: &mut [f64; 12],
-    residuals: &mut [f64; 12],
-    plus_residuals: &mut [f64; 12],
-    params: &mut [f64; 8],
-    candidate: &mut [f64; 8],
-    best_surfaces: &mut [f64; 64],
-    best_values: &mut [f64; 12],
-    best_residuals: &mut [f64; 12],
-) -> RowHead
+#[tactic(auto, unfolding(runs::specs::MultiStartRow::resume_damped))]
+fn resume_damped(h: RowHead, job: &HeldJob, run: &mut HeldRun, best: &mut HeldBest) -> RowHead
     requires { variable_count_from job.now.counts ≤ 8 }
     ensures { ForOptimizer (variables_from job.now.counts job.now.numbers) (λ o. (old : DampedState) →
-        let before = state_from h surfaces.old jacobian.old values.old residuals.old
-        plus_residuals.old params.old candidate.old best_surfaces.old best_values.old
-        best_residuals.old in
-        let after = state_from result surfaces.new jacobian.new values.new residuals.new plus_residuals.new
-        params.new candidate.new best_surfaces.new best_values.new best_residuals.new in
-        after ≡ resume_damped o (standing job.now.numbers) (num_trials_from job.now.counts) (Damped.is_finished before.damped)
+        let before = state_from h run.old best.old in
+        state_from result run.new best.new
+        ≡ resume_damped o (standing job.now.numbers) (num_trials_from job.now.counts) (Damped.is_finished before.damped)
         (with_damped before old) before.damped) }
 {
     if kinds::damped_over(h.damped.phase) {
-        let best = merged(
-            h,
-            surfaces,
-            values,
-            residuals,
-            best_surfaces,
-            best_values,
-            best_residuals,
-        );
-        return resume_trials(
-            best,
-            h.generator,
-            h.trial,
-            job,
-            surfaces,
-            jacobian,
-            values,
-            residuals,
-            plus_residuals,
-            params,
-            candidate,
-        );
+        let found = merged(h, run, best);
+        return resume_trials(found, h.generator, h.trial, job, run);
     }
     h
 }
 
 // The state after the merit that came next.
+#[tactic(auto, unfolding(runs::specs::MultiStartRow::advance))]
 pub fn advance_trials(
     h: RowHead,
     job: &HeldJob,
     found: &[f64; 12],
-    surfaces: &mut [f64; 64],
-    jacobian: &mut [f64; 96],
-    values: &mut [f64; 12],
-    residuals: &mut [f64; 12],
-    plus_residuals: &mut [f64; 12],
-    params: &mut [f64; 8],
-    candidate: &mut [f64; 8],
-    best_surfaces: &mut [f64; 64],
-    best_values: &mut [f64; 12],
-    best_residuals: &mut [f64; 12],
+    run: &mut HeldRun,
+    best: &mut HeldBest,
     scratch: &mut [f64],
 ) -> RowHead
     requires fact_1 { scratch_length ≤ length scratch.old }
@@ -195,40 +120,10 @@ pub fn advance_trials(
     ensures fact_1 { ForFound job.now.counts job.now.numbers found.now (λ e.
         let o = optimizer (dls_config (settings_from job.now.counts job.now.numbers)) (variables_from job.now.counts job.now.numbers)
         (operand_count_from job.now.counts) in
-        let before = state_from h surfaces.old jacobian.old values.old residuals.old
-        plus_residuals.old params.old candidate.old best_surfaces.old best_values.old
-        best_residuals.old in
-        let after = state_from result surfaces.new jacobian.new values.new residuals.new plus_residuals.new
-        params.new candidate.new best_surfaces.new best_values.new best_residuals.new in
-        after ≡ advance o (standing job.now.numbers) (num_trials_from job.now.counts) before e) }
+        state_from result run.new best.new
+        ≡ advance o (standing job.now.numbers) (num_trials_from job.now.counts) (state_from h run.old best.old) e) }
     ensures fact_2 { ScratchKept scratch.old scratch.new }
 {
-    let damped = dls::advance_damped(
-        h.damped,
-        job.dls_config(),
-        job,
-        found,
-        surfaces,
-        jacobian,
-        values,
-        residuals,
-        plus_residuals,
-        params,
-        candidate,
-        scratch,
-    );
-    resume_damped(
-        RowHead { damped, ..h },
-        job,
-        surfaces,
-        jacobian,
-        values,
-        residuals,
-        plus_residuals,
-        params,
-        candidate,
-        best_surfaces,
-        best_values,
-        best_residuals,
-    )
+    let damped = dls::advance_damped(h.damped, job.dls_config(), job, found, run, scratch);
+    resume_damped(RowHead { damped, ..h }, job, run, best)
 }

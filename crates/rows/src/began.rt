@@ -7,6 +7,7 @@ ghost use Rattle.runs.specs.State.{row_of, alone};
 ghost use Rattle.runs.specs.Rows as Rows;
 
 use crate::zeros::zero_result;
+use held::{methods, phases};
 use jobs::{Job, JobRecord, Method};
 use optics::OpticalSurface;
 use runs::{DampedState, Row};
@@ -17,15 +18,15 @@ fn beginning(phase: u64, surfaces: [OpticalSurface; 16]) -> DampedState
 {
     let evaluation = meritcalls::zero_evaluation();
     DampedState {
-        surfaces: surfaces,
+        surfaces,
         jacobian: [0.0; 96],
-        evaluation: evaluation,
+        evaluation,
         plus_residuals: [0.0; 12],
         params: [0.0; 8],
         candidate: [0.0; 8],
         initial_merit: 0.0,
         damping: 0.0,
-        phase: phase,
+        phase,
         iteration: 0,
         column: 0,
         attempt: 0,
@@ -40,9 +41,9 @@ fn fresh(record: JobRecord, kind: u64, damped: DampedState) -> Row
     let best = zero_result();
     Row {
         job: record,
-        damped: damped,
-        best: best,
-        kind: kind,
+        damped,
+        best,
+        kind,
         turns: 0,
         generator: 0,
         trial: 0,
@@ -53,7 +54,7 @@ fn fresh(record: JobRecord, kind: u64, damped: DampedState) -> Row
     }
 }
 
-// `record` is the job in numbers. Phase 5 is the walk's first.
+// `record` is the job in numbers.
 pub(crate) fn began(record: JobRecord, job: Job) -> Row
     ensures { result ≡ row_of «record» (kind_of job) 0 (Rows.began job.method job) }
 {
@@ -61,18 +62,18 @@ pub(crate) fn began(record: JobRecord, job: Job) -> Row
     let method = job.method;
     match method {
         Method::Damped(_) => {
-            let damped = beginning(0, base);
-            fresh(record, 1, damped)
+            let damped = beginning(phases::FIRST, base);
+            fresh(record, methods::DAMPED, damped)
         }
         Method::MultiStart(config) => {
-            let damped = beginning(0, base);
-            let mut row = fresh(record, 2, damped);
+            let damped = beginning(phases::FIRST, base);
+            let mut row = fresh(record, methods::MULTI_START, damped);
             row.generator = xorshift::Rng64::new(config.seed).state;
             row
         }
         Method::Annealing(_) => {
-            let damped = beginning(5, base);
-            fresh(record, 3, damped)
+            let damped = beginning(phases::WALK_FIRST, base);
+            fresh(record, methods::ANNEALING, damped)
         }
     }
 }

@@ -29,7 +29,7 @@ pub fn admit_refusal(place: usize, occupied: bool, request: JobRequest) -> Resul
 pub fn admit_row(row: &mut HeldRow, place: usize, request: JobRequest) -> Result<(), Refusal>
     ensures { (answered result ≡ admit_row_number (row_from row.old) place request) × (row.new ≡ admitted_row row.old place request) }
 {
-    admit_refusal(place, held::kind(&row.words) != 0, request)?;
+    admit_refusal(place, row.head.kind() != 0, request)?;
     let job = defaults::job_from(request);
     *row = heldrows::held_of(began(JobRecord::from(job), job));
     Ok(())
@@ -40,7 +40,7 @@ pub fn admit_row(row: &mut HeldRow, place: usize, request: JobRequest) -> Result
 pub fn release_row(row: &mut HeldRow) -> Result<(), Refusal>
     ensures { (answered result ≡ release_row_number (row_from row.old)) × (row.new ≡ released_row row.old) }
 {
-    Refusal::Empty.unless(held::kind(&row.words) != 0)?;
+    Refusal::Empty.unless(row.head.kind() != 0)?;
     *row = zeros::zero_row();
     Ok(())
 }

@@ -11,17 +11,11 @@ use held::HeldRow;
 use refusals::Refusal;
 use runs::OptimizationResult;
 
-fn refusal_of(row: &HeldRow) -> Result<(), Refusal>
-    ensures { answered result ≡ fetch_row_number (row_from row.now) }
-{
-    fetch_refusal(&row.words, &row.job, &row.surfaces, &row.best_surfaces)
-}
-
 // The result of the row's run; what is lent for it stays where the fetch is refused.
 pub fn fetch_row(row: &HeldRow, res: &mut OptimizationResult) -> Result<(), Refusal>
     ensures { (answered result ≡ fetch_row_number (row_from row.now)) × (res.new ≡ fetched_of_row (row_from row.now) res.old) }
 {
-    refusal_of(row)?;
+    fetch_refusal(row)?;
     *res = result_of(row);
     Ok(())
 }
@@ -30,13 +24,12 @@ pub fn fetch_row(row: &HeldRow, res: &mut OptimizationResult) -> Result<(), Refu
 pub fn is_listed(row: &HeldRow) -> bool
     ensures { result ≡ is_listed (row_from row.now) }
 {
-    refusal_of(row).is_ok()
+    fetch_refusal(row).is_ok()
 }
 
 // Whether the place is taken and its row damaged.
 pub fn is_damaged(row: &HeldRow) -> bool
     ensures { result ≡ taken_damaged (row_from row.now) }
 {
-    held::kind(&row.words) != 0
-        && helddamage::is_damaged(&row.words, &row.job, &row.surfaces, &row.best_surfaces)
+    row.head.kind() != 0 && helddamage::is_damaged(row)
 }

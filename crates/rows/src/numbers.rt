@@ -2,57 +2,31 @@
 ghost use Rattle.std.specs.Prelude.{◌≡◌};
 ghost use Rattle.refusals.specs.Numbers.{answered};
 ghost use Rattle.held.specs.RowFrom.{row_from};
-ghost use Rattle.helddamage.specs.Others.{Others, held_with};
 ghost use Rattle.rows.specs.Calls.{usable_number, turn_row_number, fetch_row_number};
 
-use held::HeldJob;
+use held::HeldRow;
 use refusals::Refusal;
 
 // 11 and 12.
-fn usable_refusal(
-    words: &[u64; 13],
-    job: &HeldJob,
-    surfaces: &[f64; 64],
-    best_surfaces: &[f64; 64],
-) -> Result<(), Refusal>
-    ensures { (o : Others) →
-        let row = row_from (held_with words.now job.now surfaces.now best_surfaces.now
-        o) in
-        answered result ≡ usable_number row }
+fn usable_refusal(row: &HeldRow) -> Result<(), Refusal>
+    ensures { answered result ≡ usable_number (row_from row.now) }
 {
-    Refusal::Empty.unless(held::kind(words) != 0)?;
-    Refusal::Damaged.unless(!helddamage::is_damaged(words, job, surfaces, best_surfaces))
+    Refusal::Empty.unless(row.head.kind() != 0)?;
+    Refusal::Damaged.unless(!helddamage::is_damaged(row))
 }
 
 #[tactic(auto, unfolding(crate::specs::Calls::turn_row_number))]
-pub fn turn_refusal(
-    room: usize,
-    words: &[u64; 13],
-    job: &HeldJob,
-    surfaces: &[f64; 64],
-    best_surfaces: &[f64; 64],
-) -> Result<(), Refusal>
-    ensures { (o : Others) →
-        let row = row_from (held_with words.now job.now surfaces.now best_surfaces.now
-        o) in
-        answered result ≡ turn_row_number room row }
+pub fn turn_refusal(room: usize, row: &HeldRow) -> Result<(), Refusal>
+    ensures { answered result ≡ turn_row_number room (row_from row.now) }
 {
     Refusal::ShortScratch.unless(room >= normal::SCRATCH)?;
-    usable_refusal(words, job, surfaces, best_surfaces)?;
-    Refusal::Finished.unless(!helddamage::is_over(held::kind(words), held::phase(words)))
+    usable_refusal(row)?;
+    Refusal::Finished.unless(!helddamage::is_over(row.head.kind(), row.head.phase()))
 }
 
-pub(crate) fn fetch_refusal(
-    words: &[u64; 13],
-    job: &HeldJob,
-    surfaces: &[f64; 64],
-    best_surfaces: &[f64; 64],
-) -> Result<(), Refusal>
-    ensures { (o : Others) →
-        let row = row_from (held_with words.now job.now surfaces.now best_surfaces.now
-        o) in
-        answered result ≡ fetch_row_number row }
+pub(crate) fn fetch_refusal(row: &HeldRow) -> Result<(), Refusal>
+    ensures { answered result ≡ fetch_row_number (row_from row.now) }
 {
-    usable_refusal(words, job, surfaces, best_surfaces)?;
-    Refusal::Unfinished.unless(helddamage::is_over(held::kind(words), held::phase(words)))
+    usable_refusal(row)?;
+    Refusal::Unfinished.unless(helddamage::is_over(row.head.kind(), row.head.phase()))
 }

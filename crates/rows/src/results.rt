@@ -8,7 +8,7 @@ ghost use Rattle.held.specs.JobFrom.{steps_per_temperature_from, max_cooling_cyc
 ghost use Rattle.held.specs.RowFrom.{damped_from, result_from, row_from};
 ghost use Rattle.kinds.specs.Limits.{CountsWithin};
 
-use held::{BestHead, Head, HeldRow, RowHead};
+use held::{BestHead, Head, HeldBest, HeldRow, HeldRun, RowHead, methods};
 use runs::OptimizationResult;
 
 fn result_from(
@@ -17,13 +17,13 @@ fn result_from(
     values: [f64; 12],
     residuals: [f64; 12],
 ) -> OptimizationResult
-    ensures { result ≡ result_from b surfaces.now values residuals }
+    ensures { result ≡ result_from b (record { surfaces = surfaces.now; values = values; residuals = residuals }) }
 {
     let standing = held::stand(surfaces);
     OptimizationResult {
         surfaces: standing,
-        values: values,
-        residuals: residuals,
+        values,
+        residuals,
         initial_merit: b.initial_merit,
         final_merit: b.final_merit,
         iterations: b.iterations,
@@ -32,10 +32,8 @@ fn result_from(
 }
 
 // That of the damped part.
-fn damped_result(h: Head, row: &HeldRow) -> OptimizationResult
-    ensures { let state = damped_from h row.now.surfaces row.now.jacobian row.now.values row.now.residuals row.now.plus_residuals row.now.params
-        row.now.candidate in
-        result ≡ Damped.result_of state }
+fn damped_result(h: Head, run: &HeldRun) -> OptimizationResult
+    ensures { result ≡ Damped.result_of (damped_from h run.now) }
 {
     let b = BestHead {
         initial_merit: h.initial_merit,
@@ -43,25 +41,23 @@ fn damped_result(h: Head, row: &HeldRow) -> OptimizationResult
         iterations: h.iteration,
         converged: h.converged,
     };
-    result_from(b, &row.surfaces, row.values, row.residuals)
+    result_from(b, &run.surfaces, run.values, run.residuals)
 }
 
 // The best of all trials.
-fn best_result(b: BestHead, row: &HeldRow) -> OptimizationResult
-    ensures { result ≡ result_from b row.now.best_surfaces row.now.best_values row.now.best_residuals }
+fn best_result(b: BestHead, best: &HeldBest) -> OptimizationResult
+    ensures { result ≡ result_from b best.now }
 {
-    result_from(b, &row.best_surfaces, row.best_values, row.best_residuals)
+    result_from(b, &best.surfaces, best.values, best.residuals)
 }
 
 // Annealing's: the polish's, with the first merit and the steps of the walk.
 fn polished(h: RowHead, row: &HeldRow) -> OptimizationResult
     requires { (max_cooling_cycles_from row.now.job.counts ≤ 1000) × (steps_per_temperature_from row.now.job.counts ≤ 1000) × (h.damped.iteration ≤ 1000) }
     ensures { (a : Annealer) → a.config ≡ annealing_config (settings_from row.now.job.counts row.now.job.numbers) →
-        let state = damped_from h.damped row.now.surfaces row.now.jacobian row.now.values row.now.residuals row.now.plus_residuals row.now.params
-        row.now.candidate in
-        result ≡ with_prior a h.best.initial_merit (Damped.result_of state) }
+        result ≡ with_prior a h.best.initial_merit (Damped.result_of (damped_from h.damped row.now.run)) }
 {
-    let mut result = damped_result(h.damped, row);
+    let mut result = damped_result(h.damped, &row.run);
     result.initial_merit = h.best.initial_merit;
     let steps = row.job.max_cooling_cycles() * row.job.steps_per_temperature();
     result.iterations = steps + h.damped.iteration;
@@ -73,11 +69,11 @@ pub(crate) fn result_of(row: &HeldRow) -> OptimizationResult
     requires { CountsWithin (job_of_row (row_from row.now)).method × ((row_from row.now).damped.iteration ≤ 1000) }
     ensures { result ≡ result_of (row_from row.now) }
 {
-    let h = held::head_of(&row.words, &row.scalars);
-    // A kind stays a number: what is neither 1 nor 2 counts as annealing.
-    match held::kind(&row.words) {
-        1 => damped_result(h.damped, row),
-        2 => best_result(h.best, row),
+    let h = row.head.numbers();
+    // A kind stays a number: one that is none counts as annealing.
+    match row.head.kind() {
+        methods::DAMPED => damped_result(h.damped, &row.run),
+        methods::MULTI_START => best_result(h.best, &row.best),
         _ => polished(h, row),
     }
 }

@@ -4,7 +4,7 @@ ghost use Rattle.runs.specs.Zeros.{zero_surfaces, zero_result};
 ghost use Rattle.held.specs.Written.{held_from};
 ghost use Rattle.bench.specs.Benches.{zero_row};
 
-use held::{HeldJob, HeldRow};
+use held::{HeldBest, HeldHead, HeldJob, HeldRow, HeldRun};
 use optics::OpticalSurface;
 use runs::OptimizationResult;
 
@@ -21,7 +21,7 @@ pub fn zero_result() -> OptimizationResult
 {
     let surfaces = zero_surfaces();
     OptimizationResult {
-        surfaces: surfaces,
+        surfaces,
         values: [0.0; 12],
         residuals: [0.0; 12],
         initial_merit: 0.0,
@@ -35,21 +35,27 @@ pub fn zero_row() -> HeldRow
     ensures { result ≡ held_from zero_row }
 {
     HeldRow {
-        words: [0; 13],
-        scalars: [0.0; 7],
+        head: HeldHead {
+            words: [0; 13],
+            scalars: [0.0; 7],
+        },
         job: HeldJob {
             counts: [0; 73],
             numbers: [0.0; 195],
         },
-        surfaces: [0.0; 64],
-        jacobian: [0.0; 96],
-        values: [0.0; 12],
-        residuals: [0.0; 12],
-        plus_residuals: [0.0; 12],
-        params: [0.0; 8],
-        candidate: [0.0; 8],
-        best_surfaces: [0.0; 64],
-        best_values: [0.0; 12],
-        best_residuals: [0.0; 12],
+        run: HeldRun {
+            surfaces: [0.0; 64],
+            jacobian: [0.0; 96],
+            values: [0.0; 12],
+            residuals: [0.0; 12],
+            plus_residuals: [0.0; 12],
+            params: [0.0; 8],
+            candidate: [0.0; 8],
+        },
+        best: HeldBest {
+            surfaces: [0.0; 64],
+            values: [0.0; 12],
+            residuals: [0.0; 12],
+        },
     }
 }

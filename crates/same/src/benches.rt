@@ -1,48 +1,67 @@
-// Held rows array by array, and benches row by row.
+// Held rows part by part, and benches row by row.
 ghost use Rattle.std.specs.Prelude.{◌≡◌};
 ghost use Rattle.bench.specs.Benches.{no_row};
-ghost use Rattle.alike.specs.Same.{same_job, same_head, same_lens, same_step, same_best, same_row, same_rows, same_bench};
-ghost use Rattle.alike.proofs.Itself.{row};
+ghost use Rattle.alike.specs.Same.{same_job, same_head, same_run, same_best, same_row, same_rows, same_bench};
+ghost use Rattle.alike.proofs.Itself.{job, head, run, best, row};
 
 use crate::arrays::{SameBits, are_same};
 use bench::Bench;
-use held::HeldRow;
+use held::{HeldBest, HeldHead, HeldJob, HeldRow, HeldRun};
 
-fn same_job(a: &HeldRow, b: &HeldRow) -> bool
-    ensures { result ≡ same_job a.now b.now }
-{
-    are_same(&a.job.counts, &b.job.counts) && are_same(&a.job.numbers, &b.job.numbers)
+impl SameBits for HeldJob {
+    ghost alike = { same_job };
+
+    ghost none = { no_row.job };
+
+    fn is_same(&self, other: &HeldJob) -> bool {
+        are_same(&self.counts, &other.counts) && are_same(&self.numbers, &other.numbers)
+    }
+
+    ghost itself = { job };
 }
 
-fn same_head(a: &HeldRow, b: &HeldRow) -> bool
-    ensures { result ≡ same_head a.now b.now }
-{
-    are_same(&a.words, &b.words) && are_same(&a.scalars, &b.scalars)
+impl SameBits for HeldHead {
+    ghost alike = { same_head };
+
+    ghost none = { no_row.head };
+
+    fn is_same(&self, other: &HeldHead) -> bool {
+        are_same(&self.words, &other.words) && are_same(&self.scalars, &other.scalars)
+    }
+
+    ghost itself = { head };
 }
 
-fn same_lens(a: &HeldRow, b: &HeldRow) -> bool
-    ensures { result ≡ same_lens a.now b.now }
-{
-    are_same(&a.surfaces, &b.surfaces)
-        && are_same(&a.values, &b.values)
-        && are_same(&a.residuals, &b.residuals)
+impl SameBits for HeldRun {
+    ghost alike = { same_run };
+
+    ghost none = { no_row.run };
+
+    fn is_same(&self, other: &HeldRun) -> bool {
+        are_same(&self.surfaces, &other.surfaces)
+            && are_same(&self.values, &other.values)
+            && are_same(&self.residuals, &other.residuals)
+            && are_same(&self.jacobian, &other.jacobian)
+            && are_same(&self.plus_residuals, &other.plus_residuals)
+            && are_same(&self.params, &other.params)
+            && are_same(&self.candidate, &other.candidate)
+    }
+
+    ghost itself = { run };
 }
 
-fn same_step(a: &HeldRow, b: &HeldRow) -> bool
-    ensures { result ≡ same_step a.now b.now }
-{
-    are_same(&a.jacobian, &b.jacobian)
-        && are_same(&a.plus_residuals, &b.plus_residuals)
-        && are_same(&a.params, &b.params)
-        && are_same(&a.candidate, &b.candidate)
-}
+impl SameBits for HeldBest {
+    ghost alike = { same_best };
 
-fn same_best(a: &HeldRow, b: &HeldRow) -> bool
-    ensures { result ≡ same_best a.now b.now }
-{
-    are_same(&a.best_surfaces, &b.best_surfaces)
-        && are_same(&a.best_values, &b.best_values)
-        && are_same(&a.best_residuals, &b.best_residuals)
+    ghost none = { no_row.best };
+
+    fn is_same(&self, other: &HeldBest) -> bool {
+        are_same(&self.surfaces, &other.surfaces)
+            && are_same(&self.values, &other.values)
+            && are_same(&self.residuals, &other.residuals)
+    }
+
+    ghost itself = { best };
 }
 
 impl SameBits for HeldRow {
@@ -51,11 +70,10 @@ impl SameBits for HeldRow {
     ghost none = { no_row };
 
     fn is_same(&self, other: &HeldRow) -> bool {
-        same_job(self, other)
-            && same_head(self, other)
-            && same_lens(self, other)
-            && same_step(self, other)
-            && same_best(self, other)
+        self.job.is_same(&other.job)
+            && self.head.is_same(&other.head)
+            && self.run.is_same(&other.run)
+            && self.best.is_same(&other.best)
     }
 
     ghost itself = { row };

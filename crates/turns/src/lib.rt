@@ -1,4 +1,4 @@
-// A run of any kind over lent arrays: the surfaces whose merit comes next, and from that merit to just before the next.
+// A run of any kind, over the row's lent parts: the surfaces whose merit comes next, and from that merit to just before the next.
 // Stands on `dls`, `multistart` and `annealing`; called by `rowturns`.
 #![tactic(auto)]
 

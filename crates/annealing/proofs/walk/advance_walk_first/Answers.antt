@@ -11,10 +11,9 @@ use Rattle.annealing.proofs.walk.advance_walk_first.Goals as goal
 pub returns-then-is_first_cycle : goal.returns-then-is_first_cycle
 unfolding advance_at resume_cycles
 returns-then-is_first_cycle c = let x = c.args in
-    let base = standing x.surfaces.now in
-    λ a ec ev h e em. c.at_step.ensures a ev x.surfaces.now _
-    ∙ ap (λ (w : Walk). at_step a x.merit w 0 0) (c.started-w.ensures
-    a ec ev e em)
+    let base = standing x.run.now.surfaces in
+    λ a ec ev h e em. c.at_step.ensures a ev
+    ∙ ap (λ (w : Walk). at_step a x.merit w 0 0) (c.started-w.ensures.fact_1 a ec ev e em)
     ∙ ap (λ (y : Float). at_step a y (started a base e) 0 0) (sym em)
     ∙ ap (λ (t : Bool). resume_cycles a t e.total_merit (started a base e) 0)
     (sym (sym (c.is_first_cycle.ensures a ec)
@@ -24,10 +23,10 @@ pub returns : goal.returns
 unfolding advance_at resume_cycles
 returns c =
     let x = c.args in
-    let base = standing x.surfaces.now in
+    let base = standing x.run.now.surfaces in
     λ a ec ev h e em. c.at_polish.ensures
     ∙ ap (λ (w : Walk). at_polish x.merit (at_first w.best_surfaces))
-    (c.started-w.ensures a ec ev e em)
+    (c.started-w.ensures.fact_1 a ec ev e em)
     ∙ ap (λ (y : Float). at_polish y (at_first base)) (sym em)
     ∙ ap (λ (t : Bool). resume_cycles a t e.total_merit (started a base e) 0)
     (sym (sym (c.is_first_cycle.ensures a ec)

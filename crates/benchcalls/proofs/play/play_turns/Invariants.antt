@@ -5,4 +5,4 @@ use Rattle.benchcalls.proofs.play.play_turns.Given as goal
 
 abbrev pub invariant-loop-taken : goal.invariant-loop-taken
 invariant-loop-taken l =
-    play_from l.place (l.count - l.taken) l.taken l.b l.scratch ≡ play_from l.place l.count 0 l.fn.bench l.fn.scratch
+    play_from l.place (l.count - l.taken) l.taken l.bench l.scratch ≡ play_from l.place l.count 0 l.fn.bench l.fn.scratch

@@ -7,10 +7,10 @@ use Rattle.dls.proofs.accepting.moved.Goals as goal
 pub returns : goal.returns
 unfolding test_presc
 returns c =
-    λ k lens w em config m j p. simp (
+    λ k lens w em config m. simp (
       c.apply_values.ensures.fact_1,
       c.ease.ensures,
-      residuals-held _ _ _ c.residuals_of.ensures k lens w,
+      residuals-held _ _ _ c.residuals_of-run.ensures k lens w,
       w,
       sym em,
     )

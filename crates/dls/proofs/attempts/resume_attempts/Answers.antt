@@ -1,51 +1,25 @@
 -- `dls::attempts::resume_attempts` meets its contract: the loop's invariant is `Trying`. Assumes nothing.
-use mathlib.Core.List.{[]}
 use native.Mathlib.Omega.{arith}
 use Rattle.variables.proofs.CallerLaws.{active-le}
 use Rattle.held.specs.JobFrom.{variables_from}
-use Rattle.dls.proofs.Trying.{trying-begin, trying-on, trying-found, trying-over}
+use Rattle.dls.proofs.Trying.{trying-on, trying-found, trying-over}
 use Rattle.dls.proofs.attempts.resume_attempts.Goals as goal
 
-pub loop-k-init : goal.loop-k-init
-loop-k-init c = λ s v r. trying-begin
-
-pub attempt_step-requires : goal.attempt_step-requires
-attempt_step-requires c =
-    omega (
-      arith,
-      active-le (variables_from c.args.job.now.counts
-          c.args.job.now.numbers),
-      (c.loop-k.invariant [] [] []).kept.long,
-    )
-
 pub loop-k-preserved : goal.loop-k-preserved
-loop-k-preserved c = λ s v r.
+loop-k-preserved c =
     let a = c.attempt_step in
-    trying-on (c.loop-k.invariant s v r)
-    c.requires.fact_3 (omega arith) a.ensures
-    (omega (
-      arith,
-      active-le (variables_from c.args.job.now.counts
-          c.args.job.now.numbers),
-    )) c.if-not-attempt_step.true c.raise-now.ensures
-
-pub candidate_params-found-requires : goal.candidate_params-found-requires
-candidate_params-found-requires c =
-    omega (
-      arith,
-      (c.loop-k.invariant [] [] []).kept.long,
-      c.attempt_step.ensures.long,
+    let n = active-le (variables_from c.args.job.now.counts c.args.job.now.numbers) in (
+      c.loop-k.invariant.0,
+      trying-on c.loop-k.invariant.1 c.requires.fact_3 (omega arith) a.ensures (omega (arith, n)) c.if-not-attempt_step.true c.raise-now.ensures,
     )
 
 pub returns-in-loop-k : goal.returns-in-loop-k
-returns-in-loop-k c = λ s v r.
+returns-in-loop-k c =
     let a = c.attempt_step in
-    trying-found (c.loop-k.invariant s v r)
+    trying-found c.loop-k.invariant.1
     c.requires.fact_3
-    (omega arith) a.ensures c.if-not-attempt_step.false c.candidate_params-found.ensures
-    (c.at_candidate.ensures s
-    c.args.jacobian.now
-    v r c.args.params.now)
+    (omega arith) a.ensures c.if-not-attempt_step.false (rw c.loop-k.invariant.0 at c.candidate_params-found.ensures)
+    (rw c.loop-k.invariant.0 at c.at_candidate.ensures)
 
 pub returns : goal.returns
-returns c = λ s v r. trying-over (c.loop-k.invariant s v r) (omega arith) (c.ended.ensures s v r)
+returns c = trying-over c.loop-k.invariant.1 (omega arith) (rw c.loop-k.invariant.0 at c.ended.ensures)

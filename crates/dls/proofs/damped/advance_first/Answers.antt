@@ -2,10 +2,9 @@
 use mathlib.Core.Path.{◌≡◌, ap, ◌∙◌}
 use lib.Dec.{ltb}
 use Rattle.merit.specs.declared.types.MeritEvaluation.{MeritEvaluation}
-use Rattle.dls.specs.DampedSteps.{iteration_entered, optimizer}
+use Rattle.dls.specs.DampedSteps.{iteration_entered}
 use Rattle.runs.specs.JobMerit.{evaluate_of}
-use Rattle.held.specs.JobFrom.{variables_from, held_job, standing}
-use Rattle.held.specs.RowFrom.{damped_from}
+use Rattle.held.specs.JobFrom.{held_job, standing}
 use Rattle.heldmerit.proofs.HeldOver.{merit-held, residuals-held}
 use Rattle.dls.proofs.Advances.{first_on}
 use Rattle.dls.proofs.damped.advance_first.Goals as goal
@@ -13,7 +12,7 @@ use Rattle.dls.proofs.damped.advance_first.Goals as goal
 pub returns : goal.returns
 returns c = λ k lens w m.
     let x = c.args in
-    let r = c.residuals_of in
+    let r = c.residuals_of-run in
     let e : record { values = x.found.now; residuals = r.result; total_merit = c.merit_of-merit.result }
     ≡ (evaluate_of (held_job x.job.now.counts x.job.now.numbers k) lens) = λ i.
     record {
@@ -21,16 +20,12 @@ returns c = λ k lens w m.
       residuals = residuals-held _ _ _ r.ensures k lens w i;
       total_merit = merit-held _ _ _ c.merit_of-merit.ensures k lens w i;
     } in
-    first_on (optimizer x.config (variables_from x.job.now.counts x.job.now.numbers) m)
-    (damped_from x.h x.surfaces.now x.jacobian.now x.values.now x.residuals.now x.plus_residuals.now x.params.now
-    x.candidate.now) (evaluate_of (held_job x.job.now.counts x.job.now.numbers k) lens)
-    c.requires.fact_3
-    c.extract_values.ensures
-    (c.resume_iterations.ensures x.surfaces.now x.found.now r.result
+    first_on _ _ _ c.requires.fact_3 c.extract_values-run.ensures
+    (c.resume_iterations.ensures
     ∙ ap (λ (q : MeritEvaluation). iteration_entered (ltb 0 x.config.max_iterations)
     (record {
-      surfaces = standing x.surfaces.now;
-      params = c.extract_values.result;
+      surfaces = standing x.run.now.surfaces;
+      params = c.extract_values-run.result;
       evaluation = q;
       initial_merit = q.total_merit;
       damping = x.config.initial_damping;

@@ -2,10 +2,9 @@
 use mathlib.Core.Path.{sym, ◌∙◌}
 use borrow.Author.Tests.{ne_eqb}
 use Rattle.held.specs.RowFrom.{kind_from}
-use Rattle.rows.specs.Others.{others_of}
 use Rattle.rows.proofs.fetch.is_damaged.Goals as goal
 
 pub returns-then-kind-ne0 : goal.returns-then-kind-ne0
 returns-then-kind-ne0 c =
     let h = c.args.row.now in
-    rw (ne_eqb (kind_from h.words) 0 (λ z. c.if-kind-ne0.true (c.kind.ensures ∙ z))) (c.is_damaged.ensures (others_of h))
+    rw (ne_eqb (kind_from h.head.words) 0 (λ z. c.if-kind-ne0.true (c.kind.ensures ∙ z))) c.is_damaged.ensures

@@ -14,4 +14,4 @@ pub returns : goal.returns
 unfolding fetch_row_number
 returns c =
     let r = row_from c.args.row.now in
-    c.is_ok.ensures.value ∙ done-is c.refusal_of.result ∙ ap (λ (k : ℕ). eqb k 0) c.refusal_of.ensures ∙ listed (is_vacant r) (damaged r) (is_finished r)
+    c.is_ok.ensures.value ∙ done-is c.fetch_refusal.result ∙ ap (λ (k : ℕ). eqb k 0) c.fetch_refusal.ensures ∙ listed (is_vacant r) (damaged r) (is_finished r)

@@ -4,7 +4,6 @@ use Rattle.std.proofs.lemmas.Result.{err_from_is_err_and}
 use Rattle.runs.specs.Damage.{damaged}
 use Rattle.bench.specs.Calls.{is_vacant}
 use Rattle.held.specs.RowFrom.{row_from}
-use Rattle.helddamage.specs.Others.{held_with}
 use Rattle.rows.specs.Calls.{fetch_row_number}
 use Rattle.rows.proofs.Refused.{first_two, neither, finished-is, above-zero, fourteen}
 use Rattle.rows.proofs.numbers.fetch_refusal.Goals as goal
@@ -12,17 +11,17 @@ use mathlib.Core.Path.{refl}
 
 pub returns-in_err-usable_refusal : goal.returns-in_err-usable_refusal
 unfolding fetch_row_number
-returns-in_err-usable_refusal c = λ o.
+returns-in_err-usable_refusal c =
     let x = c.args in
-    let r = row_from (held_with x.words.now x.job.now x.surfaces.now x.best_surfaces.now o) in
+    let r = row_from x.row.now in
     let p = err_from_is_err_and c.from_residual.result c.from_residual.ensures.1 in
-    rw (p.1, p.2) (first_two (is_vacant r) (damaged r) _ _ (c.in_err-usable_refusal.ensures o) (above-zero _))
+    rw (p.1, p.2) (first_two (is_vacant r) (damaged r) _ _ (c.in_err-usable_refusal.ensures) (above-zero _))
 
 pub returns : goal.returns
 unfolding fetch_row_number
-returns c = λ o.
+returns c =
     let x = c.args in
-    let r = row_from (held_with x.words.now x.job.now x.surfaces.now x.best_surfaces.now o) in
-    let h = neither (is_vacant r) (damaged r) _ (c.in_ok-usable_refusal.ensures o) (omega arith) in
+    let r = row_from x.row.now in
+    let h = neither (is_vacant r) (damaged r) _ (c.in_ok-usable_refusal.ensures) (omega arith) in
     let over = finished-is r c.is_over.ensures c.kind.ensures c.phase.ensures refl in
     rw (c.unless.ensures, h.0, h.1, over) (fourteen c.is_over.result)

@@ -21,10 +21,9 @@ returns-in-1 c =
     let x = c.args.row.now in
     let r = row_from x in
     c.damped_result.ensures
-    ∙ ap (λ (h : RowHead). Damped.result_of (damped_from h.damped x.surfaces x.jacobian x.values x.residuals x.plus_residuals x.params
-    x.candidate)) c.head_of-h.ensures
+    ∙ ap (λ (h : RowHead). Damped.result_of (damped_from h.damped x.run)) c.numbers-h.ensures
     ∙ ap (λ (m : Method). result_by m (job_of_row r) (state_of r))
-    (sym (is-damped (kind_from x.words) (settings_from x.job.counts x.job.numbers)
+    (sym (is-damped (kind_from x.head.words) (settings_from x.job.counts x.job.numbers)
     (sym c.kind.ensures ∙ c.in-1.is)))
 
 pub returns-in-2 : goal.returns-in-2
@@ -33,20 +32,20 @@ returns-in-2 c =
     let x = c.args.row.now in
     let r = row_from x in
     c.best_result.ensures
-    ∙ ap (λ (h : RowHead). result_from h.best x.best_surfaces x.best_values x.best_residuals)
-    c.head_of-h.ensures
+    ∙ ap (λ (h : RowHead). result_from h.best x.best)
+    c.numbers-h.ensures
     ∙ ap (λ (m : Method). result_by m (job_of_row r) (state_of r))
-    (sym (is-multi-start (kind_from x.words) (settings_from x.job.counts x.job.numbers)
+    (sym (is-multi-start (kind_from x.head.words) (settings_from x.job.counts x.job.numbers)
     (sym c.kind.ensures ∙ c.in-2.is)))
 
 pub polished-requires : goal.polished-requires
 polished-requires c =
     let x = c.args.row.now in
     let pre = c.requires in
-    let m = is-annealing (kind_from x.words) (settings_from x.job.counts x.job.numbers) (λ z. omega (arith, c.kind.ensures))
+    let m = is-annealing (kind_from x.head.words) (settings_from x.job.counts x.job.numbers) (λ z. omega (arith, c.kind.ensures))
     (λ z. omega (arith, c.kind.ensures)) in
     let within = subst CountsWithin m pre.0 in
-    (within.0, within.1, rw c.head_of-h.ensures pre.1)
+    (within.0, within.1, rw c.numbers-h.ensures pre.1)
 
 pub returns-in_default : goal.returns-in_default
 unfolding result_of result_by
@@ -57,8 +56,8 @@ returns-in_default c =
     let a = annealer_of (job_of_row r) (annealing_config s) in
     c.polished.ensures a refl
     ∙ ap (λ (h : RowHead). with_prior a h.best.initial_merit
-    (Damped.result_of (damped_from h.damped x.surfaces x.jacobian x.values x.residuals x.plus_residuals x.params x.candidate)))
-    c.head_of-h.ensures
+    (Damped.result_of (damped_from h.damped x.run)))
+    c.numbers-h.ensures
     ∙ ap (λ (m : Method). result_by m (job_of_row r) (state_of r))
-    (sym (is-annealing (kind_from x.words) s (λ z. omega (arith, c.kind.ensures))
+    (sym (is-annealing (kind_from x.head.words) s (λ z. omega (arith, c.kind.ensures))
     (λ z. omega (arith, c.kind.ensures))))
