@@ -83,6 +83,7 @@ fn accepted(
 
 // Metropolis acceptance: a draw only when the merit rose.
 // global.rs: `accept`
+#[tactic(auto, unfolding(runs::specs::AnnealingRun::judged, runs::specs::AnnealingRun::if_not_risen, runs::specs::AnnealingRun::if_drawn))]
 pub(crate) fn judged(
     w: WalkHead,
     merit: f64,

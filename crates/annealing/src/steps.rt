@@ -12,6 +12,7 @@ use held::{BestHead, HeldBest, HeldJob, HeldRun, RowHead, phases};
 
 // Step k of cycle c, with its draws made.
 // global.rs: `trial_params`
+#[tactic(auto, unfolding(runs::specs::AnnealingRun::after_draws))]
 pub(crate) fn at_step(
     w: WalkHead,
     initial_merit: f64,
@@ -51,6 +52,7 @@ pub(crate) fn at_step(
 
 // The polish begins, from the best surfaces.
 // global.rs: `local_optimizer_polish`
+#[tactic(auto, unfolding(held::specs::JobFrom::standing, lists::specs::Tab::tab))]
 pub(crate) fn at_polish(initial_merit: f64, run: &mut HeldRun, best: &mut HeldBest) -> RowHead
     ensures { state_from result run.new best.new ≡ at_polish initial_merit (at_first (standing best.old.surfaces)) }
 {

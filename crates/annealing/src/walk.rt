@@ -15,6 +15,7 @@ use merit::MeritEvaluation;
 
 // The cycle is over: it cools, and the next one begins, or the polish.
 // global.rs: `temp *= self.config.cooling_rate`
+#[tactic(auto, unfolding(runs::specs::AnnealingRow::resume_steps, runs::specs::AnnealingRow::resume_cycles))]
 fn next_cycle(
     w: WalkHead,
     config: SimulatedAnnealingConfig,
@@ -60,6 +61,7 @@ pub fn advance_walk_first(
 
 // After the merit of a step: the next step, the next cycle, or the polish.
 // global.rs: `optimize`, from one `evaluate` to the next
+#[tactic(auto, unfolding(runs::specs::AnnealingRow::advance_at, runs::specs::AnnealingRow::resume_steps))]
 pub fn advance_walk(
     h: RowHead,
     config: SimulatedAnnealingConfig,

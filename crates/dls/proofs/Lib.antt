@@ -1,4 +1,5 @@
 -- Laws that belong to no one function.
+pub mod Few
 pub mod Kept
 pub mod Differences
 pub mod Stepping

@@ -38,6 +38,7 @@ fn rel_improvement(merit: f64, current: f64) -> f64
 
 // The next iteration, where there is one: its Jacobian is zero, and its first column comes first.
 // dls.rs: `while iteration < self.config.max_iterations`
+#[tactic(auto, unfolding(crate::specs::DampedSteps::iteration_entered))]
 pub(crate) fn resume_iterations(h: Head, limit: u64, run: &mut HeldRun) -> Head
     ensures { damped_from result run.new ≡ iteration_entered (ltb h.iteration limit) (current_of (damped_from h run.old)) }
 {

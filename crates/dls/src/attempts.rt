@@ -33,6 +33,7 @@ fn stepped(params: [f64; 8], p: usize, scratch: &[f64]) -> [f64; 8]
 }
 
 // The candidate: each parameter after its step, within its bounds.
+#[tactic(auto, using(crate::proofs::Few::few))]
 fn candidate_params(p: usize, job: &HeldJob, params: [f64; 8], scratch: &[f64]) -> [f64; 8]
     requires fact_1 { scratch_length ≤ length scratch.now }
     requires fact_2 { variable_count_from job.now.counts ≤ most_variables }
@@ -45,6 +46,7 @@ fn candidate_params(p: usize, job: &HeldJob, params: [f64; 8], scratch: &[f64]) 
 
 // The attempts from number `first` on, under a damping: the next candidate, or the end where none of the ten has a step.
 // dls.rs: `for _attempt in 0..10`
+#[tactic(auto, using(crate::proofs::Few::few))]
 fn resume_attempts(
     h: Head,
     p: usize,
@@ -81,6 +83,7 @@ fn is_stationary(norm: f64, tolerance: f64) -> bool
 }
 
 // The Jacobian is whole: the gradient's stop comes before any attempt.
+#[tactic(auto, using(crate::proofs::Few::few))]
 pub(crate) fn resume_stationary(
     h: Head,
     config: DlsConfig,
@@ -108,6 +111,7 @@ pub(crate) fn resume_stationary(
 
 // A candidate was not accepted: its attempt is over, and the damping is raised.
 // dls.rs: "step rejected .. increase damping"
+#[tactic(auto, using(crate::proofs::Few::few))]
 pub(crate) fn resume_rejected(
     h: Head,
     job: &HeldJob,

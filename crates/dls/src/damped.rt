@@ -19,6 +19,7 @@ use heldmerit::{merit_of, residuals_of};
 use jobs::DlsConfig;
 
 // The surfaces whose merit comes next, laid where it is worked out.
+#[tactic(auto, using(crate::proofs::Few::few))]
 pub fn pending_damped(h: Head, config: DlsConfig, job: &HeldJob, run: &HeldRun, flat: &mut [f64])
     requires fact_1 { variable_count_from job.now.counts ≤ most_variables }
     requires fact_2 { h.column < num_active (variables_from job.now.counts job.now.numbers) }
@@ -66,6 +67,7 @@ fn advance_first(
 }
 
 // The merit on the lower side: a column is done, and where it was the last the step is sought.
+#[tactic(auto, using(crate::proofs::Few::few))]
 fn advance_minus(
     h: Head,
     config: DlsConfig,

@@ -24,6 +24,7 @@ fn keep(h: Head, run: &HeldRun, best: &mut HeldBest) -> BestHead
 }
 
 // A later result replaces the best only when strictly lower; before the base's, in trial 0, there is none.
+#[tactic(auto, unfolding(runs::specs::MultiStartRun::merged, runs::specs::MultiStartRow::best_before, runs::specs::MultiStartRun::is_lower))]
 pub(crate) fn merged(h: RowHead, run: &HeldRun, best: &mut HeldBest) -> BestHead
     ensures { result_from result best.new
         ≡ merged (best_before h.trial (result_from h.best best.old)) (Damped.result_of (damped_from h.damped run.now)) }

@@ -20,6 +20,7 @@ use held::{BestHead, HeldBest, HeldJob, HeldRun, RowHead, phases};
 
 // The surfaces that a trial starts from; the generator after its draws.
 // global.rs: `trial_presc`
+#[tactic(auto, unfolding(runs::specs::MultiStartRun::trial_presc))]
 fn trial_surfaces(generator: u64, job: &HeldJob, surfaces: &mut [f64; 64]) -> u64
     requires { variable_count_from job.now.counts ≤ 8 }
     ensures { ForOptimizer (variables_from job.now.counts job.now.numbers)
@@ -32,6 +33,7 @@ fn trial_surfaces(generator: u64, job: &HeldJob, surfaces: &mut [f64; 64]) -> u6
 }
 
 // At the end the best result alone is left.
+#[tactic(auto, unfolding(held::specs::JobFrom::standing, lists::specs::Tab::tab))]
 fn ended(best: BestHead, run: &mut HeldRun) -> RowHead
     ensures { (kept : HeldBest) → state_from result run.new kept ≡ ended (result_from best kept) }
 {
@@ -53,6 +55,7 @@ fn ended(best: BestHead, run: &mut HeldRun) -> RowHead
 
 // From the end of a trial, with the best of all so far: the next trial, or the end.
 // global.rs: `for trial in 0..self.config.num_trials`
+#[tactic(auto, unfolding(runs::specs::MultiStartRow::resume_trials))]
 fn resume_trials(
     best: BestHead,
     generator: u64,
@@ -84,6 +87,7 @@ fn resume_trials(
 }
 
 // After a merit has taken the trial's damped part to where it stands: it goes on there, or the trial is over.
+#[tactic(auto, unfolding(runs::specs::MultiStartRow::resume_damped))]
 fn resume_damped(h: RowHead, job: &HeldJob, run: &mut HeldRun, best: &mut HeldBest) -> RowHead
     requires { variable_count_from job.now.counts ≤ 8 }
     ensures { ForOptimizer (variables_from job.now.counts job.now.numbers) (λ o. (old : DampedState) →
@@ -100,6 +104,7 @@ fn resume_damped(h: RowHead, job: &HeldJob, run: &mut HeldRun, best: &mut HeldBe
 }
 
 // The state after the merit that came next.
+#[tactic(auto, unfolding(runs::specs::MultiStartRow::advance))]
 pub fn advance_trials(
     h: RowHead,
     job: &HeldJob,

@@ -2,11 +2,11 @@
 // Stands on `turns` and `rows`; called by `benchcalls`, and by `replay` for what comes next.
 #![tactic(auto)]
 
-mod parts;
 mod pending;
 mod scratch;
+mod turn;
 mod types;
 
-pub use parts::turn_parts;
 pub use pending::pending_of;
+pub use turn::turn_row;
 pub use types::Pending;

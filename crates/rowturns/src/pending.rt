@@ -1,12 +1,11 @@
 // What a turn of a row would work out.
-ghost use Rattle.std.specs.Prelude.{◌≡◌, List, ℕ, ◌≤◌, Float};
+ghost use Rattle.std.specs.Prelude.{◌≡◌, ℕ, ◌≤◌};
 ghost use Rattle.merit.specs.Steps.{SlotsKnown};
 ghost use Rattle.runs.specs.JobMerit.{evaluate_of};
 ghost use Rattle.refusals.specs.Numbers.{numbered};
 ghost use Rattle.held.specs.JobFrom.{surface_count_from, operand_count_from, operands_from, held_job};
 ghost use Rattle.held.specs.RowFrom.{row_from};
 ghost use Rattle.rowturns.specs.Next.{pending_of};
-ghost use Rattle.rowturns.specs.Parts.{held_of};
 
 use crate::types::Pending;
 use held::{HeldJob, HeldRow};
@@ -27,44 +26,17 @@ fn merit_at(lens: [OpticalSurface; 16], job: &HeldJob) -> f64
     heldmerit::merit_of(&found, job)
 }
 
-// The surfaces whose merit comes next and that merit, with scratch enough.
-fn pending_parts(
-    words: &[u64; 13],
-    scalars: &[f64; 7],
-    job: &HeldJob,
-    surfaces: &[f64; 64],
-    params: &[f64; 8],
-    candidate: &[f64; 8],
-    best_surfaces: &[f64; 64],
-) -> Result<Pending, Refusal>
-    ensures { (jacobian values residuals plus bv br : List Float) →
-        let row = row_from (held_of words.now scalars.now job.now surfaces.now
-        jacobian values residuals plus params.now candidate.now best_surfaces.now bv br) in
-        numbered result ≡ pending_of row }
-{
-    turn_refusal(normal::SCRATCH, words, job, surfaces, best_surfaces)?;
-    let h = held::head_of(words, scalars);
-    let kind = held::kind(words);
-    let mut flat = [0.0; 64];
-    turns::pending_surfaces(h, kind, job, surfaces, params, candidate, &mut flat);
-    let pending = held::stand(&flat);
-    Ok(Pending {
-        surfaces: pending,
-        merit: merit_at(pending, job),
-    })
-}
-
-// The same, of a row; or why its next turn, with scratch enough, is refused.
+// The surfaces whose merit comes next and that merit; or why the next turn, with scratch enough, is refused.
 pub fn pending_of(row: &HeldRow) -> Result<Pending, Refusal>
     ensures { numbered result ≡ pending_of (row_from row.now) }
 {
-    pending_parts(
-        &row.words,
-        &row.scalars,
-        &row.job,
-        &row.surfaces,
-        &row.params,
-        &row.candidate,
-        &row.best_surfaces,
-    )
+    turn_refusal(normal::SCRATCH, row)?;
+    let kind = row.head.kind();
+    let mut flat = [0.0; 64];
+    turns::pending_surfaces(row.head.numbers(), kind, &row.job, &row.run, &mut flat);
+    let surfaces = held::stand(&flat);
+    Ok(Pending {
+        surfaces,
+        merit: merit_at(surfaces, &row.job),
+    })
 }

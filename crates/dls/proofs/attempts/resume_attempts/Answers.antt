@@ -1,22 +1,9 @@
 -- `dls::attempts::resume_attempts` meets its contract: the loop's invariant is `Trying`. Assumes nothing.
-use mathlib.Core.Path.{refl}
 use native.Mathlib.Omega.{arith}
 use Rattle.variables.proofs.CallerLaws.{active-le}
 use Rattle.held.specs.JobFrom.{variables_from}
-use Rattle.dls.proofs.Trying.{trying-begin, trying-on, trying-found, trying-over}
+use Rattle.dls.proofs.Trying.{trying-on, trying-found, trying-over}
 use Rattle.dls.proofs.attempts.resume_attempts.Goals as goal
-
-pub loop-k-init : goal.loop-k-init
-loop-k-init c = (refl, trying-begin)
-
-pub attempt_step-requires : goal.attempt_step-requires
-attempt_step-requires c =
-    omega (
-      arith,
-      active-le (variables_from c.args.job.now.counts
-          c.args.job.now.numbers),
-      c.loop-k.invariant.1.kept.long,
-    )
 
 pub loop-k-preserved : goal.loop-k-preserved
 loop-k-preserved c =
@@ -24,14 +11,6 @@ loop-k-preserved c =
     let n = active-le (variables_from c.args.job.now.counts c.args.job.now.numbers) in (
       c.loop-k.invariant.0,
       trying-on c.loop-k.invariant.1 c.requires.fact_3 (omega arith) a.ensures (omega (arith, n)) c.if-not-attempt_step.true c.raise-now.ensures,
-    )
-
-pub candidate_params-found-requires : goal.candidate_params-found-requires
-candidate_params-found-requires c =
-    omega (
-      arith,
-      c.loop-k.invariant.1.kept.long,
-      c.attempt_step.ensures.long,
     )
 
 pub returns-in-loop-k : goal.returns-in-loop-k

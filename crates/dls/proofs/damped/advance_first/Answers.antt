@@ -2,10 +2,9 @@
 use mathlib.Core.Path.{◌≡◌, ap, ◌∙◌}
 use lib.Dec.{ltb}
 use Rattle.merit.specs.declared.types.MeritEvaluation.{MeritEvaluation}
-use Rattle.dls.specs.DampedSteps.{iteration_entered, optimizer}
+use Rattle.dls.specs.DampedSteps.{iteration_entered}
 use Rattle.runs.specs.JobMerit.{evaluate_of}
-use Rattle.held.specs.JobFrom.{variables_from, held_job, standing}
-use Rattle.held.specs.RowFrom.{damped_from}
+use Rattle.held.specs.JobFrom.{held_job, standing}
 use Rattle.heldmerit.proofs.HeldOver.{merit-held, residuals-held}
 use Rattle.dls.proofs.Advances.{first_on}
 use Rattle.dls.proofs.damped.advance_first.Goals as goal
@@ -21,10 +20,7 @@ returns c = λ k lens w m.
       residuals = residuals-held _ _ _ r.ensures k lens w i;
       total_merit = merit-held _ _ _ c.merit_of-merit.ensures k lens w i;
     } in
-    first_on (optimizer x.config (variables_from x.job.now.counts x.job.now.numbers) m)
-    (damped_from x.h x.run.now) (evaluate_of (held_job x.job.now.counts x.job.now.numbers k) lens)
-    c.requires.fact_3
-    c.extract_values-run.ensures
+    first_on _ _ _ c.requires.fact_3 c.extract_values-run.ensures
     (c.resume_iterations.ensures
     ∙ ap (λ (q : MeritEvaluation). iteration_entered (ltb 0 x.config.max_iterations)
     (record {

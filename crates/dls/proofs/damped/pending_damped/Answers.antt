@@ -1,66 +1,26 @@
 -- `dls::damped::pending_damped` meets its contract: phase by phase. Assumes nothing.
-use Rattle.dls.specs.DampedSteps.{optimizer}
-use Rattle.held.specs.JobFrom.{variables_from}
-use Rattle.held.specs.RowFrom.{damped_from}
 use mathlib.Core.Path.{refl, ◌∙◌}
-use Rattle.dls.proofs.Differences.{plus-surfaces, minus-surfaces}
 use native.Mathlib.Omega.{arith}
-use Rattle.variables.proofs.CallerLaws.{active-le}
 use Rattle.runs.specs.DampedRun.{test_presc}
 use Rattle.runs.specs.DampedRow.{phase_of, pending_at}
+use Rattle.held.specs.RowFrom.{damped_from}
+use Rattle.dls.proofs.Differences.{plus-surfaces, minus-surfaces}
 use Rattle.dls.proofs.Advances.{pending-at, pending-same}
 use Rattle.dls.proofs.damped.pending_damped.Goals as goal
 
-pub lay_moved-requires-clause-fact_2 : goal.lay_moved-requires-clause-fact_2
-lay_moved-requires-clause-fact_2 c = let x = c.args in let n = active-le (variables_from x.job.now.counts x.job.now.numbers) in
-    omega arith
-
-pub returns-in-1 : goal.returns-in-1
+pub returns-in-1-clause-fact_1 : goal.returns-in-1-clause-fact_1
 unfolding phase_of pending_at
-returns-in-1 c =
-    let x = c.args in
-    let v = variables_from x.job.now.counts x.job.now.numbers in
-    let p = c.lay_moved.ensures in record {
-      fact_1 = λ m.
-          let d = damped_from x.h x.run.now in
-          pending-at (optimizer x.config v m) d c.in-1.is (plus-surfaces x.config v m d refl p.fact_1.1.1 p.fact_1.2);
-      fact_2 = p.fact_2;
-    }
+returns-in-1-clause-fact_1 c = λ m.
+    let p = c.lay_moved.ensures.fact_1 in pending-at _ _ c.in-1.is (plus-surfaces c.args.config _ m (damped_from c.args.h c.args.run.now) refl p.1.1 p.2)
 
-pub lay_moved-requires-in-2-clause-fact_2 : goal.lay_moved-requires-in-2-clause-fact_2
-lay_moved-requires-in-2-clause-fact_2 c = let x = c.args in let n = active-le (variables_from x.job.now.counts x.job.now.numbers) in
-    omega arith
-
-pub returns-in-2 : goal.returns-in-2
+pub returns-in-2-clause-fact_1 : goal.returns-in-2-clause-fact_1
 unfolding phase_of pending_at
-returns-in-2 c =
-    let x = c.args in
-    let v = variables_from x.job.now.counts x.job.now.numbers in
-    let p = c.lay_moved-in-2.ensures in record {
-      fact_1 = λ m.
-          let d = damped_from x.h x.run.now in
-          pending-at (optimizer x.config v m) d c.in-2.is (minus-surfaces x.config v m d refl p.fact_1.1.1 p.fact_1.2);
-      fact_2 = p.fact_2;
-    }
+returns-in-2-clause-fact_1 c = λ m.
+    let p = c.lay_moved-in-2.ensures.fact_1 in pending-at _ _ c.in-2.is (minus-surfaces c.args.config _ m (damped_from c.args.h c.args.run.now) refl p.1.1 p.2)
 
-pub returns-in-3 : goal.returns-in-3
+pub returns-in-3-clause-fact_1 : goal.returns-in-3-clause-fact_1
 unfolding phase_of pending_at test_presc
-returns-in-3 c =
-    let x = c.args in
-    let p = c.lay_applied.ensures in record {
-      fact_1 = λ m. pending-at (optimizer x.config (variables_from x.job.now.counts x.job.now.numbers) m)
-          (damped_from x.h x.run.now) c.in-3.is
-          p.fact_1;
-      fact_2 = p.fact_2;
-    }
+returns-in-3-clause-fact_1 c = λ m. pending-at _ _ c.in-3.is c.lay_applied.ensures.fact_1
 
-pub returns-in_default : goal.returns-in_default
-returns-in_default c =
-    let x = c.args in
-    let p = c.copy.ensures in record {
-      fact_1 = λ m. p.fact_1 ∙ pending-same (optimizer x.config (variables_from x.job.now.counts x.job.now.numbers) m)
-          (damped_from x.h x.run.now)
-          (λ e. omega arith) (λ e. omega arith)
-          (λ e. omega arith);
-      fact_2 = p.fact_2;
-    }
+pub returns-in_default-clause-fact_1 : goal.returns-in_default-clause-fact_1
+returns-in_default-clause-fact_1 c = λ m. c.copy.ensures.fact_1 ∙ pending-same _ _ (λ e. omega arith) (λ e. omega arith) (λ e. omega arith)

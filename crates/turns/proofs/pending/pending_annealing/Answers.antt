@@ -1,53 +1,18 @@
--- `turns::pending::pending_annealing` meets its contract: by phase. Assumes nothing.
+-- `turns::pending::pending_annealing` meets its contract: the polish is a damped run. Assumes nothing.
+use mathlib.Core.Path.{sym, ap, ◌∙◌}
+use native.Mathlib.Omega.{arith}
 use Rattle.runs.specs.AnnealingRow as Annealing
 use Rattle.runs.specs.DampedRow as Damped
-use Rattle.variables.specs.Values.{applied}
-use Rattle.runs.specs.AnnealingRun.{trial_presc}
-use Prim.Native.Nat.{ℕ}
-use mathlib.Core.Path.{sym, ap, ◌∙◌}
 use Rattle.dls.specs.DampedSteps.{optimizer}
 use Rattle.kinds.proofs.Over.{polish-phase}
-use Rattle.held.specs.JobFrom.{standing}
 use Rattle.held.specs.RowFrom.{damped_from, state_from}
-use Rattle.variables.specs.declared.types.VariableSet.{VariableSet}
-use native.Mathlib.Omega.{arith}
 use Rattle.turns.proofs.pending.pending_annealing.Goals as goal
 
-pub returns-in-5 : goal.returns-in-5
-unfolding Annealing.pending Annealing.pending_at Annealing.phase_of
-returns-in-5 c =
-    let x = c.args in
-    let p = c.copy.ensures in record {
-      fact_1 = λ a ev best. p.fact_1
-          ∙ ap (λ (k : ℕ). Annealing.pending_at a (Annealing.phase_of k)
-          (state_from x.h x.run.now best))
-          (sym c.in-5.is);
-      fact_2 = p.fact_2;
-    }
-
-pub returns-in-6 : goal.returns-in-6
-unfolding Annealing.pending Annealing.pending_at Annealing.phase_of trial_presc
-returns-in-6 c =
-    let x = c.args in
-    let p = c.lay_applied.ensures in record {
-      fact_1 = λ a ev best. p.fact_1
-          ∙ ap (λ (q : VariableSet). applied q x.run.now.candidate (standing x.run.now.surfaces)) (sym ev)
-          ∙ ap (λ (k : ℕ). Annealing.pending_at a (Annealing.phase_of k)
-          (state_from x.h x.run.now best))
-          (sym c.in-6.is);
-      fact_2 = p.fact_2;
-    }
-
-pub returns-in_default : goal.returns-in_default
+pub returns-in_default-clause-fact_1 : goal.returns-in_default-clause-fact_1
 unfolding Annealing.pending Annealing.pending_at
-returns-in_default c =
+returns-in_default-clause-fact_1 c = λ a ev best.
     let x = c.args in
-    let p = c.pending_damped.ensures in record {
-      fact_1 = λ a ev best. p.fact_1 a.operand_count
-          ∙ (λ i. Damped.pending (optimizer (c.polish_settings.ensures i) (sym ev i) a.operand_count)
-          (damped_from x.h.damped x.run.now))
-          ∙ ap (λ (f : Annealing.Phase). Annealing.pending_at a f (state_from x.h x.run.now best))
-          (sym (polish-phase x.h.damped.phase (λ e. omega arith)
-          (λ e. omega arith)));
-      fact_2 = p.fact_2;
-    }
+    c.pending_damped.ensures.fact_1 a.operand_count
+    ∙ (λ i. Damped.pending (optimizer (c.polish_settings.ensures i) (sym ev i) a.operand_count) (damped_from x.h.damped x.run.now))
+    ∙ ap (λ (f : Annealing.Phase). Annealing.pending_at a f (state_from x.h x.run.now best))
+    (sym (polish-phase x.h.damped.phase (λ e. omega arith) (λ e. omega arith)))

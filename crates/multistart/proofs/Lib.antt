@@ -1,2 +1,0 @@
--- A law that the proof of `merged` cites.
-pub mod Best
