@@ -3,9 +3,9 @@ use Rattle.std.specs.Prelude.{ℕ, zero, suc, ◌+◌, ◌%◌, ◌^◌, min, co
 use Rattle.optics.specs.Types.{no_surface}
 use Rattle.optics.specs.declared.types.OpticalSurface.{OpticalSurface}
 use Rattle.runs.specs.declared.types.OptimizationResult.{OptimizationResult}
-use Rattle.text.specs.declared.cursor.Cursor.{Cursor}
-use Rattle.text.specs.declared.cursor.Why.{Why}
-use Rattle.text.specs.declared.cursor.Why.TheVariants.{TooMany, NoNumber, NoHex, Another, Kind, Range}
+use Rattle.text.specs.declared.reader.Why.{Why}
+use Rattle.text.specs.declared.reader.Wrong.{Wrong}
+use Rattle.text.specs.declared.reader.Why.TheVariants.{TooMany, NoNumber, NoHex, Another, Kind, Range}
 use Rattle.streams.specs.Output.{blank, decimal_text, float_texts}
 use Rattle.text.specs.Words.{none_left, words_before}
 
@@ -25,14 +25,14 @@ abbrev pub missing_text : List ℕ
 missing_text = 109 ∷ 105 ∷ 115 ∷ 115 ∷ 105 ∷ 110 ∷ 103 ∷ 10 ∷ []
 
 -- `missing` where no word is left for the field, and else what is wrong with it
-abbrev pub fault_text : List ℕ → Cursor → List ℕ
-fault_text line c = cond (none_left line c.at) missing_text (wrong_text c.why)
+abbrev pub fault_text : List ℕ → Wrong → List ℕ
+fault_text line w = cond (none_left line w.at) missing_text (wrong_text w.why)
 
 -- `? ` and the line's number, ` field `, the number of the word that is out of form, from 1, and what is wrong with it
-abbrev pub unknown_texts : List ℕ → (number : ℕ) → Cursor → List (List ℕ)
-unknown_texts line number c =
-    number_texts (63 ∷ []) number ++ number_texts (32 ∷ 102 ∷ 105 ∷ 101 ∷ 108 ∷ 100 ∷ []) ((words_before line c.at + 1) % 2 ^ 64)
-    ++ ((58 ∷ 32 ∷ []) ∷ fault_text line c ∷ [])
+abbrev pub unknown_texts : List ℕ → (number : ℕ) → Wrong → List (List ℕ)
+unknown_texts line number w =
+    number_texts (63 ∷ []) number ++ number_texts (32 ∷ 102 ∷ 105 ∷ 101 ∷ 108 ∷ 100 ∷ []) ((words_before line w.at + 1) % 2 ^ 64)
+    ++ ((58 ∷ 32 ∷ []) ∷ fault_text line w ∷ [])
 
 -- `? `, the line's number and ` too long`
 abbrev pub cut_texts : ℕ → List (List ℕ)

@@ -19,7 +19,7 @@ use answers::Program;
 use streams::console::Console;
 use streams::output::Output;
 use tally::Tally;
-use text::cursor::Cursor;
+use text::reader::{Reader, Wrong};
 
 // What the lines so far have come to.
 #[derive(Clone, Copy)]
@@ -29,16 +29,21 @@ struct Examined {
 
 impl Program for Examined {
     // J id kind ..: nothing is put. A job that is refused is counted, and leaves no rows.
-    fn answer(&mut self, output: &mut Output, line: &[u8], _number: u64) -> Result<(), Cursor> {
-        let kind = joblines::read_kind(line, Cursor::new(0), 3);
-        let job = joblines::read_job(line, kind.next);
-        let read = joblines::read_request(line, kind.value, job);
-        answers::end(line, read.next)?;
-        let admitted = benchcalls::admitted(benchcalls::empty_bench(), 0, read.value);
+    fn answer(
+        &mut self,
+        output: &mut Output,
+        reader: &mut Reader,
+        _number: u64,
+    ) -> Result<(), Wrong> {
+        let kind = joblines::read_kind(reader, 3)?;
+        let job = joblines::read_job(reader)?;
+        let request = joblines::read_request(reader, kind, job)?;
+        reader.end()?;
+        let admitted = benchcalls::admitted(benchcalls::empty_bench(), 0, request);
         if admitted.number > 0 {
             output.count(true);
         } else {
-            examine::examine_job(&mut self.tally, admitted.bench, read.value);
+            examine::examine_job(&mut self.tally, admitted.bench, request);
         }
         Ok(())
     }
@@ -54,8 +59,6 @@ fn main(rt: HostRuntime) {
         output: rt.stdout(),
         errors: rt.stderr(),
     };
-    let mut buf = io::large_buffer();
-    let mut out = io::large_buffer();
     let mut examined = Examined { tally: tally::NONE };
-    answers::answer_all(&mut examined, console, &mut buf, &mut out);
+    answers::answer_all(&mut examined, console);
 }

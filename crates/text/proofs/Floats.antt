@@ -40,9 +40,10 @@ module _ (line : List ℕ) (all : Result (Field (Unit {0})) Wrong) (whole : List
 
     -- none in form
     pub stopped : {w : Wrong} (to : ℕ) → i < length row → came {A = Float} (Err w) to ≡ float_from line at → (Err w ≡ all) × (row ≡ whole)
-    stopped to h e =
-        (sym (past_next h ∙ simp (sym e)),
-        sym (over_next h ∙ simp (sym e) (ap (λ (l : List Float). take i row ++ l) (sym (rest h)) ∙ take-append-drop i row)))
+    stopped to h e = (
+      sym (past_next h ∙ simp (sym e)),
+      sym (over_next h ∙ simp (sym e) (ap (λ (l : List Float). take i row ++ l) (sym (rest h)) ∙ take-append-drop i row)),
+    )
 
     pub ended : length row ≤ i → (came (Ok tt) at ≡ all) × (row ≡ whole)
     unfolding past_floats floats_over

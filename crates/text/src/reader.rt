@@ -1,6 +1,7 @@
 // A line read field by field. Each read answers the field's value, or where the line is out of form and why; what asks for a
 // line's fields one after the other ends at the first that is, by `?`.
-ghost use Rattle.std.specs.Prelude.{◌≡◌, cond, length};
+ghost use Rattle.std.specs.Prelude.{◌≡◌, ◌≤◌, cond, length, IfOk};
+ghost use Rattle.text.specs.declared.reader.Why.TheVariants.{Kind};
 ghost use Rattle.text.specs.Fields.{text_of};
 ghost use Rattle.text.specs.Words.{between, word_from};
 ghost use Rattle.text.specs.Reader.{Reads, wrong, field_or, moved_to, number_from, decimal_from, within_from, float_from, begins_with};
@@ -34,8 +35,10 @@ pub struct Wrong {
 }
 
 impl Wrong {
-    // A line whose name is no known one is out of form at its first word.
-    pub fn name() -> Wrong {
+    // A line of an unknown name is out of form at its first word.
+    pub fn unknown_name() -> Wrong
+        ensures { (result.at ≡ 0) × (result.why ≡ Kind) }
+    {
         Wrong {
             at: 0,
             why: Why::Kind,
@@ -90,7 +93,8 @@ impl<'a> Reader<'a> {
 
     // A number from `low` to `high`; any other is out of form for the reason given.
     pub fn within(&mut self, low: u64, high: u64, why: Why) -> Result<u64, Wrong>
-        ensures { Reads (within_from low high why) self.old result self.new }
+        ensures value { Reads (within_from low high why) self.old result self.new }
+        ensures bounds { IfOk result (λ x. (low ≤ x) × (x ≤ high)) }
     {
         let out_of_form = self.wrong(why);
         let x = self.decimal()?;

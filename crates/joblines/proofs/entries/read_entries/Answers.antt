@@ -14,10 +14,10 @@ loop-i-preserved g c =
     let l = c.loop-i in
     let read = c.in_ok-entry.ensures in
     let kept : c.if-i-kept.kept ≡ stored_at (length c.args.kept.now) l.i c.in_ok-entry.entry l.kept =
-        elim c.if-i-kept.branch [
-          | then-i-kept w ↦ grind (arith, w.if-i-kept.true, w.kept-is)
-          | else-i-kept w ↦ grind (arith, w.if-i-kept.false, w.kept-is)
-        ] in
+    elim c.if-i-kept.branch [
+      | then-i-kept w ↦ grind (arith, w.if-i-kept.true, w.kept-is)
+      | else-i-kept w ↦ grind (arith, w.if-i-kept.false, w.kept-is)
+    ] in
     record {
       same = read.same ∙ l.invariant.same;
       reading = more _ _ _ _ l.invariant.reading c.loop-i-test.true (laid g.T.Entry.from (stored_at (length c.args.kept.now) l.i) l.kept c.args.reader.now.line.now l.reader.at (rw l.invariant.same at read.value) kept);
@@ -28,7 +28,7 @@ returns-in_err-entry g c =
     let l = c.loop-i in
     let read = c.in_err-entry.ensures in
     let end = stopped _ _ _ _ l.invariant.reading {w = c.in_err-entry.field-0.0} c.loop-i-test.true
-        (not-laid g.T.Entry.from (stored_at (length c.args.kept.now) l.i) l.kept c.args.reader.now.line.now l.reader.at c.read.new.reader.at (rw l.invariant.same at read.value)) in
+    (not-laid g.T.Entry.from (stored_at (length c.args.kept.now) l.i) l.kept c.args.reader.now.line.now l.reader.at c.read.new.reader.at (rw l.invariant.same at read.value)) in
     record { value = grind (arith, common_steps, end); same = read.same ∙ l.invariant.same }
 
 pub returns : goal.returns

@@ -23,7 +23,7 @@ returns-in_err-p c =
     let l = c.loop in
     let read = c.in_err-p.ensures in
     let end = stopped _ _ _ _ l.invariant.reading {w = c.in_err-p.field-0.0} c.loop-test.true
-        (not-laid (follower_from c.args.count) with_follower l.variables c.args.reader.now.line.now l.reader.at c.read_follower.new.reader.at (rw l.invariant.same at read.value)) in
+    (not-laid (follower_from c.args.count) with_follower l.variables c.args.reader.now.line.now l.reader.at c.read_follower.new.reader.at (rw l.invariant.same at read.value)) in
     record { value = grind (arith, common_steps, end); same = read.same ∙ l.invariant.same }
 
 pub returns : goal.returns

@@ -24,7 +24,7 @@ returns-in_err-x c =
     let l = c.loop-w in
     let read = c.in_err-x.ensures in
     let end = stopped _ _ _ _ l.invariant.reading {w = c.in_err-x.field-0.0} c.loop-w-test.true
-        (not-laid float_from (index_stored c.args.i l.w) l.indices c.args.reader.now.line.now l.reader.at c.float.new.self.at (rw l.invariant.same at read.value)) in
+    (not-laid float_from (index_stored c.args.i l.w) l.indices c.args.reader.now.line.now l.reader.at c.float.new.self.at (rw l.invariant.same at read.value)) in
     record { value = grind (arith, common_steps, end); same = read.same ∙ l.invariant.same }
 
 pub returns : goal.returns
