@@ -1,6 +1,5 @@
 -- Pieces of answers, each a list of texts. Definitions only.
-use Rattle.std.specs.Prelude.{ℕ, zero, suc, ◌+◌, ◌%◌, ◌^◌, min, cond, List, [], ◌∷◌, ◌++◌, take, slice_index_or, Float}
-use Rattle.optics.specs.Types.{no_surface}
+use Rattle.std.specs.Prelude.{ℕ, ◌+◌, ◌%◌, ◌^◌, min, cond, List, [], ◌∷◌, ◌++◌, take, Float}
 use Rattle.optics.specs.declared.types.OpticalSurface.{OpticalSurface}
 use Rattle.runs.specs.declared.types.OptimizationResult.{OptimizationResult}
 use Rattle.text.specs.declared.reader.Why.{Why}
@@ -8,6 +7,7 @@ use Rattle.text.specs.declared.reader.Wrong.{Wrong}
 use Rattle.text.specs.declared.reader.Why.TheVariants.{TooMany, NoNumber, NoHex, Another, Kind, Range}
 use Rattle.streams.specs.Output.{blank, decimal_text, float_texts}
 use Rattle.text.specs.Words.{none_left, words_before}
+use Rattle.answers.specs.Entries.{all_texts, surface_texts}
 
 abbrev pub number_texts : List ℕ → ℕ → List (List ℕ)
 number_texts name number = name ∷ blank ∷ decimal_text number ∷ []
@@ -52,14 +52,9 @@ outcome_texts result =
     (mark 77 ∷ float_texts (result.initial_merit ∷ result.final_merit ∷ []))
     ++ number_texts (mark 78) result.iterations ++ number_texts [] result.converged
 
-abbrev pub surface_texts : OpticalSurface → List (List ℕ)
-surface_texts s =
-    float_texts (s.radius_mm ∷ s.conic_constant ∷ s.thickness_mm ∷ s.semi_diameter_mm ∷ [])
-
 -- the first n surfaces
-unfoldable pub surfaces_texts : List OpticalSurface → ℕ → List (List ℕ)
-surfaces_texts surfaces zero = []
-surfaces_texts surfaces (suc n) = surfaces_texts surfaces n ++ surface_texts (slice_index_or surfaces n no_surface)
+abbrev pub surfaces_texts : List OpticalSurface → ℕ → List (List ℕ)
+surfaces_texts surfaces n = all_texts surface_texts (take n surfaces)
 
 -- ` S ` n {surface} ` V ` m {values} ` D ` m {residuals}
 abbrev pub lens_texts : OptimizationResult → ℕ → ℕ → List (List ℕ)
