@@ -1,5 +1,5 @@
 -- A loop that reads as many entries as a count says, while the line is in form. Assumes nothing.
-use Rattle.std.proofs.Common.{◌≡◌, ℕ, zero, suc, ◌+◌, ◌-◌, ◌<◌, ◌≤◌, List, refl, sym, ap, ◌∙◌, add-one, arith, Result, Ok, Err}
+use Rattle.std.proofs.Common.{◌≡◌, ℕ, suc, ◌+◌, ◌-◌, ◌<◌, ◌≤◌, List, sym, ap, ◌∙◌, add-one, arith, Result, Ok, Err}
 use Rattle.text.specs.declared.reader.Wrong.{Wrong}
 use Rattle.text.specs.declared.fields.Field.{Field}
 use Rattle.text.specs.Fields.{field_of}

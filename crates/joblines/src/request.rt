@@ -11,11 +11,16 @@ use text::reader::{Reader, Wrong};
 pub fn read_request(reader: &mut Reader, kind: u64, job: JobLine) -> Result<JobRequest, Wrong>
     ensures { Reads (request_from kind job) reader.old result reader.new }
 {
+    let JobLine {
+        prescription,
+        variables,
+        merit_function,
+    } = job;
     let method = settings::read_method(reader, kind)?;
     Ok(JobRequest {
-        prescription: job.prescription,
-        variables: job.variables,
-        merit_function: job.merit_function,
+        prescription,
+        variables,
+        merit_function,
         method,
     })
 }

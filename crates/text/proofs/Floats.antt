@@ -1,10 +1,10 @@
 -- A loop that reads floats over a row. Assumes nothing.
-use Rattle.std.proofs.Common.{◌≡◌, ℕ, suc, ◌+◌, ◌<◌, ◌≤◌, List, [], ◌∷◌, ◌++◌, length, get_or, take, drop, set, refl, sym, ap, ◌∙◌, add-one, arith, append_assoc, append-nil, drop-cons, Float, Result, Ok, Err}
+use Rattle.std.proofs.Common.{◌≡◌, ℕ, ◌+◌, ◌<◌, ◌≤◌, List, [], ◌∷◌, ◌++◌, length, get_or, take, drop, set}
+use Rattle.std.proofs.Common.{sym, ap, ◌∙◌, add-one, arith, append_assoc, append-nil, drop-cons, Float, Result, Ok, Err}
 use Rattle.std.proofs.lemmas.List.{drop-set-lt, drop_all, take_all, take_more_set, take-append-drop}
 use Rattle.std.specs.Float.{nan}
 use Rattle.text.specs.declared.reader.Wrong.{Wrong}
 use Rattle.text.specs.declared.fields.Field.{Field}
-use Rattle.text.specs.Fields.{field_of}
 use Rattle.text.specs.Reader.{then, float_from, past_floats, put_over, floats_over, came}
 
 module _ (line : List ℕ) (all : Result (Field (Unit {0})) Wrong) (whole : List Float) where

@@ -1,7 +1,7 @@
 -- `joblines::entries::read_entries` meets its contract. Assumes nothing.
-use Rattle.std.proofs.Common.{◌≡◌, length, ◌<◌, ◌≤◌, refl, ap, ◌∙◌, arith, Err}
+use Rattle.std.proofs.Common.{◌≡◌, length, refl, ◌∙◌, arith}
 use Rattle.std.proofs.lemmas.Grind.{common_steps}
-use Rattle.joblines.specs.Entries.{stored_at, entries_from}
+use Rattle.joblines.specs.Entries.{stored_at}
 use Rattle.joblines.proofs.Reading.{laid, not-laid, begin, more, stopped, ended}
 use Rattle.joblines.proofs.entries.read_entries.Goals as goal
 use Rattle.joblines.proofs.entries.read_entries.Goals.{then-i-kept, else-i-kept}
@@ -18,17 +18,17 @@ loop-i-preserved g c =
       | then-i-kept w ↦ grind (arith, w.if-i-kept.true, w.kept-is)
       | else-i-kept w ↦ grind (arith, w.if-i-kept.false, w.kept-is)
     ] in
-    record {
-      same = read.same ∙ l.invariant.same;
-      reading = more _ _ _ _ l.invariant.reading c.loop-i-test.true (laid g.T.Entry.from (stored_at (length c.args.kept.now) l.i) l.kept c.args.reader.now.line.now l.reader.at (rw l.invariant.same at read.value) kept);
-    }
+    let put = laid g.T.Entry.from (stored_at (length c.args.kept.now) l.i) l.kept c.args.reader.now.line.now l.reader.at
+    (rw l.invariant.same at read.value) kept in
+    record { same = read.same ∙ l.invariant.same; reading = more _ _ _ _ l.invariant.reading c.loop-i-test.true put }
 
 pub returns-in_err-entry : goal.returns-in_err-entry
 returns-in_err-entry g c =
     let l = c.loop-i in
     let read = c.in_err-entry.ensures in
-    let end = stopped _ _ _ _ l.invariant.reading {w = c.in_err-entry.field-0.0} c.loop-i-test.true
-    (not-laid g.T.Entry.from (stored_at (length c.args.kept.now) l.i) l.kept c.args.reader.now.line.now l.reader.at c.read.new.reader.at (rw l.invariant.same at read.value)) in
+    let none = not-laid g.T.Entry.from (stored_at (length c.args.kept.now) l.i) l.kept c.args.reader.now.line.now l.reader.at c.read.new.reader.at
+    (rw l.invariant.same at read.value) in
+    let end = stopped _ _ _ _ l.invariant.reading {w = c.in_err-entry.field-0.0} c.loop-i-test.true none in
     record { value = grind (arith, common_steps, end); same = read.same ∙ l.invariant.same }
 
 pub returns : goal.returns

@@ -1,5 +1,5 @@
 -- `joblines::followers::read_listed` meets its contract. Assumes nothing.
-use Rattle.std.proofs.Common.{◌≡◌, refl, ◌∙◌, arith}
+use Rattle.std.proofs.Common.{refl, ◌∙◌, arith}
 use Rattle.std.proofs.lemmas.Grind.{common_steps}
 use Rattle.joblines.specs.Followers.{follower_from, with_follower, followers_listed}
 use Rattle.joblines.proofs.Reading.{laid, not-laid, begin, more, stopped, ended}
@@ -13,17 +13,17 @@ pub loop-preserved : goal.loop-preserved
 loop-preserved c =
     let l = c.loop in
     let read = c.in_ok-p.ensures in
-    record {
-      same = read.same ∙ l.invariant.same;
-      reading = more _ _ _ _ l.invariant.reading c.loop-test.true (laid (follower_from c.args.count) with_follower l.variables c.args.reader.now.line.now l.reader.at (rw l.invariant.same at read.value) c.follow.ensures);
-    }
+    let put = laid (follower_from c.args.count) with_follower l.variables c.args.reader.now.line.now l.reader.at
+    (rw l.invariant.same at read.value) c.follow.ensures in
+    record { same = read.same ∙ l.invariant.same; reading = more _ _ _ _ l.invariant.reading c.loop-test.true put }
 
 pub returns-in_err-p : goal.returns-in_err-p
 returns-in_err-p c =
     let l = c.loop in
     let read = c.in_err-p.ensures in
-    let end = stopped _ _ _ _ l.invariant.reading {w = c.in_err-p.field-0.0} c.loop-test.true
-    (not-laid (follower_from c.args.count) with_follower l.variables c.args.reader.now.line.now l.reader.at c.read_follower.new.reader.at (rw l.invariant.same at read.value)) in
+    let none = not-laid (follower_from c.args.count) with_follower l.variables c.args.reader.now.line.now l.reader.at c.read_follower.new.reader.at
+    (rw l.invariant.same at read.value) in
+    let end = stopped _ _ _ _ l.invariant.reading {w = c.in_err-p.field-0.0} c.loop-test.true none in
     record { value = grind (arith, common_steps, end); same = read.same ∙ l.invariant.same }
 
 pub returns : goal.returns

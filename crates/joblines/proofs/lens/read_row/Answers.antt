@@ -1,5 +1,5 @@
 -- `joblines::lens::read_row` meets its contract. Assumes nothing.
-use Rattle.std.proofs.Common.{◌≡◌, refl, ◌∙◌, arith}
+use Rattle.std.proofs.Common.{refl, ◌∙◌, arith}
 use Rattle.std.proofs.lemmas.Grind.{common_steps}
 use Rattle.text.specs.Reader.{float_from}
 use Rattle.joblines.specs.Lens.{index_stored, row_from}
@@ -14,17 +14,17 @@ pub loop-w-preserved : goal.loop-w-preserved
 loop-w-preserved c =
     let l = c.loop-w in
     let read = c.in_ok-x.ensures in
-    record {
-      same = read.same ∙ l.invariant.same;
-      reading = more _ _ _ _ l.invariant.reading c.loop-w-test.true (laid float_from (index_stored c.args.i l.w) l.indices c.args.reader.now.line.now l.reader.at (rw l.invariant.same at read.value) c.keep_index.ensures);
-    }
+    let put = laid float_from (index_stored c.args.i l.w) l.indices c.args.reader.now.line.now l.reader.at
+    (rw l.invariant.same at read.value) c.keep_index.ensures in
+    record { same = read.same ∙ l.invariant.same; reading = more _ _ _ _ l.invariant.reading c.loop-w-test.true put }
 
 pub returns-in_err-x : goal.returns-in_err-x
 returns-in_err-x c =
     let l = c.loop-w in
     let read = c.in_err-x.ensures in
-    let end = stopped _ _ _ _ l.invariant.reading {w = c.in_err-x.field-0.0} c.loop-w-test.true
-    (not-laid float_from (index_stored c.args.i l.w) l.indices c.args.reader.now.line.now l.reader.at c.float.new.self.at (rw l.invariant.same at read.value)) in
+    let none = not-laid float_from (index_stored c.args.i l.w) l.indices c.args.reader.now.line.now l.reader.at c.float.new.self.at
+    (rw l.invariant.same at read.value) in
+    let end = stopped _ _ _ _ l.invariant.reading {w = c.in_err-x.field-0.0} c.loop-w-test.true none in
     record { value = grind (arith, common_steps, end); same = read.same ∙ l.invariant.same }
 
 pub returns : goal.returns

@@ -1,5 +1,5 @@
 -- `joblines::lens::read_rows` meets its contract. Assumes nothing.
-use Rattle.std.proofs.Common.{◌≡◌, refl, ◌∙◌, arith}
+use Rattle.std.proofs.Common.{refl, ◌∙◌, arith}
 use Rattle.std.proofs.lemmas.Grind.{common_steps}
 use Rattle.joblines.specs.Lens.{rows_from}
 use Rattle.joblines.proofs.Reading.{begin, more, stopped, ended}

@@ -59,7 +59,8 @@ returns-then-has_more c =
     let f = c.find-end in
     let e = c.not_yet.ensures in
     let w = subst (Within (length a.buf.now)) (sym e) (tt, (search rules, search rules)) in
-    record { value = from_more a.buf.now a.input f.ensures.value c.if-end-input.false (sym c.has_more.ensures ∙ c.if-has_more.true) e; from_le_to_2 = w.0; from_le_to_3 = w.1 }
+    let more = sym c.has_more.ensures ∙ c.if-has_more.true in
+    record { value = from_more a.buf.now a.input f.ensures.value c.if-end-input.false more e; from_le_to_2 = w.0; from_le_to_3 = w.1 }
 
 pub returns : goal.returns
 returns c =
@@ -68,4 +69,5 @@ returns c =
     let e = c.last_line.ensures in
     let w = subst (Within (length a.buf.now)) (sym e)
     (if_left (λ (l : Line). (l.from ≤ l.to) × (l.to ≤ length a.buf.now)) (is_left a.input) (search rules, search rules), (search rules, search rules)) in
-    record { value = from_last a.buf.now a.input f.ensures.value c.if-end-input.false (sym c.has_more.ensures ∙ c.if-has_more.false) e; from_le_to_2 = w.0; from_le_to_3 = w.1 }
+    let none = sym c.has_more.ensures ∙ c.if-has_more.false in
+    record { value = from_last a.buf.now a.input f.ensures.value c.if-end-input.false none e; from_le_to_2 = w.0; from_le_to_3 = w.1 }

@@ -1,5 +1,6 @@
 -- `streams::input::read_on` meets its contract: what was kept stands before what came. Assumes nothing.
-use Rattle.std.proofs.Common.{◌≡◌, ℕ, zero, suc, ◌+◌, ◌≤◌, Bool, ltb, cond, List, length, take, refl, sym, ap, ◌∙◌, subst, arith, length-take-le, take_at, rules, le-ltb, lt-ltb}
+use Rattle.std.proofs.Common.{◌≡◌, ℕ, zero, suc, ◌+◌, ◌≤◌, ltb, cond, List, length, take, refl}
+use Rattle.std.proofs.Common.{sym, ap, ◌∙◌, subst, arith, length-take-le, take_at, rules, le-ltb, lt-ltb}
 use Rattle.std.specs.Prelude.{Result, Ok, Err, IfOk}
 use Rattle.std.specs.Result.{result_unwrap_or}
 use Rattle.streams.specs.declared.input.Input.{Input}

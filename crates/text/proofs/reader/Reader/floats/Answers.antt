@@ -1,9 +1,8 @@
 -- `text::reader::Reader::floats` meets its contract. Assumes nothing.
-use Rattle.std.proofs.Common.{◌≡◌, ℕ, ◌<◌, ◌≤◌, length, refl, sym, ap, ◌∙◌, arith}
+use Rattle.std.proofs.Common.{◌<◌, ◌≤◌, length, refl, sym, ◌∙◌, arith}
 use Rattle.std.proofs.lemmas.Grind.{common_steps}
 use Rattle.std.proofs.lemmas.List.{set-get_or}
-use Rattle.text.proofs.Floats.{Reading, more, stopped, ended}
-use Rattle.text.specs.Reader.{past_floats, floats_over}
+use Rattle.text.proofs.Floats.{more, stopped, ended}
 use Rattle.text.proofs.reader.Reader.floats.Goals as goal
 
 pub loop-x-init : goal.loop-x-init
