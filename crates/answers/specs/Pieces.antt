@@ -1,13 +1,13 @@
 -- Pieces of answers, each a list of texts. Definitions only.
-use Rattle.std.specs.Prelude.{ℕ, zero, suc, ◌+◌, ◌%◌, ◌^◌, min, cond, List, [], ◌∷◌, ◌++◌, take, slice_index_or, Float}
-use Rattle.optics.specs.Types.{no_surface}
+use Rattle.std.specs.Prelude.{ℕ, ◌+◌, ◌%◌, ◌^◌, min, cond, List, [], ◌∷◌, ◌++◌, take, Float}
 use Rattle.optics.specs.declared.types.OpticalSurface.{OpticalSurface}
 use Rattle.runs.specs.declared.types.OptimizationResult.{OptimizationResult}
-use Rattle.text.specs.declared.cursor.Cursor.{Cursor}
-use Rattle.text.specs.declared.cursor.Why.{Why}
-use Rattle.text.specs.declared.cursor.Why.TheVariants.{TooMany, NoNumber, NoHex, Another, Kind, Range}
+use Rattle.text.specs.declared.reader.Why.{Why}
+use Rattle.text.specs.declared.reader.Wrong.{Wrong}
+use Rattle.text.specs.declared.reader.Why.TheVariants.{TooMany, NoNumber, NoHex, Another, Kind, Range}
 use Rattle.streams.specs.Output.{blank, decimal_text, float_texts}
 use Rattle.text.specs.Words.{none_left, words_before}
+use Rattle.answers.specs.Entries.{all_texts, surface_texts}
 
 abbrev pub number_texts : List ℕ → ℕ → List (List ℕ)
 number_texts name number = name ∷ blank ∷ decimal_text number ∷ []
@@ -25,14 +25,14 @@ abbrev pub missing_text : List ℕ
 missing_text = 109 ∷ 105 ∷ 115 ∷ 115 ∷ 105 ∷ 110 ∷ 103 ∷ 10 ∷ []
 
 -- `missing` where no word is left for the field, and else what is wrong with it
-abbrev pub fault_text : List ℕ → Cursor → List ℕ
-fault_text line c = cond (none_left line c.at) missing_text (wrong_text c.why)
+abbrev pub fault_text : List ℕ → Wrong → List ℕ
+fault_text line w = cond (none_left line w.at) missing_text (wrong_text w.why)
 
 -- `? ` and the line's number, ` field `, the number of the word that is out of form, from 1, and what is wrong with it
-abbrev pub unknown_texts : List ℕ → (number : ℕ) → Cursor → List (List ℕ)
-unknown_texts line number c =
-    number_texts (63 ∷ []) number ++ number_texts (32 ∷ 102 ∷ 105 ∷ 101 ∷ 108 ∷ 100 ∷ []) ((words_before line c.at + 1) % 2 ^ 64)
-    ++ ((58 ∷ 32 ∷ []) ∷ fault_text line c ∷ [])
+abbrev pub unknown_texts : List ℕ → (number : ℕ) → Wrong → List (List ℕ)
+unknown_texts line number w =
+    number_texts (63 ∷ []) number ++ number_texts (32 ∷ 102 ∷ 105 ∷ 101 ∷ 108 ∷ 100 ∷ []) ((words_before line w.at + 1) % 2 ^ 64)
+    ++ ((58 ∷ 32 ∷ []) ∷ fault_text line w ∷ [])
 
 -- `? `, the line's number and ` too long`
 abbrev pub cut_texts : ℕ → List (List ℕ)
@@ -52,14 +52,9 @@ outcome_texts result =
     (mark 77 ∷ float_texts (result.initial_merit ∷ result.final_merit ∷ []))
     ++ number_texts (mark 78) result.iterations ++ number_texts [] result.converged
 
-abbrev pub surface_texts : OpticalSurface → List (List ℕ)
-surface_texts s =
-    float_texts (s.radius_mm ∷ s.conic_constant ∷ s.thickness_mm ∷ s.semi_diameter_mm ∷ [])
-
 -- the first n surfaces
-unfoldable pub surfaces_texts : List OpticalSurface → ℕ → List (List ℕ)
-surfaces_texts surfaces zero = []
-surfaces_texts surfaces (suc n) = surfaces_texts surfaces n ++ surface_texts (slice_index_or surfaces n no_surface)
+abbrev pub surfaces_texts : List OpticalSurface → ℕ → List (List ℕ)
+surfaces_texts surfaces n = all_texts surface_texts (take n surfaces)
 
 -- ` S ` n {surface} ` V ` m {values} ` D ` m {residuals}
 abbrev pub lens_texts : OptimizationResult → ℕ → ℕ → List (List ℕ)

@@ -5,16 +5,16 @@ ghost use Rattle.answers.specs.Heads.{head_texts, kept_text, refused_texts, dige
 
 use crate::pieces::put_number;
 use streams::output::Output;
-use text::words;
+use text::reader::Reader;
 
 // R id kind, of a line that is in form: its id is its second word.
 pub fn put_head(output: &mut Output, line: &[u8], kind: u64)
     ensures { Puts output.old (head_texts line.now kind) output.new }
 {
-    let tag = words::next_word(line, 0);
-    let id = words::next_word(line, tag.to);
+    let mut reader = Reader::new(line);
+    reader.word();
     output.put(b"R ");
-    put_number(output, &line[id.from..id.to], kind);
+    put_number(output, reader.word(), kind);
 }
 
 // The line's end, after `changed` where what was lent is not as it was, which the oracle never says.

@@ -3,13 +3,15 @@
 #![tactic(auto)]
 
 mod digest;
+mod entries;
 mod heads;
 mod lines;
 mod pieces;
 mod result;
 
 pub use digest::{START, with_float, with_surfaces};
+pub use entries::{Entry, put_all};
 pub use heads::{put_digest, put_head, put_kept, put_refused};
-pub use lines::{Program, answer_all, end};
+pub use lines::{Program, answer_all};
 pub use pieces::{put_cut, put_number, put_row, put_unknown};
 pub use result::{put_lens, put_outcome};

@@ -4,7 +4,7 @@ ghost use Rattle.streams.specs.Output.{Puts, with_unknown};
 ghost use Rattle.answers.specs.Pieces.{wrong_text, fault_text, unknown_texts, cut_texts, number_texts, row_texts};
 
 use streams::output::Output;
-use text::cursor::{Cursor, Why};
+use text::reader::{Why, Wrong};
 use text::words;
 
 // What is wrong with a word.
@@ -22,27 +22,27 @@ fn wrong_text(why: Why) -> &'static [u8]
     }
 }
 
-// What is wrong where a cursor was left.
-fn put_fault(output: &mut Output, line: &[u8], c: Cursor)
-    ensures { Puts output.old (fault_text line.now c ∷ []) output.new }
+// What is wrong where a line is out of form.
+fn put_fault(output: &mut Output, line: &[u8], wrong: Wrong)
+    ensures { Puts output.old (fault_text line.now wrong ∷ []) output.new }
 {
-    if words::is_end(line, c.at) {
+    if words::is_end(line, wrong.at) {
         output.put(b"missing\n");
     } else {
-        output.put(wrong_text(c.why));
+        output.put(wrong_text(wrong.why));
     }
 }
 
-// The answer to a line that is out of form: its number, the field where the cursor was left, and what is wrong there.
-pub fn put_unknown(output: &mut Output, line: &[u8], number: u64, c: Cursor)
-    ensures { Puts (with_unknown output.old) (unknown_texts line.now number c) output.new }
+// The answer to a line that is out of form: its number, the field where it is, and what is wrong there.
+pub fn put_unknown(output: &mut Output, line: &[u8], number: u64, wrong: Wrong)
+    ensures { Puts (with_unknown output.old) (unknown_texts line.now number wrong) output.new }
 {
-    let field = words::words_before(line, c.at).wrapping_add(1);
+    let field = words::words_before(line, wrong.at).wrapping_add(1);
     output.count_unknown();
     put_number(output, b"?", number);
     put_number(output, b" field", field);
     output.put(b": ");
-    put_fault(output, line, c);
+    put_fault(output, line, wrong);
 }
 
 // The answer to a line that is too long for the buffer.

@@ -1,7 +1,6 @@
 // The lines of calls: each is one call, or turns of one place, and has a name of one letter.
 use jobs::JobRequest;
-use text::cursor::{Cursor, Why};
-use text::{cursor, words};
+use text::reader::{Reader, Why, Wrong};
 
 #[derive(Clone, Copy)]
 pub(crate) enum Call {
@@ -33,69 +32,61 @@ pub(crate) enum Call {
 
 impl Call {
     // A line with another name is out of form at its first word.
-    pub(crate) fn read(line: &[u8]) -> Result<Call, Cursor> {
-        let name = words::next_word(line, 0);
-        let c = Cursor::new(name.to);
-        match &line[name.from..name.to] {
-            b"Z" => alone(line, c, Call::Empty),
-            b"A" => admission(line, c),
-            b"T" => turns(line, c),
-            b"D" => a_place(line, c, |place| Call::Release { place }),
-            b"N" => turns_to_deal(line, c),
-            b"F" => a_place(line, c, |place| Call::Fetch { place }),
-            b"L" => alone(line, c, Call::List),
-            _ => Err(cursor::out_of_form(Cursor::new(0), Why::Kind)),
+    pub(crate) fn read(reader: &mut Reader) -> Result<Call, Wrong> {
+        match reader.word() {
+            b"Z" => alone(reader, Call::Empty),
+            b"A" => admission(reader),
+            b"T" => turns(reader),
+            b"D" => a_place(reader, |place| Call::Release { place }),
+            b"N" => turns_to_deal(reader),
+            b"F" => a_place(reader, |place| Call::Fetch { place }),
+            b"L" => alone(reader, Call::List),
+            _ => Err(Wrong::unknown_name()),
         }
     }
 }
 
 // A name alone.
-fn alone(line: &[u8], c: Cursor, call: Call) -> Result<Call, Cursor> {
-    answers::end(line, c)?;
+fn alone(reader: &Reader, call: Call) -> Result<Call, Wrong> {
+    reader.end()?;
     Ok(call)
 }
 
 // place
-fn a_place<F: Fn(usize) -> Call>(line: &[u8], c: Cursor, call: F) -> Result<Call, Cursor>
+fn a_place<F: Fn(usize) -> Call>(reader: &mut Reader, call: F) -> Result<Call, Wrong>
     requires { F.IsAlwaysCallable call }
 {
-    let place = cursor::decimal(line, c);
-    answers::end(line, place.next)?;
-    Ok(call(place.value as usize))
+    let place = reader.decimal()? as usize;
+    reader.end()?;
+    Ok(call(place))
 }
 
 // place J id kind ..
-fn admission(line: &[u8], c: Cursor) -> Result<Call, Cursor> {
-    let place = cursor::decimal(line, c);
-    let kind = joblines::read_kind(line, place.next, 3);
-    let read = joblines::read_request(line, kind.value, joblines::read_job(line, kind.next));
-    answers::end(line, read.next)?;
-    Ok(Call::Admit {
-        place: place.value as usize,
-        request: read.value,
-    })
+fn admission(reader: &mut Reader) -> Result<Call, Wrong> {
+    let place = reader.decimal()? as usize;
+    let kind = joblines::read_kind(reader, 3)?;
+    let job = joblines::read_job(reader)?;
+    let request = joblines::read_request(reader, kind, job)?;
+    reader.end()?;
+    Ok(Call::Admit { place, request })
 }
 
 // place length turns
-fn turns(line: &[u8], c: Cursor) -> Result<Call, Cursor> {
-    let place = cursor::decimal(line, c);
-    let room = cursor::decimal(line, place.next);
-    let turns = cursor::decimal(line, room.next);
-    answers::end(line, turns.next)?;
-    Ok(Call::Turn {
-        place: place.value as usize,
-        room: room.value as usize,
-        turns: turns.value,
-    })
+fn turns(reader: &mut Reader) -> Result<Call, Wrong> {
+    let place = reader.decimal()? as usize;
+    let room = reader.decimal()? as usize;
+    let turns = reader.decimal()?;
+    reader.end()?;
+    Ok(Call::Turn { place, room, turns })
 }
 
 // turns length
-fn turns_to_deal(line: &[u8], c: Cursor) -> Result<Call, Cursor> {
-    let turns = cursor::within(line, c, 0, 65535, Why::Range);
-    let room = cursor::decimal(line, turns.next);
-    answers::end(line, room.next)?;
+fn turns_to_deal(reader: &mut Reader) -> Result<Call, Wrong> {
+    let turns = reader.within(0, 65535, Why::Range)?;
+    let room = reader.decimal()? as usize;
+    reader.end()?;
     Ok(Call::Deal {
-        turns: u16::try_from(turns.value).unwrap_or(u16::MAX),
-        room: room.value as usize,
+        turns: turns as u16,
+        room,
     })
 }

@@ -13,7 +13,7 @@ use bench::Bench;
 use call::Call;
 use streams::console::Console;
 use streams::output::Output;
-use text::cursor::Cursor;
+use text::reader::{Reader, Wrong};
 
 // The bench as the calls so far have left it.
 #[derive(Clone, Copy)]
@@ -22,8 +22,13 @@ struct Played {
 }
 
 impl Program for Played {
-    fn answer(&mut self, output: &mut Output, line: &[u8], _number: u64) -> Result<(), Cursor> {
-        let call = Call::read(line)?;
+    fn answer(
+        &mut self,
+        output: &mut Output,
+        reader: &mut Reader,
+        _number: u64,
+    ) -> Result<(), Wrong> {
+        let call = Call::read(reader)?;
         answer::answer(output, &mut self.bench, call);
         Ok(())
     }
@@ -35,10 +40,8 @@ fn main(rt: HostRuntime) {
         output: rt.stdout(),
         errors: rt.stderr(),
     };
-    let mut buf = io::large_buffer();
-    let mut out = io::large_buffer();
     let mut played = Played {
         bench: benchcalls::empty_bench(),
     };
-    answers::answer_all(&mut played, console, &mut buf, &mut out);
+    answers::answer_all(&mut played, console);
 }

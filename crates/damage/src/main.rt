@@ -19,7 +19,7 @@ use answers::Program;
 use streams::console::Console;
 use streams::output::Output;
 use tally::Tally;
-use text::cursor::Cursor;
+use text::reader::{Reader, Wrong};
 
 // What the lines so far have come to.
 #[derive(Clone, Copy)]
@@ -29,14 +29,19 @@ struct Examined {
 
 impl Program for Examined {
     // J id kind ..: nothing is put. A job that is refused is counted, and leaves no rows.
-    fn answer(&mut self, output: &mut Output, line: &[u8], _number: u64) -> Result<(), Cursor> {
-        let kind = joblines::read_kind(line, Cursor::new(0), 3);
-        let job = joblines::read_job(line, kind.next);
-        let read = joblines::read_request(line, kind.value, job);
-        answers::end(line, read.next)?;
+    fn answer(
+        &mut self,
+        output: &mut Output,
+        reader: &mut Reader,
+        _number: u64,
+    ) -> Result<(), Wrong> {
+        let kind = joblines::read_kind(reader, 3)?;
+        let job = joblines::read_job(reader)?;
+        let request = joblines::read_request(reader, kind, job)?;
+        reader.end()?;
         let mut bench = benchcalls::empty_bench();
-        match benchcalls::admit(&mut bench, 0, read.value) {
-            Ok(()) => examine::examine_job(&mut self.tally, &bench, read.value),
+        match benchcalls::admit(&mut bench, 0, request) {
+            Ok(()) => examine::examine_job(&mut self.tally, &bench, request),
             Err(_) => output.count(true),
         }
         Ok(())
@@ -53,8 +58,6 @@ fn main(rt: HostRuntime) {
         output: rt.stdout(),
         errors: rt.stderr(),
     };
-    let mut buf = io::large_buffer();
-    let mut out = io::large_buffer();
     let mut examined = Examined { tally: tally::NONE };
-    answers::answer_all(&mut examined, console, &mut buf, &mut out);
+    answers::answer_all(&mut examined, console);
 }

@@ -1,3 +1,2 @@
 -- Laws that proofs of several functions cite.
-pub mod LeftOut
 pub mod Reading

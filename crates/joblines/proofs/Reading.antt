@@ -1,73 +1,50 @@
 -- A loop that reads as many entries as a count says, while the line is in form. Assumes nothing.
-use mathlib.Core.Path.{◌≡◌, refl, sym, ap, ◌∙◌}
-use mathlib.Core.Bool.{Bool, true, false, cond}
-use mathlib.Core.List.{List}
-use mathlib.Core.Logic.{◌⊎◌, inl, inr}
-use Prim.Native.Nat.{ℕ, zero, suc, ◌+◌, ◌≤◌, ◌<◌}
-use native.Mathlib.Nat.{eq-or-lt_of_le, le_of_suc-le-suc}
-use native.Mathlib.Numerals.{add-one}
-use native.Mathlib.Omega.{arith}
-use lib.ListN.{set}
-use borrow.Author.Tests.{lt-ltb, le-ltb}
-use Rattle.text.specs.declared.cursor.Cursor.{Cursor}
-use Rattle.joblines.specs.Entries.{past, filled, stored_at}
+use Rattle.std.proofs.Common.{◌≡◌, ℕ, suc, ◌+◌, ◌-◌, ◌<◌, ◌≤◌, List, sym, ap, ◌∙◌, add-one, arith, Result, Ok, Err}
+use Rattle.text.specs.declared.reader.Wrong.{Wrong}
+use Rattle.text.specs.declared.fields.Field.{Field}
+use Rattle.text.specs.Fields.{field_of}
+use Rattle.text.specs.Reader.{then, came}
+use Rattle.joblines.specs.Entries.{Form, read_after, put_from}
 
--- an entry is stored where there is room for it
-module _ {A : Type 0} (l : List A) (room i : ℕ) (y : A) {l' : List A} where
-  pub stored : {x : A} → i < room → x ≡ y → l' ≡ set l i x → l' ≡ stored_at room i y l
-  stored h p e = e ∙ ap (set l i) p ∙ ap (λ (t : Bool). cond t (set l i y) l) (sym (lt-ltb i room h))
+-- what one entry gives to the list
+module _ {A B : Type 0} (entry : Form B) (put : B → List A → List A) (l : List A) (line : List ℕ) (at : ℕ) where
+  pub laid : {x : B} {to : ℕ} {l' : List A} → came (Ok x) to ≡ entry line at → l' ≡ put x l → Ok (field_of to l') ≡ put_from entry put l line at
+  laid {x} {to} e f = ap (λ (m : List A). Ok (field_of to m)) f ∙ simp (sym e)
 
-  pub no_room : room ≤ i → l' ≡ l → l' ≡ stored_at room i y l
-  no_room h e = e ∙ ap (λ (t : Bool). cond t (set l i y) l) (sym (le-ltb i room h))
+  pub not-laid : {w : Wrong} (to : ℕ) → came {A = B} (Err w) to ≡ entry line at → Err w ≡ put_from entry put l line at
+  not-laid to e = simp (sym e)
 
-module _ {A : Type 0} (pass : Cursor → Cursor) (put : ℕ → Cursor → List A → List A) (c : Cursor) (start : List A) where
-  -- i entries are read
-  pub record Reading (count : ℕ) (l : List A) (next : Cursor) (i : ℕ) : Type 0 where
+module _ {A : Type 0} (read : ℕ → List A → Form (List A)) (line : List ℕ) (count : ℕ) (whole : Result (Field (List A)) Wrong) where
+  -- i entries are read, and what is still to be read makes the rest
+  pub record Reading (l : List A) (at i : ℕ) : Type 0 where
     pub within : i ≤ count
-    pub at : next ≡ past pass c i
-    pub list : l ≡ filled pass put c start i
+    pub left : whole ≡ read_after read (count - i) i l line at
 
-  past_more : (i : ℕ) {d : Cursor} (t : Bool) → d ≡ past pass c i → d.is_good ≡ t → past pass c (suc i) ≡ cond t (pass d) d
-  unfolding past
-  past_more i t e g = λ j. cond ((ap (λ (d : Cursor). d.is_good) (sym e) ∙ g) j) (pass (sym e j)) (sym e j)
+  pub begin : (l : List A) (at : ℕ) → whole ≡ read_after read count 0 l line at → Reading l at 0
+  begin l at e =
+      let none : count ≡ count - 0 = omega arith in
+      record { within = omega arith; left = e ∙ ap (λ (n : ℕ). read_after read n 0 l line at) none }
 
-  filled_more : (i : ℕ) {d : Cursor} {l : List A} (t : Bool) → d ≡ past pass c i → l ≡ filled pass put c start i → d.is_good ≡ t
-      → filled pass put c start (suc i) ≡ cond t (put i d l) l
-  unfolding filled
-  filled_more i t e f g = λ j. cond ((ap (λ (d : Cursor). d.is_good) (sym e) ∙ g) j) (put i (sym e j) (sym f j)) (sym f j)
+  module _ {l : List A} {at i : ℕ} (r : Reading l at i) where
+    next : i < count → whole ≡ then (read i l line at) (λ p. read_after read (count - (i + 1)) (suc i) p.value line p.to)
+    unfolding read_after
+    next h =
+        let one : count - i ≡ suc (count - (i + 1)) = omega arith in
+        r.left ∙ ap (λ (n : ℕ). read_after read n i l line at) one
 
-  pub begin : (count : ℕ) → Reading count start c 0
-  unfolding past filled
-  begin count = record { within = omega arith; at = refl; list = refl }
+    pub more : {l' : List A} {to : ℕ} → i < count → Ok (field_of to l') ≡ read i l line at → Reading l' to (i + 1)
+    more {l'} {to} h e =
+        record {
+          within = omega arith;
+          left = next h ∙ simp (sym e) (ap (λ (k : ℕ). read_after read (count - (i + 1)) k l' line to) (sym (add-one i)));
+        }
 
-  module _ {count : ℕ} {l : List A} {next : Cursor} {i : ℕ} (r : Reading count l next i) where
-    -- an entry more, from a line in form
-    pub more : {l' : List A} {next' : Cursor} → i < count → next.is_good ≡ true → next' ≡ pass next → l' ≡ put i next l → Reading count l' next' (i + 1)
-    more h g e f = record {
-      within = omega arith;
-      at = e ∙ sym (past_more i true r.at g) ∙ ap (past pass c) (sym (add-one i));
-      list = f ∙ sym (filled_more i true r.at r.list g) ∙ ap (filled pass put c start) (sym (add-one i));
-    }
+    pub stopped : {w : Wrong} → i < count → Err w ≡ read i l line at → Err w ≡ whole
+    stopped h e = sym (next h ∙ simp (sym e))
 
-    -- none from a line out of form
-    stays : (m : ℕ) → i ≤ m → next.is_good ≡ false → (next ≡ past pass c m) × (l ≡ filled pass put c start m)
-    stays zero h g =
-        let e : i ≡ 0 = omega arith in
-        (r.at ∙ ap (past pass c) e, r.list ∙ ap (filled pass put c start) e)
-    stays (suc m) h g = go (eq-or-lt_of_le h) (λ k. stays m k g)
-      where
-        go : (i ≡ suc m) ⊎ (i < suc m) → (i ≤ m → (next ≡ past pass c m) × (l ≡ filled pass put c start m)) → (next ≡ past pass c (suc m))
-            × (l ≡ filled pass put c start (suc m))
-        go (inl e) s = (r.at ∙ ap (past pass c) e, r.list ∙ ap (filled pass put c start) e)
-        go (inr k) s =
-            let p = s (le_of_suc-le-suc k) in
-            (sym (past_more m false p.0 g), sym (filled_more m false p.0 p.1 g))
-
-    pub stopped : next.is_good ≡ false → (next ≡ past pass c count) × (l ≡ filled pass put c start count)
-    stopped g = stays count r.within g
-
-    pub ended : count ≤ i → (next ≡ past pass c count) × (l ≡ filled pass put c start count)
+    pub ended : count ≤ i → Ok (field_of at l) ≡ whole
+    unfolding read_after
     ended h =
-        let w : i ≤ count = r.within in
-        let e : i ≡ count = omega arith in
-        (r.at ∙ ap (past pass c) e, r.list ∙ ap (filled pass put c start) e)
+        let k : i ≤ count = r.within in
+        let none : count - i ≡ 0 = omega arith in
+        sym (r.left ∙ ap (λ (n : ℕ). read_after read n i l line at) none)

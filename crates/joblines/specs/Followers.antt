@@ -1,27 +1,26 @@
 -- The followers of a job line's variables: a section that is read where its letter stands. Definitions only.
-use Rattle.std.specs.Prelude.{ℕ, ◌-◌, cond, List, [], ◌∷◌, eqb, get_or}
+use Rattle.std.specs.Prelude.{ℕ, ◌-◌, cond, List, [], ◌∷◌, eqb, get_or, Ok}
 use Rattle.variables.specs.declared.types.Follower.{Follower}
 use Rattle.variables.specs.declared.types.VariableDef.{VariableDef}
 use Rattle.variables.specs.Active.{no_variable}
 use Rattle.jobs.specs.Entries.{follower_of}
-use Rattle.text.specs.declared.cursor.Cursor.{Cursor}
-use Rattle.text.specs.declared.cursor.Read.{Read}
-use Rattle.text.specs.declared.cursor.Why.TheVariants.{Range}
-use Rattle.text.specs.Cursor.{decimal_from, within_from, past_tag}
+use Rattle.text.specs.declared.reader.Why.TheVariants.{Range}
+use Rattle.text.specs.Fields.{field_of}
+use Rattle.text.specs.Reader.{then, decimal_from, within_from, begins_with, past_word}
 use Rattle.joblines.specs.declared.followers.Placed.{Placed}
-use Rattle.joblines.specs.Entries.{past, filled, stored_at}
+use Rattle.joblines.specs.Entries.{Form, read_after, put_from, stored_at}
 
 -- the number of a variable, of which the line has so many; where it has none, none may stand there: no number is from 1 to 0
-unfoldable pub place_from : List ℕ → (count : ℕ) → Cursor → Read ℕ
-place_from line count c = cond (eqb count 0) (within_from 1 0 Range line c) (within_from 0 (count - 1) Range line c)
+unfoldable pub place_from : (count : ℕ) → Form ℕ
+place_from count line at = cond (eqb count 0) (within_from 1 0 Range line at) (within_from 0 (count - 1) Range line at)
 
 -- a follower: variable sign surface; the sign is 1 for plus, 2 for minus
-unfoldable pub follower_from : List ℕ → (count : ℕ) → Cursor → Read Placed
-follower_from line count c =
-    let place = place_from line count c in
-    let sign = within_from 1 2 Range line place.next in
-    let surface = decimal_from line sign.next in
-    record { value = record { place = place.value; follower = follower_of sign.value surface.value }; next = surface.next }
+unfoldable pub follower_from : (count : ℕ) → Form Placed
+follower_from count line at =
+    then (place_from count line at) (λ place.
+    then (within_from 1 2 Range line place.to) (λ sign.
+    then (decimal_from line sign.to) (λ surface.
+    Ok (field_of surface.to (record { place = place.value; follower = follower_of sign.value surface.value })))))
 
 -- the variable that it is of, among the eight that there is room for
 abbrev pub following_by : Follower → VariableDef → VariableDef
@@ -34,25 +33,19 @@ following_by f d = record {
   follower = f;
 }
 
-abbrev pub with_follower : (place : ℕ) → Follower → List VariableDef → List VariableDef
-with_follower place f l = stored_at 8 place (following_by f (get_or l place no_variable)) l
-
-abbrev pub past_follower : List ℕ → (count : ℕ) → Cursor → Cursor
-past_follower line count c = (follower_from line count c).next
-
-abbrev pub put_follower : List ℕ → (count i : ℕ) → Cursor → List VariableDef → List VariableDef
-put_follower line count i c = with_follower (follower_from line count c).value.place (follower_from line count c).value.follower
+abbrev pub with_follower : Placed → List VariableDef → List VariableDef
+with_follower p l = stored_at 8 p.place (following_by p.follower (get_or l p.place no_variable)) l
 
 -- {variable sign surface}, so many
-unfoldable pub followers_listed : List ℕ → (count : ℕ) → Cursor → (many : ℕ) → List VariableDef → Read (List VariableDef)
-followers_listed line count c many l = record {
-  value = filled (past_follower line count) (put_follower line count) c l many;
-  next = past (past_follower line count) c many;
-}
+unfoldable pub followers_listed : (count many : ℕ) → List VariableDef → Form (List VariableDef)
+followers_listed count many = read_after (λ i. put_from (follower_from count) with_follower) many 0
 
 -- [F m {variable sign surface}]
-unfoldable pub followers_from : List ℕ → (count : ℕ) → Cursor → List VariableDef → Read (List VariableDef)
-followers_from line count c l =
-    let marked = past_tag line c (70 ∷ []) in
-    let many = decimal_from line marked in
-    cond marked.is_good (followers_listed line count many.next many.value l) (record { value = l; next = c })
+abbrev pub followers_mark : List ℕ
+followers_mark = 70 ∷ []
+
+unfoldable pub followers_from : (count : ℕ) → List VariableDef → Form (List VariableDef)
+followers_from count l line at =
+    cond (begins_with line at followers_mark)
+    (then (decimal_from line (past_word line at)) (λ many. followers_listed count many.value l line many.to))
+    (Ok (field_of at l))

@@ -1,19 +1,20 @@
 // The followers of a line's variables, where it has any.
 ghost use Rattle.std.specs.Prelude.{◌≡◌};
-ghost use Rattle.joblines.specs.Followers.{place_from, follower_from, following_by, followers_listed, followers_from};
+ghost use Rattle.text.specs.Reader.{Reads, giving};
+ghost use Rattle.joblines.specs.Followers.{place_from, follower_from, following_by, with_follower, followers_listed, followers_from};
 
-use text::cursor;
-use text::cursor::{Cursor, Read, Why};
+use text::reader::{Reader, Why, Wrong};
 use variables::{Follower, VariableDef};
 
 // The number of a variable, of which the line has so many. No number is from 1 to 0.
-fn read_place(line: &[u8], c: Cursor, count: usize) -> Read<u64>
-    ensures { result ≡ place_from line.now count c }
+#[tactic(auto, unfolding(crate::specs::Followers::place_from))]
+fn read_place(reader: &mut Reader, count: usize) -> Result<u64, Wrong>
+    ensures { Reads (place_from count) reader.old result reader.new }
 {
     if count == 0 {
-        return cursor::within(line, c, 1, 0, Why::Range);
+        return reader.within(1, 0, Why::Range);
     }
-    cursor::within(line, c, 0, count as u64 - 1, Why::Range)
+    reader.within(0, count as u64 - 1, Why::Range)
 }
 
 // A follower, and the number of the variable that it follows.
@@ -24,19 +25,17 @@ struct Placed {
 }
 
 // variable sign surface
-fn read_follower(line: &[u8], c: Cursor, count: usize) -> Read<Placed>
-    ensures { result ≡ follower_from line.now count c }
+#[tactic(auto, unfolding(crate::specs::Followers::follower_from))]
+fn read_follower(reader: &mut Reader, count: usize) -> Result<Placed, Wrong>
+    ensures { Reads (follower_from count) reader.old result reader.new }
 {
-    let place = read_place(line, c, count);
-    let sign = cursor::within(line, place.next, 1, 2, Why::Range);
-    let surface = cursor::decimal(line, sign.next);
-    Read {
-        value: Placed {
-            place: place.value as usize,
-            follower: jobs::follower_of(sign.value, surface.value as usize),
-        },
-        next: surface.next,
-    }
+    let place = read_place(reader, count)?;
+    let sign = reader.within(1, 2, Why::Range)?;
+    let surface = reader.decimal()?;
+    Ok(Placed {
+        place: place as usize,
+        follower: jobs::follower_of(sign, surface as usize),
+    })
 }
 
 // The variable with its follower.
@@ -46,51 +45,43 @@ fn following(d: VariableDef, follower: Follower) -> VariableDef
     VariableDef { follower, ..d }
 }
 
-// So many followers, of the eight variables that are kept. A loop of its own: each says itself which variable it goes to.
-fn read_listed(
-    line: &[u8],
-    c: Cursor,
-    many: usize,
-    read: [VariableDef; 8],
-    count: usize,
-) -> Read<[VariableDef; 8]>
-    ensures { result ≡ followers_listed line.now count c many read }
+// Gives the follower to its variable, where that is among the eight that are kept.
+fn follow(variables: &mut [VariableDef; 8], p: Placed)
+    ensures { variables.new ≡ with_follower p variables.old }
 {
-    let mut variables = read;
-    let mut next = c;
-    for _ in 0..many {
-        if !next.is_good {
-            break;
-        }
-        let r = read_follower(line, next, count);
-        let place = r.value.place;
-        if place < 8 {
-            variables[place] = following(variables[place], r.value.follower);
-        }
-        next = r.next;
-    }
-    Read {
-        value: variables,
-        next,
+    if p.place < 8 {
+        variables[p.place] = following(variables[p.place], p.follower);
     }
 }
 
-// [F m {follower}]
-pub(crate) fn read_followers(
-    line: &[u8],
-    c: Cursor,
-    read: [VariableDef; 8],
+// So many followers. A loop of its own: each says itself which variable it goes to.
+fn read_listed(
+    reader: &mut Reader,
+    variables: &mut [VariableDef; 8],
     count: usize,
-) -> Read<[VariableDef; 8]>
-    ensures { result ≡ followers_from line.now count c read }
+    many: usize,
+) -> Result<(), Wrong>
+    ensures { Reads (followers_listed count many variables.old) reader.old (giving variables.new result) reader.new }
 {
-    let marked = cursor::tag(line, c, b"F");
-    if marked.is_good {
-        let many = cursor::decimal(line, marked);
-        return read_listed(line, many.next, many.value as usize, read, count);
+    for _ in 0..many {
+        let p = read_follower(reader, count)?;
+        follow(variables, p);
     }
-    Read {
-        value: read,
-        next: c,
+    Ok(())
+}
+
+// [F m {follower}]
+#[tactic(auto, unfolding(crate::specs::Followers::followers_from))]
+pub(crate) fn read_followers(
+    reader: &mut Reader,
+    variables: &mut [VariableDef; 8],
+    count: usize,
+) -> Result<(), Wrong>
+    ensures { Reads (followers_from count variables.old) reader.old (giving variables.new result) reader.new }
+{
+    if !reader.passes(b"F") {
+        return Ok(());
     }
+    let many = reader.decimal()?;
+    read_listed(reader, variables, count, many as usize)
 }

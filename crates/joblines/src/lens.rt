@@ -1,37 +1,39 @@
 // Surfaces and indices.
 ghost use Rattle.std.specs.Prelude.{◌≡◌};
-ghost use Rattle.joblines.specs.Lens.{surface_from, surfaces_from, index_stored, past_row, put_row, past_indices, with_indices};
+ghost use Rattle.text.specs.Reader.{Reads, giving};
+ghost use Rattle.joblines.specs.Lens.{surface_from, surfaces_from, index_stored, row_from, rows_from, indices_from};
 
 use crate::entries;
 use crate::entries::Entry;
 use optics::OpticalSurface;
-use text::cursor;
-use text::cursor::{Cursor, Read};
+use text::reader::{Reader, Wrong};
 
 // radius conic thickness semi
 impl Entry for OpticalSurface {
     ghost from = { surface_from };
 
-    fn read(line: &[u8], c: Cursor) -> Read<OpticalSurface> {
-        let radius = cursor::float(line, c);
-        let conic = cursor::float(line, radius.next);
-        let thickness = cursor::float(line, conic.next);
-        let semi = cursor::float(line, thickness.next);
-        Read {
-            value: OpticalSurface {
-                radius_mm: radius.value,
-                conic_constant: conic.value,
-                thickness_mm: thickness.value,
-                semi_diameter_mm: semi.value,
-            },
-            next: semi.next,
-        }
+    #[tactic(auto, unfolding(crate::specs::Lens::surface_from))]
+    fn read(reader: &mut Reader) -> Result<OpticalSurface, Wrong> {
+        let radius_mm = reader.float()?;
+        let conic_constant = reader.float()?;
+        let thickness_mm = reader.float()?;
+        let semi_diameter_mm = reader.float()?;
+        Ok(OpticalSurface {
+            radius_mm,
+            conic_constant,
+            thickness_mm,
+            semi_diameter_mm,
+        })
     }
 }
 
 // So many surfaces, of which the first 16 are kept.
-pub(crate) fn read_surfaces(line: &[u8], c: Cursor, count: usize) -> Read<[OpticalSurface; 16]>
-    ensures { result ≡ surfaces_from line.now c count }
+#[tactic(auto, using(floats::specs::Constants::no_number), unfolding(crate::specs::Lens::surfaces_from))]
+pub(crate) fn read_surfaces(
+    reader: &mut Reader,
+    count: usize,
+) -> Result<[OpticalSurface; 16], Wrong>
+    ensures { Reads (surfaces_from count) reader.old result reader.new }
 {
     let unread = OpticalSurface {
         radius_mm: 0.0 / 0.0,
@@ -40,11 +42,8 @@ pub(crate) fn read_surfaces(line: &[u8], c: Cursor, count: usize) -> Read<[Optic
         semi_diameter_mm: 0.0 / 0.0,
     };
     let mut surfaces = [unread; 16];
-    let next = entries::read_entries(line, c, count, &mut surfaces);
-    Read {
-        value: surfaces,
-        next,
-    }
+    entries::read_entries(reader, count, &mut surfaces)?;
+    Ok(surfaces)
 }
 
 // Keeps the index of surface i in slot w, where there is room for it.
@@ -58,39 +57,46 @@ fn keep_index(indices: &mut [f64; 64], i: usize, w: usize, x: f64)
 
 // The indices of surface i: one for each slot, of which the first four are kept. A loop of its own: they go to the surface's
 // part of one table, and not to the places of a list, as what `read_entries` reads.
-fn read_row(line: &[u8], c: Cursor, indices: &mut [f64; 64], i: usize, slots: usize) -> Cursor
-    ensures value { result ≡ past_row line.now slots c }
-    ensures indices_after { indices.new ≡ put_row line.now slots i c indices.old }
+fn read_row(
+    reader: &mut Reader,
+    indices: &mut [f64; 64],
+    i: usize,
+    slots: usize,
+) -> Result<(), Wrong>
+    ensures { Reads (row_from slots i indices.old) reader.old (giving indices.new result) reader.new }
 {
-    let mut next = c;
     for w in 0..slots {
-        if !next.is_good {
-            return next;
-        }
-        let r = cursor::float(line, next);
-        keep_index(indices, i, w, r.value);
-        next = r.next;
+        let x = reader.float()?;
+        keep_index(indices, i, w, x);
     }
-    next
+    Ok(())
 }
 
 // The indices of so many surfaces.
-pub(crate) fn read_indices(
-    line: &[u8],
-    c: Cursor,
+fn read_rows(
+    reader: &mut Reader,
     indices: &mut [f64; 64],
     count: usize,
     slots: usize,
-) -> Cursor
-    ensures value { result ≡ past_indices line.now c count slots }
-    ensures indices_after { indices.new ≡ with_indices line.now c count slots indices.old }
+) -> Result<(), Wrong>
+    ensures { Reads (rows_from count slots indices.old) reader.old (giving indices.new result) reader.new }
 {
-    let mut next = c;
     for i in 0..count {
-        if !next.is_good {
-            return next;
-        }
-        next = read_row(line, next, indices, i, slots);
+        read_row(reader, indices, i, slots)?;
     }
-    next
+    Ok(())
+}
+
+// The same, where nothing was read before.
+#[tactic(auto, using(floats::specs::Constants::no_number), unfolding(crate::specs::Lens::indices_from))]
+pub(crate) fn read_indices(
+    reader: &mut Reader,
+    count: usize,
+    slots: usize,
+) -> Result<[f64; 64], Wrong>
+    ensures { Reads (indices_from count slots) reader.old result reader.new }
+{
+    let mut indices = [0.0 / 0.0; 64];
+    read_rows(reader, &mut indices, count, slots)?;
+    Ok(indices)
 }

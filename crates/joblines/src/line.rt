@@ -1,106 +1,98 @@
 // A job line: its kind, and the part from its surfaces up to its settings.
-ghost use Rattle.std.specs.Prelude.{◌≡◌};
-ghost use Rattle.joblines.specs.Line.{kind_from, prescription_from, variable_set_from, merit_function_from, job_line_from};
+ghost use Rattle.text.specs.Reader.{Reads};
+ghost use Rattle.joblines.specs.Line.{kind_from, counted_from, prescription_from, variable_set_from, merit_function_from, job_line_from};
 
 use crate::{followers, lens, operands, sets};
 use merit::MeritFunction;
 use optics::OpticalPrescription;
-use text::cursor;
-use text::cursor::{Cursor, Read, Why};
+use text::reader::{Reader, Why, Wrong};
 use variables::VariableSet;
 
 // J id kind, of the kinds from 1 to `last`
-pub fn read_kind(line: &[u8], c: Cursor, last: u64) -> Read<u64>
-    ensures { result ≡ kind_from last line.now c }
+pub fn read_kind(reader: &mut Reader, last: u64) -> Result<u64, Wrong>
+    ensures { Reads (kind_from last) reader.old result reader.new }
 {
-    let named = cursor::word(line, cursor::tag(line, c, b"J"));
-    cursor::within(line, named, 1, last, Why::Kind)
+    reader.tag(b"J")?;
+    reader.word();
+    reader.within(1, last, Why::Kind)
+}
+
+// A letter, and the count behind it.
+#[tactic(auto, unfolding(crate::specs::Line::counted_from))]
+fn read_counted(reader: &mut Reader, mark: &[u8]) -> Result<usize, Wrong>
+    ensures { Reads (counted_from mark.now) reader.old result reader.new }
+{
+    reader.tag(mark)?;
+    Ok(reader.decimal()? as usize)
 }
 
 // S n {surface} I slots {index, surface-major} P pupil
-fn read_prescription(line: &[u8], c: Cursor) -> Read<OpticalPrescription>
-    ensures { result ≡ prescription_from line.now c }
+#[tactic(auto, unfolding(crate::specs::Line::prescription_from))]
+fn read_prescription(reader: &mut Reader) -> Result<OpticalPrescription, Wrong>
+    ensures { Reads prescription_from reader.old result reader.new }
 {
-    let count = cursor::decimal(line, cursor::tag(line, c, b"S"));
-    let read = lens::read_surfaces(line, count.next, count.value as usize);
-    let slots = cursor::decimal(line, cursor::tag(line, read.next, b"I"));
-    let mut indices = [0.0 / 0.0; 64];
-    let next = lens::read_indices(
-        line,
-        slots.next,
-        &mut indices,
-        count.value as usize,
-        slots.value as usize,
-    );
-    let pupil = cursor::float(line, cursor::tag(line, next, b"P"));
-    let surfaces = read.value;
-    Read {
-        value: OpticalPrescription {
-            surfaces,
-            indices,
-            surface_count: count.value as usize,
-            slot_count: slots.value as usize,
-            entrance_pupil_diameter_mm: pupil.value,
-        },
-        next: pupil.next,
-    }
+    let surface_count = read_counted(reader, b"S")?;
+    let surfaces = lens::read_surfaces(reader, surface_count)?;
+    let slot_count = read_counted(reader, b"I")?;
+    let indices = lens::read_indices(reader, surface_count, slot_count)?;
+    reader.tag(b"P")?;
+    let entrance_pupil_diameter_mm = reader.float()?;
+    Ok(OpticalPrescription {
+        surfaces,
+        indices,
+        surface_count,
+        slot_count,
+        entrance_pupil_diameter_mm,
+    })
 }
 
 // V n {variable} [F m {follower}]
-fn read_variable_set(line: &[u8], c: Cursor) -> Read<VariableSet>
-    ensures { result ≡ variable_set_from line.now c }
+#[tactic(auto, unfolding(crate::specs::Line::variable_set_from))]
+fn read_variable_set(reader: &mut Reader) -> Result<VariableSet, Wrong>
+    ensures { Reads variable_set_from reader.old result reader.new }
 {
-    let count = cursor::decimal(line, cursor::tag(line, c, b"V"));
-    let read = sets::read_variables(line, count.next, count.value as usize);
-    let plain = read.value;
-    let followed = followers::read_followers(line, read.next, plain, count.value as usize);
-    let variables = followed.value;
-    Read {
-        value: VariableSet {
-            variables,
-            variable_count: count.value as usize,
-        },
-        next: followed.next,
-    }
+    let variable_count = read_counted(reader, b"V")?;
+    let mut variables = sets::read_variables(reader, variable_count)?;
+    followers::read_followers(reader, &mut variables, variable_count)?;
+    Ok(VariableSet {
+        variables,
+        variable_count,
+    })
 }
 
 // O n {operand}
-fn read_merit_function(line: &[u8], c: Cursor) -> Read<MeritFunction>
-    ensures { result ≡ merit_function_from line.now c }
+#[tactic(auto, unfolding(crate::specs::Line::merit_function_from))]
+fn read_merit_function(reader: &mut Reader) -> Result<MeritFunction, Wrong>
+    ensures { Reads merit_function_from reader.old result reader.new }
 {
-    let count = cursor::decimal(line, cursor::tag(line, c, b"O"));
-    let read = operands::read_operands(line, count.next, count.value as usize);
-    let operands = read.value;
-    Read {
-        value: MeritFunction {
-            operands,
-            operand_count: count.value as usize,
-        },
-        next: read.next,
-    }
+    let operand_count = read_counted(reader, b"O")?;
+    let operands = operands::read_operands(reader, operand_count)?;
+    Ok(MeritFunction {
+        operands,
+        operand_count,
+    })
 }
 
-// What a job line gives, and the cursor before its settings.
+// What a job line gives before its settings.
 #[derive(Clone, Copy)]
 pub struct JobLine {
     pub prescription: OpticalPrescription,
     pub variables: VariableSet,
     pub merit_function: MeritFunction,
-    pub next: Cursor,
 }
 
 // S .. I .. P .. V .. [F ..] O .. C
-pub fn read_job(line: &[u8], c: Cursor) -> JobLine
-    ensures { result ≡ job_line_from line.now c }
+#[tactic(auto, unfolding(crate::specs::Line::job_line_from))]
+pub fn read_job(reader: &mut Reader) -> Result<JobLine, Wrong>
+    ensures { Reads job_line_from reader.old result reader.new }
 {
-    let lens = read_prescription(line, c);
-    let set = read_variable_set(line, lens.next);
-    let merit = read_merit_function(line, set.next);
-    let next = cursor::tag(line, merit.next, b"C");
-    JobLine {
-        prescription: lens.value,
-        variables: set.value,
-        merit_function: merit.value,
-        next,
-    }
+    let prescription = read_prescription(reader)?;
+    let variables = read_variable_set(reader)?;
+    let merit_function = read_merit_function(reader)?;
+    reader.tag(b"C")?;
+    Ok(JobLine {
+        prescription,
+        variables,
+        merit_function,
+    })
 }

@@ -1,37 +1,35 @@
 // Operands.
-ghost use Rattle.std.specs.Prelude.{◌≡◌};
+ghost use Rattle.text.specs.Reader.{Reads};
 ghost use Rattle.joblines.specs.Operands.{operand_from, operands_from};
 
 use crate::entries;
 use crate::entries::Entry;
 use merit::{MeritOperand, OperandType};
-use text::cursor;
-use text::cursor::{Cursor, Read, Why};
+use text::reader::{Reader, Why, Wrong};
 
 // kind at limit target weight
 impl Entry for MeritOperand {
     ghost from = { operand_from };
 
-    fn read(line: &[u8], c: Cursor) -> Read<MeritOperand> {
-        let number = cursor::within(line, c, 0, 7, Why::Kind);
-        let at = cursor::decimal(line, number.next);
-        let limit = cursor::float(line, at.next);
-        let target = cursor::float(line, limit.next);
-        let weight = cursor::float(line, target.next);
-        Read {
-            value: MeritOperand {
-                operand_type: jobs::operand_type(number.value, at.value as usize, limit.value),
-                target: target.value,
-                weight: weight.value,
-            },
-            next: weight.next,
-        }
+    #[tactic(auto, unfolding(crate::specs::Operands::operand_from))]
+    fn read(reader: &mut Reader) -> Result<MeritOperand, Wrong> {
+        let kind = reader.within(0, 7, Why::Kind)?;
+        let at = reader.decimal()?;
+        let limit = reader.float()?;
+        let target = reader.float()?;
+        let weight = reader.float()?;
+        Ok(MeritOperand {
+            operand_type: jobs::operand_type(kind, at as usize, limit),
+            target,
+            weight,
+        })
     }
 }
 
 // So many operands, of which the first twelve are kept.
-pub(crate) fn read_operands(line: &[u8], c: Cursor, count: usize) -> Read<[MeritOperand; 12]>
-    ensures { result ≡ operands_from line.now c count }
+#[tactic(auto, using(floats::specs::Constants::no_number), unfolding(crate::specs::Operands::operands_from))]
+pub(crate) fn read_operands(reader: &mut Reader, count: usize) -> Result<[MeritOperand; 12], Wrong>
+    ensures { Reads (operands_from count) reader.old result reader.new }
 {
     let unread = MeritOperand {
         operand_type: OperandType::EffectiveFocalLength(usize::MAX),
@@ -39,9 +37,6 @@ pub(crate) fn read_operands(line: &[u8], c: Cursor, count: usize) -> Read<[Merit
         weight: 0.0 / 0.0,
     };
     let mut operands = [unread; 12];
-    let next = entries::read_entries(line, c, count, &mut operands);
-    Read {
-        value: operands,
-        next,
-    }
+    entries::read_entries(reader, count, &mut operands)?;
+    Ok(operands)
 }

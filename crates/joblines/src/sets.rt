@@ -1,41 +1,39 @@
 // Variables.
-ghost use Rattle.std.specs.Prelude.{◌≡◌};
+ghost use Rattle.text.specs.Reader.{Reads};
 ghost use Rattle.joblines.specs.Sets.{variable_from, variables_from};
 
 use crate::entries;
 use crate::entries::Entry;
-use text::cursor;
-use text::cursor::{Cursor, Read, Why};
+use text::reader::{Reader, Why, Wrong};
 use variables::{Follower, VariableDef, VariableType};
 
 // type surface enabled lo hi step
 impl Entry for VariableDef {
     ghost from = { variable_from };
 
-    fn read(line: &[u8], c: Cursor) -> Read<VariableDef> {
-        let number = cursor::within(line, c, 0, 3, Why::Kind);
-        let surface = cursor::decimal(line, number.next);
-        let enabled = cursor::within(line, surface.next, 0, 1, Why::Range);
-        let lo = cursor::float(line, enabled.next);
-        let hi = cursor::float(line, lo.next);
-        let step = cursor::float(line, hi.next);
-        Read {
-            value: VariableDef {
-                var_type: jobs::variable_type(number.value, surface.value as usize),
-                min_value: lo.value,
-                max_value: hi.value,
-                step_size: step.value,
-                enabled: enabled.value == 1,
-                follower: Follower::None,
-            },
-            next: step.next,
-        }
+    #[tactic(auto, unfolding(crate::specs::Sets::variable_from))]
+    fn read(reader: &mut Reader) -> Result<VariableDef, Wrong> {
+        let kind = reader.within(0, 3, Why::Kind)?;
+        let surface = reader.decimal()?;
+        let enabled = reader.within(0, 1, Why::Range)?;
+        let min_value = reader.float()?;
+        let max_value = reader.float()?;
+        let step_size = reader.float()?;
+        Ok(VariableDef {
+            var_type: jobs::variable_type(kind, surface as usize),
+            min_value,
+            max_value,
+            step_size,
+            enabled: enabled == 1,
+            follower: Follower::None,
+        })
     }
 }
 
 // So many variables, of which the first eight are kept.
-pub(crate) fn read_variables(line: &[u8], c: Cursor, count: usize) -> Read<[VariableDef; 8]>
-    ensures { result ≡ variables_from line.now c count }
+#[tactic(auto, using(floats::specs::Constants::no_number), unfolding(crate::specs::Sets::variables_from))]
+pub(crate) fn read_variables(reader: &mut Reader, count: usize) -> Result<[VariableDef; 8], Wrong>
+    ensures { Reads (variables_from count) reader.old result reader.new }
 {
     let unread = VariableDef {
         var_type: VariableType::Curvature(usize::MAX),
@@ -46,9 +44,6 @@ pub(crate) fn read_variables(line: &[u8], c: Cursor, count: usize) -> Read<[Vari
         follower: Follower::Plus(usize::MAX),
     };
     let mut variables = [unread; 8];
-    let next = entries::read_entries(line, c, count, &mut variables);
-    Read {
-        value: variables,
-        next,
-    }
+    entries::read_entries(reader, count, &mut variables)?;
+    Ok(variables)
 }

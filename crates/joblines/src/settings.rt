@@ -1,126 +1,111 @@
 // The settings of the three kinds of run, each of which may be left out, as `d`.
-ghost use Rattle.std.specs.Prelude.{◌≡◌};
-ghost use Rattle.joblines.specs.Settings.{setting_from, count_from, float_setting_from};
+ghost use Rattle.text.specs.Reader.{Reads};
+ghost use Rattle.joblines.specs.Settings.{count_from, float_setting_from};
 ghost use Rattle.joblines.specs.Settings.{damped_from, damped_method_from, multi_start_from, annealing_from, method_from};
 
 use jobs::{DlsRequest, MethodRequest, MultiStartRequest, SimulatedAnnealingRequest};
-use text::cursor;
-use text::cursor::{Cursor, Read, Why};
-
-// A setting, unless it is left out.
-fn setting<T: Copy>(line: &[u8], c: Cursor, given: Read<T>) -> Read<Option<T>>
-    ensures { result ≡ setting_from line.now c given }
-{
-    let left_out = cursor::tag(line, c, b"d");
-    if left_out.is_good {
-        return Read {
-            value: None,
-            next: left_out,
-        };
-    }
-    Read {
-        value: Some(given.value),
-        next: given.next,
-    }
-}
+use text::reader::{Reader, Why, Wrong};
 
 // A count, in decimal.
-fn read_count(line: &[u8], c: Cursor) -> Read<Option<u64>>
-    ensures { result ≡ count_from 10 line.now c }
+#[tactic(auto, unfolding(crate::specs::Settings::count_from))]
+fn read_count(reader: &mut Reader) -> Result<Option<u64>, Wrong>
+    ensures { Reads (count_from 10) reader.old result reader.new }
 {
-    setting(line, c, cursor::decimal(line, c))
+    if reader.passes(b"d") {
+        return Ok(None);
+    }
+    Ok(Some(reader.decimal()?))
 }
 
-fn read_seed(line: &[u8], c: Cursor) -> Read<Option<u64>>
-    ensures { result ≡ count_from 16 line.now c }
+#[tactic(auto, unfolding(crate::specs::Settings::count_from))]
+fn read_seed(reader: &mut Reader) -> Result<Option<u64>, Wrong>
+    ensures { Reads (count_from 16) reader.old result reader.new }
 {
-    setting(line, c, cursor::hex(line, c))
+    if reader.passes(b"d") {
+        return Ok(None);
+    }
+    Ok(Some(reader.hex()?))
 }
 
-fn read_number(line: &[u8], c: Cursor) -> Read<Option<f64>>
-    ensures { result ≡ float_setting_from line.now c }
+#[tactic(auto, unfolding(crate::specs::Settings::float_setting_from))]
+fn read_number(reader: &mut Reader) -> Result<Option<f64>, Wrong>
+    ensures { Reads float_setting_from reader.old result reader.new }
 {
-    setting(line, c, cursor::float(line, c))
+    if reader.passes(b"d") {
+        return Ok(None);
+    }
+    Ok(Some(reader.float()?))
 }
 
 // limit damping merit-tolerance gradient-tolerance relative-step
-fn read_damped(line: &[u8], c: Cursor) -> Read<DlsRequest>
-    ensures { result ≡ damped_from line.now c }
+#[tactic(auto, unfolding(crate::specs::Settings::damped_from))]
+fn read_damped(reader: &mut Reader) -> Result<DlsRequest, Wrong>
+    ensures { Reads damped_from reader.old result reader.new }
 {
-    let limit = read_count(line, c);
-    let damping = read_number(line, limit.next);
-    let merit_tolerance = read_number(line, damping.next);
-    let gradient_tolerance = read_number(line, merit_tolerance.next);
-    let relative_step = read_number(line, gradient_tolerance.next);
-    Read {
-        value: DlsRequest {
-            max_iterations: limit.value,
-            initial_damping: damping.value,
-            relative_merit_tolerance: merit_tolerance.value,
-            gradient_tolerance: gradient_tolerance.value,
-            finite_difference_relative_step: relative_step.value,
-        },
-        next: relative_step.next,
-    }
+    let max_iterations = read_count(reader)?;
+    let initial_damping = read_number(reader)?;
+    let relative_merit_tolerance = read_number(reader)?;
+    let gradient_tolerance = read_number(reader)?;
+    let finite_difference_relative_step = read_number(reader)?;
+    Ok(DlsRequest {
+        max_iterations,
+        initial_damping,
+        relative_merit_tolerance,
+        gradient_tolerance,
+        finite_difference_relative_step,
+    })
 }
 
-fn read_damped_method(line: &[u8], c: Cursor) -> Read<MethodRequest>
-    ensures { result ≡ damped_method_from line.now c }
+fn read_damped_method(reader: &mut Reader) -> Result<MethodRequest, Wrong>
+    ensures { Reads damped_method_from reader.old result reader.new }
 {
-    let read = read_damped(line, c);
-    Read {
-        value: MethodRequest::Damped(read.value),
-        next: read.next,
-    }
+    Ok(MethodRequest::Damped(read_damped(reader)?))
 }
 
 // The settings of its damped runs, then: trials seed
-fn read_multi_start(line: &[u8], c: Cursor) -> Read<MethodRequest>
-    ensures { result ≡ multi_start_from line.now c }
+#[tactic(auto, unfolding(crate::specs::Settings::multi_start_from))]
+fn read_multi_start(reader: &mut Reader) -> Result<MethodRequest, Wrong>
+    ensures { Reads multi_start_from reader.old result reader.new }
 {
-    let local = read_damped(line, c);
-    let trials = read_count(line, local.next);
-    let seed = read_seed(line, trials.next);
-    Read {
-        value: MethodRequest::MultiStart(MultiStartRequest {
-            local_dls_config: local.value,
-            num_trials: trials.value,
-            seed: seed.value,
-        }),
-        next: seed.next,
-    }
+    let local_dls_config = read_damped(reader)?;
+    let num_trials = read_count(reader)?;
+    let seed = read_seed(reader)?;
+    Ok(MethodRequest::MultiStart(MultiStartRequest {
+        local_dls_config,
+        num_trials,
+        seed,
+    }))
 }
 
 // temperature cooling steps-per-temperature cycles seed
-fn read_annealing(line: &[u8], c: Cursor) -> Read<MethodRequest>
-    ensures { result ≡ annealing_from line.now c }
+#[tactic(auto, unfolding(crate::specs::Settings::annealing_from))]
+fn read_annealing(reader: &mut Reader) -> Result<MethodRequest, Wrong>
+    ensures { Reads annealing_from reader.old result reader.new }
 {
-    let temperature = read_number(line, c);
-    let cooling = read_number(line, temperature.next);
-    let steps = read_count(line, cooling.next);
-    let cycles = read_count(line, steps.next);
-    let seed = read_seed(line, cycles.next);
-    Read {
-        value: MethodRequest::Annealing(SimulatedAnnealingRequest {
-            initial_temperature: temperature.value,
-            cooling_rate: cooling.value,
-            steps_per_temperature: steps.value,
-            max_cooling_cycles: cycles.value,
-            seed: seed.value,
-        }),
-        next: seed.next,
-    }
+    let initial_temperature = read_number(reader)?;
+    let cooling_rate = read_number(reader)?;
+    let steps_per_temperature = read_count(reader)?;
+    let max_cooling_cycles = read_count(reader)?;
+    let seed = read_seed(reader)?;
+    Ok(MethodRequest::Annealing(SimulatedAnnealingRequest {
+        initial_temperature,
+        cooling_rate,
+        steps_per_temperature,
+        max_cooling_cycles,
+        seed,
+    }))
 }
 
 // The settings of a kind; of none but the three there are any. The kind is the number that the line has, and no enum: a line of
-// another is read on, and told as out of form where its settings begin.
-pub(crate) fn read_method(line: &[u8], c: Cursor, kind: u64) -> Read<MethodRequest>
-    ensures { result ≡ method_from line.now c kind }
+// another is out of form where its settings begin.
+#[tactic(auto, unfolding(crate::specs::Settings::method_from))]
+pub(crate) fn read_method(reader: &mut Reader, kind: u64) -> Result<MethodRequest, Wrong>
+    ensures { Reads (method_from kind) reader.old result reader.new }
 {
     match kind {
-        1 => read_damped_method(line, c),
-        2 => read_multi_start(line, c),
-        3 => read_annealing(line, c),
-        _ => read_damped_method(line, cursor::out_of_form(c, Why::Kind)),
+        1 => read_damped_method(reader),
+        2 => read_multi_start(reader),
+        3 => read_annealing(reader),
+        _ => Err(reader.wrong(Why::Kind)),
     }
 }

@@ -2,8 +2,7 @@
 use crate::names::Leaf;
 use crate::pieces;
 use streams::output::Output;
-use text::cursor;
-use text::cursor::{Cursor, Why};
+use text::reader::{Reader, Why, Wrong};
 
 // What a leaf line is answered with.
 #[derive(Clone, Copy)]
@@ -15,70 +14,68 @@ enum Reply {
 }
 
 // The reply to a line of that name, from where the name ends.
-fn reply_to(line: &[u8], c: Cursor, leaf: Leaf) -> Result<Reply, Cursor> {
+fn reply_to(reader: &mut Reader, leaf: Leaf) -> Result<Reply, Wrong> {
     match leaf {
-        Leaf::Exp => value(line, c, |x| floats::exp_stand_in(x)),
-        Leaf::Sqrt => value(line, c, |x| roots::sqrt(x)),
-        Leaf::Abs => value(line, c, |x| floats::abs(x)),
-        Leaf::Draw => draw(line, c),
-        Leaf::Jump => jumped(line, c),
-        Leaf::Uniform => uniform(line, c),
-        Leaf::Clamp => clamp(line, c),
+        Leaf::Exp => value(reader, |x| floats::exp_stand_in(x)),
+        Leaf::Sqrt => value(reader, |x| roots::sqrt(x)),
+        Leaf::Abs => value(reader, |x| floats::abs(x)),
+        Leaf::Draw => draw(reader),
+        Leaf::Jump => jumped(reader),
+        Leaf::Uniform => uniform(reader),
+        Leaf::Clamp => clamp(reader),
     }
 }
 
 // E x, SQRT x, ABS x
-fn value<F: Fn(f64) -> f64>(line: &[u8], c: Cursor, function: F) -> Result<Reply, Cursor>
+fn value<F: Fn(f64) -> f64>(reader: &mut Reader, function: F) -> Result<Reply, Wrong>
     requires { F.IsAlwaysCallable function }
 {
-    let x = cursor::float(line, c);
-    answers::end(line, x.next)?;
-    Ok(Reply::One(function(x.value)))
+    let x = reader.float()?;
+    reader.end()?;
+    Ok(Reply::One(function(x)))
 }
 
 // DRAW seed n: the state after n draws, and its unit draw; zeros where n is 0, as the oracle has it.
-fn draw(line: &[u8], c: Cursor) -> Result<Reply, Cursor> {
-    let seed = cursor::hex(line, c);
-    let draws = cursor::decimal(line, seed.next);
-    answers::end(line, draws.next)?;
-    let Some(before) = draws.value.checked_sub(1) else {
+fn draw(reader: &mut Reader) -> Result<Reply, Wrong> {
+    let seed = reader.hex()?;
+    let draws = reader.decimal()?;
+    reader.end()?;
+    let Some(before) = draws.checked_sub(1) else {
         return Ok(Reply::Draw(0, 0.0));
     };
-    let draw = xorshift::drawn(xorshift::state_after(seed.value, before));
+    let draw = xorshift::drawn(xorshift::state_after(seed, before));
     Ok(Reply::Draw(draw.state, draw.unit))
 }
 
 // JUMP state n: the state after n draws. It is a state and no seed: 0 stays 0.
-fn jumped(line: &[u8], c: Cursor) -> Result<Reply, Cursor> {
-    let state = cursor::hex(line, c);
-    let draws = cursor::hex(line, state.next);
-    answers::end(line, draws.next)?;
-    Ok(Reply::State(jump::jump(state.value, draws.value)))
+fn jumped(reader: &mut Reader) -> Result<Reply, Wrong> {
+    let state = reader.hex()?;
+    let draws = reader.hex()?;
+    reader.end()?;
+    Ok(Reply::State(jump::jump(state, draws)))
 }
 
 // UNIFORM seed a b: the first draw
-fn uniform(line: &[u8], c: Cursor) -> Result<Reply, Cursor> {
-    let seed = cursor::hex(line, c);
-    let a = cursor::float(line, seed.next);
-    let b = cursor::float(line, a.next);
-    answers::end(line, b.next)?;
-    let draw = xorshift::drawn(xorshift::state_after(seed.value, 0));
-    Ok(Reply::One(xorshift::uniform(draw.unit, a.value, b.value)))
+fn uniform(reader: &mut Reader) -> Result<Reply, Wrong> {
+    let seed = reader.hex()?;
+    let a = reader.float()?;
+    let b = reader.float()?;
+    reader.end()?;
+    let draw = xorshift::drawn(xorshift::state_after(seed, 0));
+    Ok(Reply::One(xorshift::uniform(draw.unit, a, b)))
 }
 
-// CLAMP x lo hi: Rust's clamp, and that of applied values. Rust's has no answer at crossed bounds.
-fn clamp(line: &[u8], c: Cursor) -> Result<Reply, Cursor> {
-    let x = cursor::float(line, c);
-    let lo = cursor::float(line, x.next);
-    let hi = cursor::float(line, lo.next);
-    answers::end(line, hi.next)?;
-    if lo.value <= hi.value {
-        return Ok(Reply::Two(
-            floats::clamp(x.value, lo.value, hi.value),
-            apply_clamp(x.value, lo.value, hi.value),
-        ));
+// CLAMP x lo hi: Rust's clamp, and that of applied values. Rust's has no answer at crossed bounds: the upper is out of form.
+fn clamp(reader: &mut Reader) -> Result<Reply, Wrong> {
+    let x = reader.float()?;
+    let lo = reader.float()?;
+    let crossed = reader.wrong(Why::Range);
+    let hi = reader.float()?;
+    reader.end()?;
+    if lo <= hi {
+        return Ok(Reply::Two(floats::clamp(x, lo, hi), apply_clamp(x, lo, hi)));
     }
-    Err(cursor::out_of_form(lo.next, Why::Range))
+    Err(crossed)
 }
 
 // The clamp of applied values: a NaN counts as below the lower bound.
@@ -99,14 +96,9 @@ fn put_reply(output: &mut Output, reply: Reply) {
 }
 
 // Answers a line of that name, from where the name ends.
-pub(crate) fn answer(
-    output: &mut Output,
-    line: &[u8],
-    c: Cursor,
-    leaf: Leaf,
-) -> Result<(), Cursor> {
-    let reply = reply_to(line, c, leaf)?;
-    pieces::put_line(output, line);
+pub(crate) fn answer(output: &mut Output, reader: &mut Reader, leaf: Leaf) -> Result<(), Wrong> {
+    let reply = reply_to(reader, leaf)?;
+    pieces::put_line(output, reader.line);
     put_reply(output, reply);
     pieces::end_line(output);
     Ok(())

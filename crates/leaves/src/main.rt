@@ -13,21 +13,23 @@ use answers::Program;
 use names::Name;
 use streams::console::Console;
 use streams::output::Output;
-use text::cursor::Cursor;
-use text::words;
+use text::reader::{Reader, Wrong};
 
 // No line leaves anything to the next.
 #[derive(Clone, Copy)]
 struct Leaves;
 
 impl Program for Leaves {
-    fn answer(&mut self, output: &mut Output, line: &[u8], _number: u64) -> Result<(), Cursor> {
-        let word = words::next_word(line, 0);
-        let c = Cursor::new(word.to);
-        match Name::of(&line[word.from..word.to])? {
-            Name::Leaf(leaf) => leaf::answer(output, line, c, leaf),
-            Name::Solve => matrix::solve(output, line, c),
-            Name::Normal => matrix::normal(output, line, c),
+    fn answer(
+        &mut self,
+        output: &mut Output,
+        reader: &mut Reader,
+        _number: u64,
+    ) -> Result<(), Wrong> {
+        match Name::of(reader.word())? {
+            Name::Leaf(leaf) => leaf::answer(output, reader, leaf),
+            Name::Solve => matrix::solve(output, reader),
+            Name::Normal => matrix::normal(output, reader),
         }
     }
 }
@@ -38,7 +40,5 @@ fn main(rt: HostRuntime) {
         output: rt.stdout(),
         errors: rt.stderr(),
     };
-    let mut buf = io::large_buffer();
-    let mut out = io::large_buffer();
-    answers::answer_all(&mut Leaves, console, &mut buf, &mut out);
+    answers::answer_all(&mut Leaves, console);
 }

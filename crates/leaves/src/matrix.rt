@@ -5,42 +5,37 @@ ghost use Rattle.normal.specs.Layout.{scratch_length, most_operands, most_variab
 use crate::pieces;
 use normal::{GRADIENT, PRODUCT, STEP, place, system_place};
 use streams::output::Output;
-use text::cursor;
-use text::cursor::{Cursor, Why};
+use text::reader::{Reader, Why, Wrong};
 
 // A system of p unknowns, row after row, then its right side.
-fn read_system(line: &[u8], c: Cursor, scratch: &mut [f64], p: usize) -> Cursor
+fn read_system(reader: &mut Reader, scratch: &mut [f64], p: usize) -> Result<(), Wrong>
     requires fact_1 { scratch_length ≤ length scratch.old }
     requires fact_2 { p ≤ most_variables }
 {
-    let mut next = c;
     for i in 0..p {
         let from = system_place(i, 0);
-        next = cursor::floats(line, next, &mut scratch[from..from + p]);
+        reader.floats(&mut scratch[from..from + p])?;
     }
-    read_right_side(line, next, scratch, p)
+    read_right_side(reader, scratch, p)
 }
 
-fn read_right_side(line: &[u8], c: Cursor, scratch: &mut [f64], p: usize) -> Cursor
+fn read_right_side(reader: &mut Reader, scratch: &mut [f64], p: usize) -> Result<(), Wrong>
     requires fact_1 { scratch_length ≤ length scratch.old }
     requires fact_2 { p ≤ most_variables }
 {
-    let mut next = c;
     for i in 0..p {
-        let r = cursor::float(line, next);
-        scratch[system_place(i, p)] = r.value;
-        next = r.next;
+        scratch[system_place(i, p)] = reader.float()?;
     }
-    next
+    Ok(())
 }
 
-// SOLVE p {entries by rows} {right side}: the solution, or `none`. A size out of range is out of form, whatever is read after it.
-pub(crate) fn solve(output: &mut Output, line: &[u8], c: Cursor) -> Result<(), Cursor> {
-    let size = cursor::within(line, c, 1, 8, Why::Range);
-    let p = (size.value as usize).min(8);
+// SOLVE p {entries by rows} {right side}: the solution, or `none`.
+pub(crate) fn solve(output: &mut Output, reader: &mut Reader) -> Result<(), Wrong> {
+    let p = reader.within(1, 8, Why::Range)? as usize;
     let mut scratch = [0.0; 128];
-    answers::end(line, read_system(line, size.next, &mut scratch, p))?;
-    pieces::put_line(output, line);
+    read_system(reader, &mut scratch, p)?;
+    reader.end()?;
+    pieces::put_line(output, reader.line);
     put_solved(output, &mut scratch, p);
     Ok(())
 }
@@ -59,32 +54,29 @@ fn put_solved(output: &mut Output, scratch: &mut [f64], p: usize)
 }
 
 // The Jacobian of m operands, a column for each of p variables.
-fn read_columns(line: &[u8], c: Cursor, jacobian: &mut [f64], m: usize, p: usize) -> Cursor
+fn read_columns(reader: &mut Reader, jacobian: &mut [f64], m: usize, p: usize) -> Result<(), Wrong>
     requires fact_1 { 96 ≤ length jacobian.old }
     requires fact_2 { m ≤ most_operands }
     requires fact_3 { p ≤ most_variables }
 {
-    let mut next = c;
     for q in 0..p {
-        next = cursor::floats(line, next, &mut jacobian[q * 12..q * 12 + m]);
+        reader.floats(&mut jacobian[q * 12..q * 12 + m])?;
     }
-    next
+    Ok(())
 }
 
-// NORMAL m p {entries by columns} {residuals}: J^T J by rows, J^T r, and its norm. A size out of range is out of form, whatever
-// is read after it.
-pub(crate) fn normal(output: &mut Output, line: &[u8], c: Cursor) -> Result<(), Cursor> {
-    let operands = cursor::within(line, c, 1, 12, Why::Range);
-    let variables = cursor::within(line, operands.next, 1, 8, Why::Range);
-    let m = (operands.value as usize).min(12);
-    let p = (variables.value as usize).min(8);
+// NORMAL m p {entries by columns} {residuals}: J^T J by rows, J^T r, and its norm.
+pub(crate) fn normal(output: &mut Output, reader: &mut Reader) -> Result<(), Wrong> {
+    let m = reader.within(1, 12, Why::Range)? as usize;
+    let p = reader.within(1, 8, Why::Range)? as usize;
     let mut jacobian = [0.0; 96];
     let mut residuals = [0.0; 12];
-    let next = read_columns(line, variables.next, &mut jacobian, m, p);
-    answers::end(line, cursor::floats(line, next, &mut residuals[..m]))?;
+    read_columns(reader, &mut jacobian, m, p)?;
+    reader.floats(&mut residuals[..m])?;
+    reader.end()?;
     let mut scratch = [0.0; 128];
     let norm = normal::normal_equations(&mut scratch, &jacobian, &residuals, m, p);
-    pieces::put_line(output, line);
+    pieces::put_line(output, reader.line);
     put_equations(output, &scratch, p, norm);
     Ok(())
 }

@@ -1,6 +1,5 @@
 // The names of lines.
-use text::cursor;
-use text::cursor::{Cursor, Why};
+use text::reader::Wrong;
 
 #[derive(Clone, Copy)]
 pub(crate) enum Name {
@@ -23,7 +22,7 @@ pub(crate) enum Leaf {
 
 impl Name {
     // A line with another name is out of form at its first word.
-    pub(crate) fn of(word: &[u8]) -> Result<Name, Cursor> {
+    pub(crate) fn of(word: &[u8]) -> Result<Name, Wrong> {
         match word {
             b"E" => Ok(Name::Leaf(Leaf::Exp)),
             b"SQRT" => Ok(Name::Leaf(Leaf::Sqrt)),
@@ -34,7 +33,7 @@ impl Name {
             b"CLAMP" => Ok(Name::Leaf(Leaf::Clamp)),
             b"SOLVE" => Ok(Name::Solve),
             b"NORMAL" => Ok(Name::Normal),
-            _ => Err(cursor::out_of_form(Cursor::new(0), Why::Kind)),
+            _ => Err(Wrong::unknown_name()),
         }
     }
 }

@@ -1,6 +1,5 @@
 -- What answers say of a lens by itself, each a list of texts. Definitions only.
-use Rattle.std.specs.Prelude.{ℕ, zero, suc, min, Bool, List, [], ◌∷◌, ◌++◌, get_or}
-use Rattle.optics.specs.Types.{no_ray}
+use Rattle.std.specs.Prelude.{ℕ, zero, suc, min, Bool, List, [], ◌∷◌, ◌++◌, take, get_or}
 use Rattle.optics.specs.declared.types.ParaxialProperties.{ParaxialProperties}
 use Rattle.optics.specs.declared.types.ParaxialRay.{ParaxialRay}
 use Rattle.merit.specs.declared.types.MeritEvaluation.{MeritEvaluation}
@@ -8,6 +7,7 @@ use Rattle.intervals.specs.Interval.{no_interval}
 use Rattle.intervals.specs.declared.types.Interval.{Interval}
 use Rattle.intervals.specs.declared.types.TraceLimits.{TraceLimits}
 use Rattle.streams.specs.Output.{float_text, float_texts}
+use Rattle.answers.specs.Entries.{all_texts, ray_texts}
 use Rattle.answers.specs.Heads.{kept_text}
 use Rattle.answers.specs.Pieces.{number_texts, row_texts, mark}
 
@@ -20,14 +20,9 @@ evaluation_texts e m =
 abbrev pub failed_texts : Bool → List (List ℕ)
 failed_texts kept = (32 ∷ 102 ∷ 97 ∷ 105 ∷ 108 ∷ 101 ∷ 100 ∷ []) ∷ kept_text kept ∷ []
 
--- height slope
-abbrev pub ray_texts : ParaxialRay → List (List ℕ)
-ray_texts ray = float_texts (ray.y ∷ ray.u ∷ [])
-
 -- the first n rays
-unfoldable pub rays_texts : List ParaxialRay → ℕ → List (List ℕ)
-rays_texts rays zero = []
-rays_texts rays (suc n) = rays_texts rays n ++ ray_texts (get_or rays n no_ray)
+abbrev pub rays_texts : List ParaxialRay → ℕ → List (List ℕ)
+rays_texts rays n = all_texts ray_texts (take n rays)
 
 -- ` ok T ` n {ray}
 abbrev pub traced_texts : List ParaxialRay → ℕ → List (List ℕ)

@@ -34,7 +34,7 @@ fn put_surface(output: &mut Output, height: Interval, slope: Interval)
     output.put_floats(&row);
 }
 
-// The ends of each surface's height and slope, which stand side by side in two arrays.
+// The ends of each surface's height and slope. A loop of its own: they stand side by side in two arrays, and not in a list.
 fn put_surfaces(output: &mut Output, traced: TraceLimits, count: usize)
     ensures { Puts output.old (all_ends_texts traced.heights traced.slopes (min count 16)) output.new }
 {

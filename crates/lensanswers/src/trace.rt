@@ -1,9 +1,8 @@
 // A trace, written.
-ghost use Rattle.std.specs.Prelude.{min};
 ghost use Rattle.streams.specs.Output.{Puts};
-ghost use Rattle.lensanswers.specs.Lens.{failed_texts, ray_texts, rays_texts, traced_texts, paraxial_texts};
+ghost use Rattle.lensanswers.specs.Lens.{failed_texts, traced_texts, paraxial_texts};
 
-use answers::{put_kept, put_number};
+use answers::{put_all, put_kept, put_number};
 use optics::{ParaxialProperties, ParaxialRay};
 use streams::output::Output;
 
@@ -20,24 +19,7 @@ pub fn put_traced(output: &mut Output, rays: [ParaxialRay; 16], count: usize)
     ensures { Puts output.old (traced_texts rays count) output.new }
 {
     put_number(output, b" ok T", count as u64);
-    put_rays(output, rays, count);
-}
-
-// The height and slope of each surface. A loop of its own, as that over surfaces in `answers`.
-fn put_rays(output: &mut Output, rays: [ParaxialRay; 16], count: usize)
-    ensures { Puts output.old (rays_texts rays (min count 16)) output.new }
-{
-    output.clip();
-    for ray in &rays[..count.min(16)] {
-        put_ray(output, *ray);
-    }
-}
-
-fn put_ray(output: &mut Output, ray: ParaxialRay)
-    ensures { Puts output.old (ray_texts ray) output.new }
-{
-    let row = [ray.y, ray.u];
-    output.put_floats(&row);
+    put_all(output, &rays[..count.min(16)]);
 }
 
 // P efl bfl f-number

@@ -2,12 +2,12 @@
 use crate::marks;
 use joblines::JobLine;
 use streams::output::Output;
-use text::cursor::Cursor;
+use text::reader::{Reader, Wrong};
 
 // Kind 4 has no settings.
-pub(crate) fn answer(output: &mut Output, line: &[u8], job: JobLine) -> Result<(), Cursor> {
-    answers::end(line, job.next)?;
-    answers::put_head(output, line, 4);
+pub(crate) fn answer(output: &mut Output, reader: &mut Reader, job: JobLine) -> Result<(), Wrong> {
+    reader.end()?;
+    answers::put_head(output, reader.line, 4);
     put_evaluated(output, job);
     Ok(())
 }

@@ -15,7 +15,7 @@ use answers::Program;
 use bench::Bench;
 use streams::console::Console;
 use streams::output::Output;
-use text::cursor::Cursor;
+use text::reader::{Reader, Wrong};
 
 // The bench that the jobs are played on.
 #[derive(Clone, Copy)]
@@ -25,20 +25,25 @@ struct Replay {
 
 // J id kind ..: runs are played on the bench, evaluations and traces stand by themselves.
 impl Program for Replay {
-    fn answer(&mut self, output: &mut Output, line: &[u8], number: u64) -> Result<(), Cursor> {
-        let kind = joblines::read_kind(line, Cursor::new(0), 6);
-        let job = joblines::read_job(line, kind.next);
-        match kind.value {
-            4 => evaluate::answer(output, line, job),
-            5 => trace::answer(output, line, job),
-            6 => limits::answer(output, line, job),
+    fn answer(
+        &mut self,
+        output: &mut Output,
+        reader: &mut Reader,
+        number: u64,
+    ) -> Result<(), Wrong> {
+        let kind = joblines::read_kind(reader, 6)?;
+        let job = joblines::read_job(reader)?;
+        match kind {
+            4 => evaluate::answer(output, reader, job),
+            5 => trace::answer(output, reader, job),
+            6 => limits::answer(output, reader, job),
             _ => {
-                let read = joblines::read_request(line, kind.value, job);
-                answers::end(line, read.next)?;
+                let request = joblines::read_request(reader, kind, job)?;
+                reader.end()?;
                 // Each line has the place of its number.
                 let place = (number % 4) as usize;
-                answers::put_head(output, line, kind.value);
-                run::answer(output, &mut self.bench, place, read.value);
+                answers::put_head(output, reader.line, kind);
+                run::answer(output, &mut self.bench, place, request);
                 Ok(())
             }
         }
@@ -51,10 +56,8 @@ fn main(rt: HostRuntime) {
         output: rt.stdout(),
         errors: rt.stderr(),
     };
-    let mut buf = io::large_buffer();
-    let mut out = io::large_buffer();
     let mut replay = Replay {
         bench: benchcalls::empty_bench(),
     };
-    answers::answer_all(&mut replay, console, &mut buf, &mut out);
+    answers::answer_all(&mut replay, console);
 }

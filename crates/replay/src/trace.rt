@@ -5,15 +5,13 @@ use merit::Traced;
 use optics::{OpticalPrescription, ParaxialProperties, ParaxialRay};
 use refusals::Refusal;
 use streams::output::Output;
-use text::cursor;
-use text::cursor::Cursor;
+use text::reader::{Reader, Wrong};
 
 // Kind 5 has a slot as its setting.
-pub(crate) fn answer(output: &mut Output, line: &[u8], job: JobLine) -> Result<(), Cursor> {
-    let slot = cursor::decimal(line, job.next);
-    answers::end(line, slot.next)?;
-    answers::put_head(output, line, 5);
-    let slot = slot.value as usize;
+pub(crate) fn answer(output: &mut Output, reader: &mut Reader, job: JobLine) -> Result<(), Wrong> {
+    let slot = reader.decimal()? as usize;
+    reader.end()?;
+    answers::put_head(output, reader.line, 5);
     put_trace(output, job.prescription, slot);
     Ok(())
 }

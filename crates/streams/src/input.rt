@@ -1,27 +1,48 @@
 // The input, read into a buffer a part at a time, and taken from it line by line.
 ghost use Rattle.std.specs.Prelude.{◌≡◌, ◌-◌, ◌<◌, ◌≤◌, length, take, drop, IfSome};
 ghost use Rattle.streams.specs.Input.{new_input, lines_of, line_to, held_line, is_left, last_line, not_yet, line_from, placed_at, roomed, held_bytes};
-ghost use Rattle.streams.specs.Input.{ReadOn, WentOn};
+ghost use Rattle.streams.specs.Input.{has_more, is_open, is_good, over, stage_after, ReadOn, WentOn};
 
 use crate::console::Console;
+use crate::moves::Failed;
 use crate::{moves, parts};
 
-// How far the input is read.
+// How far the input has come.
+#[derive(Clone, Copy)]
+pub enum Stage {
+    // Another read may bring more.
+    Reading,
+    // A read brought nothing: what is left is the last line.
+    Ended,
+    // The last line was taken.
+    Done,
+    // A read failed: there is no further line.
+    Failed,
+}
+
+impl Stage {
+    // What comes of it once the last line is taken.
+    fn over(self) -> Stage
+        ensures { result ≡ over self }
+    {
+        match self {
+            Stage::Failed => Stage::Failed,
+            _ => Stage::Done,
+        }
+    }
+}
+
+// What is read of the input, and not taken yet.
 #[derive(Clone, Copy)]
 pub struct Input {
-    // What was read and is not taken yet: the bytes of the buffer from `from` up to `to`.
+    // The bytes of the buffer from `from` up to `to`.
     pub from: usize,
     pub to: usize,
     // The number of the line that begins there.
     pub number: u64,
-    // Whether the start of that line is gone, since the buffer does not hold the whole.
+    // Whether the start of that line is gone, since the buffer does not hold the whole: the rest of it stands there all the same.
     pub is_cut: bool,
-    // Whether another read may bring more.
-    pub has_more: bool,
-    // Whether there may be another line.
-    pub is_open: bool,
-    // Whether every read went well.
-    pub is_good: bool,
+    pub stage: Stage,
 }
 
 impl Input {
@@ -33,10 +54,29 @@ impl Input {
             to: 0,
             number: 1,
             is_cut: false,
-            has_more: true,
-            is_open: true,
-            is_good: true,
+            stage: Stage::Reading,
         }
+    }
+
+    // Whether another read may bring more.
+    fn has_more(&self) -> bool
+        ensures { result ≡ has_more self.now }
+    {
+        matches!(self.stage, Stage::Reading)
+    }
+
+    // Whether there may be another line.
+    pub fn is_open(&self) -> bool
+        ensures { result ≡ is_open self.now }
+    {
+        matches!(self.stage, Stage::Reading | Stage::Ended)
+    }
+
+    // Whether every read went well.
+    pub(crate) fn is_good(&self) -> bool
+        ensures { result ≡ is_good self.now }
+    {
+        !matches!(self.stage, Stage::Failed)
     }
 
     // How many lines were taken: one less than the number of the line that comes next.
@@ -68,8 +108,7 @@ impl Input {
             from: self.to,
             number: self.number.wrapping_add(u64::from(is_there)),
             is_cut: false,
-            has_more: false,
-            is_open: false,
+            stage: self.stage.over(),
             ..self
         };
         Found { line, input: rest }
@@ -103,7 +142,7 @@ pub struct Line {
     pub from: usize,
     pub to: usize,
     pub number: u64,
-    // Whether its start is gone.
+    // Whether its start is gone; a line by itself all the same, so it is no other variant.
     pub is_cut: bool,
 }
 
@@ -140,7 +179,6 @@ fn held_line(buf: &[u8], input: Input, end: usize) -> Found
         from: end + 1,
         number: input.number.wrapping_add(1),
         is_cut: false,
-        is_open: true,
         ..input
     };
     let line = Line {
@@ -167,7 +205,7 @@ pub fn next_line(buf: &[u8], input: Input) -> Found
     if end < input.to {
         return held_line(buf, input, end);
     }
-    if input.has_more {
+    if input.has_more() {
         return input.not_yet();
     }
     input.last_line()
@@ -184,7 +222,7 @@ pub fn go_on(console: Console, buf: &mut [u8], found: Found) -> Input
     if found.line.is_some() {
         return input;
     }
-    if input.has_more {
+    if input.has_more() {
         return read_on(console, buf, input);
     }
     input
@@ -216,6 +254,17 @@ fn with_room(buf: &mut [u8], input: Input) -> Input
     input.placed(to - from, input.is_cut)
 }
 
+// How far the input has come with a read.
+fn stage_after(came: Result<usize, Failed>) -> Stage
+    ensures { result ≡ stage_after came }
+{
+    match came {
+        Ok(0) => Stage::Ended,
+        Ok(_) => Stage::Reading,
+        Err(_) => Stage::Failed,
+    }
+}
+
 // The input after one more read. There is no more where nothing came, and no further line where the read failed.
 fn read_on(console: Console, buf: &mut [u8], input: Input) -> Input
     requires from_le_to { input.from ≤ input.to }
@@ -225,14 +274,11 @@ fn read_on(console: Console, buf: &mut [u8], input: Input) -> Input
 {
     let kept = with_room(buf, input);
     let came = moves::read_some(console, &mut buf[kept.to..]);
-    let is_good = came.is_ok();
-    let bytes = came.unwrap_or(0);
+    let stage = stage_after(came);
     Input {
         from: 0,
-        to: kept.to + bytes,
-        has_more: bytes > 0,
-        is_open: is_good,
-        is_good,
+        to: kept.to + came.unwrap_or(0),
+        stage,
         ..kept
     }
 }

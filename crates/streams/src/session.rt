@@ -28,7 +28,7 @@ impl Output<'_> {
 
     // Writes what waits, and the last line where all lines were read: where it is missing, an output is cut.
     pub fn finish(&mut self, input: Input) {
-        if input.is_good {
+        if input.is_good() {
             self.put_end(input.lines());
         }
         self.flush();

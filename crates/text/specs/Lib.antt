@@ -1,4 +1,4 @@
-pub mod Cursor
+pub mod Reader
 pub mod Fields
 pub mod Nan
 pub mod Numbers

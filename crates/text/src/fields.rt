@@ -4,9 +4,9 @@ ghost use Rattle.text.specs.Fields.{number_field, float_of};
 
 use crate::{numbers, words};
 
-// A field that is in form, and where it ends.
+// A field that is in form, and where it ends: what the contracts of a reader speak of.
 #[derive(Clone, Copy)]
-pub(crate) struct Field<T> {
+pub struct Field<T> {
     pub value: T,
     pub to: usize,
 }

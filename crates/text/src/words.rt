@@ -3,7 +3,7 @@ ghost use Rattle.std.specs.Prelude.{◌≡◌, ◌+◌, ◌≤◌, length, drop}
 ghost use Rattle.text.specs.Words.{is_blank, leading, word_from, none_left, begins, words_before};
 
 // A word: the bytes of its line from `from` up to `to`. There is none where the two are equal. It is two places and no slice,
-// since a line is read on from `to`, and a cursor keeps no line.
+// since a line is read on from `to`.
 #[derive(Clone, Copy)]
 pub struct Word {
     pub from: usize,

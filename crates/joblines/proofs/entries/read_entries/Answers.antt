@@ -1,32 +1,35 @@
 -- `joblines::entries::read_entries` meets its contract. Assumes nothing.
-use Rattle.std.proofs.Common.{length, arith}
-use Rattle.joblines.proofs.Reading.{stored, no_room, begin, more, stopped, ended}
-use borrow.Author.Tests.{not-false, not-true}
+use Rattle.std.proofs.Common.{◌≡◌, length, refl, ◌∙◌, arith}
+use Rattle.std.proofs.lemmas.Grind.{common_steps}
+use Rattle.joblines.specs.Entries.{stored_at}
+use Rattle.joblines.proofs.Reading.{laid, not-laid, begin, more, stopped, ended}
 use Rattle.joblines.proofs.entries.read_entries.Goals as goal
 use Rattle.joblines.proofs.entries.read_entries.Goals.{then-i-kept, else-i-kept}
 
 pub loop-i-init : goal.loop-i-init
-loop-i-init g c = begin _ _ _ _ _
+loop-i-init g c = record { same = refl; reading = begin _ _ _ _ _ _ refl }
 
 pub loop-i-preserved : goal.loop-i-preserved
 loop-i-preserved g c =
     let l = c.loop-i in
-    let read = c.read-read.ensures in
-    let room = length c.args.kept.now in
-    let this = (g.T.Entry.from c.args.line.now l.next).value in
-    let same = l.auto.kept in
-    more _ _ _ _ l.invariant c.loop-i-test.true (not-false _ c.if-not-next.false) (λ i. (read i).next)
-    (elim c.if-i-kept.branch [
-      | then-i-kept w ↦ stored l.kept room l.i this (omega (arith, w.if-i-kept.true, same)) (λ i. (read i).value) w.kept-is
-      | else-i-kept w ↦ no_room l.kept room l.i this (omega (arith, w.if-i-kept.false, same)) w.kept-is
-    ])
+    let read = c.in_ok-entry.ensures in
+    let kept : c.if-i-kept.kept ≡ stored_at (length c.args.kept.now) l.i c.in_ok-entry.entry l.kept =
+    elim c.if-i-kept.branch [
+      | then-i-kept w ↦ grind (arith, w.if-i-kept.true, w.kept-is)
+      | else-i-kept w ↦ grind (arith, w.if-i-kept.false, w.kept-is)
+    ] in
+    let put = laid g.T.Entry.from (stored_at (length c.args.kept.now) l.i) l.kept c.args.reader.now.line.now l.reader.at
+    (rw l.invariant.same at read.value) kept in
+    record { same = read.same ∙ l.invariant.same; reading = more _ _ _ _ l.invariant.reading c.loop-i-test.true put }
 
-pub returns-then-not-next : goal.returns-then-not-next
-returns-then-not-next g c =
-    let p = stopped _ _ _ _ c.loop-i.invariant (not-true _ c.if-not-next.true) in
-    record { value = p.0; kept_after = p.1 }
+pub returns-in_err-entry : goal.returns-in_err-entry
+returns-in_err-entry g c =
+    let l = c.loop-i in
+    let read = c.in_err-entry.ensures in
+    let none = not-laid g.T.Entry.from (stored_at (length c.args.kept.now) l.i) l.kept c.args.reader.now.line.now l.reader.at c.read.new.reader.at
+    (rw l.invariant.same at read.value) in
+    let end = stopped _ _ _ _ l.invariant.reading {w = c.in_err-entry.field-0.0} c.loop-i-test.true none in
+    record { value = grind (arith, common_steps, end); same = read.same ∙ l.invariant.same }
 
 pub returns : goal.returns
-returns g c =
-    let p = ended _ _ _ _ c.loop-i.invariant c.loop-i-test.false in
-    record { value = p.0; kept_after = p.1 }
+returns g c = record { value = ended _ _ _ _ c.loop-i.invariant.reading c.loop-i-test.false; same = c.loop-i.invariant.same }

@@ -1,37 +1,30 @@
 -- `joblines::followers::read_listed` meets its contract. Assumes nothing.
-use mathlib.Core.Path.{◌∙◌}
-use lib.ListN.{get_or}
-use Rattle.variables.specs.Active.{no_variable}
-use Rattle.joblines.specs.Followers.{following_by, with_follower, followers_listed}
-use borrow.Author.Tests.{not-false, not-true}
-use Rattle.joblines.proofs.Reading.{stored, no_room, begin, more, stopped, ended}
+use Rattle.std.proofs.Common.{refl, ◌∙◌, arith}
+use Rattle.std.proofs.lemmas.Grind.{common_steps}
+use Rattle.joblines.specs.Followers.{follower_from, with_follower, followers_listed}
+use Rattle.joblines.proofs.Reading.{laid, not-laid, begin, more, stopped, ended}
 use Rattle.joblines.proofs.followers.read_listed.Goals as goal
-use Rattle.joblines.proofs.followers.read_listed.Goals.{then-place-lt8, else-place-lt8}
 
 pub loop-init : goal.loop-init
-loop-init c = begin _ _ _ _ _
+unfolding followers_listed
+loop-init c = record { same = refl; reading = begin _ _ _ _ _ _ refl }
 
 pub loop-preserved : goal.loop-preserved
 loop-preserved c =
     let l = c.loop in
-    let read = c.read_follower-r.ensures in
-    let r = c.read_follower-r.result.value in
-    let this = following_by r.follower (get_or l.variables r.place no_variable) in
-    more _ _ _ _ l.invariant c.loop-test.true (not-false _ c.if-not-next.false) (λ i. (read i).next)
-    ((elim c.if-place-lt8.branch [
-      | then-place-lt8 w ↦ stored l.variables 8 r.place this w.if-place-lt8.true w.following.ensures w.variables-is
-      | else-place-lt8 w ↦ no_room l.variables 8 r.place this w.if-place-lt8.false w.variables-is
-    ])
-    ∙ (λ i. with_follower (read i).value.place (read i).value.follower l.variables))
+    let read = c.in_ok-p.ensures in
+    let put = laid (follower_from c.args.count) with_follower l.variables c.args.reader.now.line.now l.reader.at
+    (rw l.invariant.same at read.value) c.follow.ensures in
+    record { same = read.same ∙ l.invariant.same; reading = more _ _ _ _ l.invariant.reading c.loop-test.true put }
 
-pub returns-then-not-next : goal.returns-then-not-next
-unfolding followers_listed
-returns-then-not-next c =
-    let p = stopped _ _ _ _ c.loop.invariant (not-true _ c.if-not-next.true) in
-    λ i. record { value = p.1 i; next = p.0 i }
+pub returns-in_err-p : goal.returns-in_err-p
+returns-in_err-p c =
+    let l = c.loop in
+    let read = c.in_err-p.ensures in
+    let none = not-laid (follower_from c.args.count) with_follower l.variables c.args.reader.now.line.now l.reader.at c.read_follower.new.reader.at
+    (rw l.invariant.same at read.value) in
+    let end = stopped _ _ _ _ l.invariant.reading {w = c.in_err-p.field-0.0} c.loop-test.true none in
+    record { value = grind (arith, common_steps, end); same = read.same ∙ l.invariant.same }
 
-pub returns-after-loop : goal.returns-after-loop
-unfolding followers_listed
-returns-after-loop c =
-    let p = ended _ _ _ _ c.loop.invariant c.loop-test.false in
-    λ i. record { value = p.1 i; next = p.0 i }
+pub returns : goal.returns
+returns c = record { value = ended _ _ _ _ c.loop.invariant.reading c.loop-test.false; same = c.loop.invariant.same }

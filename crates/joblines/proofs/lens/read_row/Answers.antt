@@ -1,31 +1,31 @@
 -- `joblines::lens::read_row` meets its contract. Assumes nothing.
-use mathlib.Core.Path.{ap, ◌∙◌}
-use Rattle.std.specs.Prelude.{Float}
-use Rattle.text.specs.declared.cursor.Read.{Read}
-use Rattle.joblines.specs.Lens.{index_stored, past_row, put_row}
-use borrow.Author.Tests.{not-false, not-true}
-use Rattle.joblines.proofs.Reading.{begin, more, stopped, ended}
+use Rattle.std.proofs.Common.{refl, ◌∙◌, arith}
+use Rattle.std.proofs.lemmas.Grind.{common_steps}
+use Rattle.text.specs.Reader.{float_from}
+use Rattle.joblines.specs.Lens.{index_stored, row_from}
+use Rattle.joblines.proofs.Reading.{laid, not-laid, begin, more, stopped, ended}
 use Rattle.joblines.proofs.lens.read_row.Goals as goal
 
 pub loop-w-init : goal.loop-w-init
-loop-w-init c = begin _ _ _ _ _
+unfolding row_from
+loop-w-init c = record { same = refl; reading = begin _ _ _ _ _ _ refl }
 
 pub loop-w-preserved : goal.loop-w-preserved
 loop-w-preserved c =
     let l = c.loop-w in
-    let read = c.float-r.ensures in
-    more _ _ _ _ l.invariant c.loop-w-test.true (not-false _ c.if-not-next.false)
-    (ap (λ (r : Read Float). r.next) read) (c.keep_index.ensures
-    ∙ ap (λ (r : Read Float). index_stored c.args.i l.w r.value l.indices) read)
+    let read = c.in_ok-x.ensures in
+    let put = laid float_from (index_stored c.args.i l.w) l.indices c.args.reader.now.line.now l.reader.at
+    (rw l.invariant.same at read.value) c.keep_index.ensures in
+    record { same = read.same ∙ l.invariant.same; reading = more _ _ _ _ l.invariant.reading c.loop-w-test.true put }
 
-pub returns-then-not-next : goal.returns-then-not-next
-unfolding past_row put_row
-returns-then-not-next c =
-    let p = stopped _ _ _ _ c.loop-w.invariant (not-true _ c.if-not-next.true) in
-    record { value = p.0; indices_after = p.1 }
+pub returns-in_err-x : goal.returns-in_err-x
+returns-in_err-x c =
+    let l = c.loop-w in
+    let read = c.in_err-x.ensures in
+    let none = not-laid float_from (index_stored c.args.i l.w) l.indices c.args.reader.now.line.now l.reader.at c.float.new.self.at
+    (rw l.invariant.same at read.value) in
+    let end = stopped _ _ _ _ l.invariant.reading {w = c.in_err-x.field-0.0} c.loop-w-test.true none in
+    record { value = grind (arith, common_steps, end); same = read.same ∙ l.invariant.same }
 
 pub returns : goal.returns
-unfolding past_row put_row
-returns c =
-    let p = ended _ _ _ _ c.loop-w.invariant c.loop-w-test.false in
-    record { value = p.0; indices_after = p.1 }
+returns c = record { value = ended _ _ _ _ c.loop-w.invariant.reading c.loop-w-test.false; same = c.loop-w.invariant.same }

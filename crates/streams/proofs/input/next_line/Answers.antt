@@ -5,7 +5,7 @@ use Rattle.std.specs.Prelude.{Bool, Option, Some, None, IfSome}
 use Rattle.std.specs.Bool.{then_some}
 use Rattle.streams.specs.declared.input.Found.{Found}
 use Rattle.streams.specs.declared.input.Line.{Line}
-use Rattle.streams.specs.Input.{feed_at, held_line, is_left, last_line, not_yet, line_from}
+use Rattle.streams.specs.Input.{feed_at, has_more, held_line, is_left, last_line, not_yet, line_from}
 use Rattle.std.proofs.Common.{rules}
 use Rattle.streams.proofs.input.next_line.Goals as goal
 
@@ -16,13 +16,13 @@ module _ (buf : List ℕ) (input : Input) {end : ℕ} (is : end ≡ feed_at buf 
       let feed : feed_at buf input < input.to = omega (arith, h, is) in
       simp (lt-ltb (feed_at buf input) input.to feed) (e ∙ ap (held_line buf input) is)
 
-  from_more : input.to ≤ end → input.has_more ≡ true → line ≡ not_yet input → line ≡ line_from buf input
+  from_more : input.to ≤ end → has_more input ≡ true → line ≡ not_yet input → line ≡ line_from buf input
   unfolding line_from
   from_more h m e =
       let feed : input.to ≤ feed_at buf input = omega (arith, h, is) in
       simp (le-ltb (feed_at buf input) input.to feed, m) e
 
-  from_last : input.to ≤ end → input.has_more ≡ false → line ≡ last_line input → line ≡ line_from buf input
+  from_last : input.to ≤ end → has_more input ≡ false → line ≡ last_line input → line ≡ line_from buf input
   unfolding line_from
   from_last h m e =
       let feed : input.to ≤ feed_at buf input = omega (arith, h, is) in
@@ -53,13 +53,14 @@ returns-then-end-input c =
       from_le_to_3 = subst (λ (l : Found). (l.input.from ≤ l.input.to) × (l.input.to ≤ length a.buf.now)) (sym e) (search rules, search rules);
     }
 
-pub returns-then-input : goal.returns-then-input
-returns-then-input c =
+pub returns-then-has_more : goal.returns-then-has_more
+returns-then-has_more c =
     let a = c.args in
     let f = c.find-end in
     let e = c.not_yet.ensures in
     let w = subst (Within (length a.buf.now)) (sym e) (tt, (search rules, search rules)) in
-    record { value = from_more a.buf.now a.input f.ensures.value c.if-end-input.false c.if-input.true e; from_le_to_2 = w.0; from_le_to_3 = w.1 }
+    let more = sym c.has_more.ensures ∙ c.if-has_more.true in
+    record { value = from_more a.buf.now a.input f.ensures.value c.if-end-input.false more e; from_le_to_2 = w.0; from_le_to_3 = w.1 }
 
 pub returns : goal.returns
 returns c =
@@ -68,4 +69,5 @@ returns c =
     let e = c.last_line.ensures in
     let w = subst (Within (length a.buf.now)) (sym e)
     (if_left (λ (l : Line). (l.from ≤ l.to) × (l.to ≤ length a.buf.now)) (is_left a.input) (search rules, search rules), (search rules, search rules)) in
-    record { value = from_last a.buf.now a.input f.ensures.value c.if-end-input.false c.if-input.false e; from_le_to_2 = w.0; from_le_to_3 = w.1 }
+    let none = sym c.has_more.ensures ∙ c.if-has_more.false in
+    record { value = from_last a.buf.now a.input f.ensures.value c.if-end-input.false none e; from_le_to_2 = w.0; from_le_to_3 = w.1 }
