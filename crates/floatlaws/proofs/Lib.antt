@@ -4,3 +4,5 @@ pub mod Examples
 pub mod Risen
 pub mod Signs
 pub mod NearestUnits
+pub mod RootTwice
+pub mod StdRoot
