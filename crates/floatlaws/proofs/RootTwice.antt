@@ -1,7 +1,7 @@
--- std's root of a number is `root_twice`: twice the root where that is whole, and else the odd number between twice its neighbours. Taken of w with 2 k digits
--- more, and rounded to 2 ^ k, it gives the whole number nearest to the root of w. Assumes nothing.
-use Rattle.std.specs.Prelude.{◌≡◌, refl, ℕ, suc, ◌+◌, ◌*◌, ◌/◌, ◌%◌, ◌^◌, ◌≤◌, ◌<◌, Bool, true, false, not, cond, T, leb, ltb, eqb}
-use Rattle.std.proofs.Common.{sym, ap, ◌∙◌, subst, le_trans, le_of_eq, lt_of_lt_of_le, lt_of_not-le, mul-le-mul, mul_assoc, mul_comm, mul-pos, arith, eqb→eq}
+-- std takes a root by `root_twice`: twice the root where that is whole, and else the odd number between twice its two neighbours. Of 4 * w * (h * h), for an
+-- even h or an odd one, that is 4 * h roots of w; rounded to a multiple of 4 * h it gives the whole number nearest to the root of w (`nears`). Assumes nothing.
+use Rattle.std.specs.Prelude.{◌≡◌, ℕ, suc, ◌+◌, ◌*◌, ◌/◌, ◌%◌, ◌^◌, ◌≤◌, ◌<◌, Bool, true, false, not, cond, T, eqb}
+use Rattle.std.proofs.Common.{sym, ap, ◌∙◌, subst, le_trans, le_of_eq, lt_of_lt_of_le, lt_of_not-le, mul-le-mul, mul_assoc, mul-pos, arith, eqb→eq}
 use Rattle.std.proofs.Common.{lt_of_mul-lt-mul_right, le_of_mul-le-mul_right, leb→le, mul_left_comm, mul-add, add-mul, one-mul, div-add-mod', mod-lt, le-div_iff_mul-le}
 use Rattle.std.proofs.Math.Arith.{lt_of_le-ne}
 use Rattle.std.proofs.Math.Dec.{nleb→lt, is_le, compare_is_eq}

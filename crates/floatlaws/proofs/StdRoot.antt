@@ -1,6 +1,7 @@
--- std's square root is that of `floats`: `std-root`. Assumes nothing.
-use Rattle.std.specs.Prelude.{◌≡◌, refl, ℕ, zero, suc, ◌+◌, ◌-◌, ◌*◌, ◌/◌, ◌^◌, ◌≤◌, ◌<◌, Bool, true, false, cond, ℤ, pos, negsuc, T, ltb, eqb, Float}
-use Rattle.std.proofs.Common.{sym, ap, ◌∙◌, subst, le_trans, le_of_eq, lt_of_lt_of_le, mul_assoc, mul_comm, mul_left_comm, mul_right_comm, mul-div_cancel}
+-- std's square root is that of `floats`, at every `f64`: `std_root`. std rounds the root once, from 2271 binary places; `sqrt_of` takes the whole number
+-- nearest to the root at the places that are kept. Assumes nothing.
+use Rattle.std.specs.Prelude.{◌≡◌, refl, ℕ, zero, suc, ◌+◌, ◌-◌, ◌*◌, ◌/◌, ◌^◌, ◌≤◌, ◌<◌, Bool, true, false, cond, ℤ, pos, negsuc, T, ltb, Float}
+use Rattle.std.proofs.Common.{sym, ap, ◌∙◌, subst, le_trans, le_of_eq, lt_of_lt_of_le, mul_assoc, mul_comm, mul_right_comm, mul-div_cancel}
 use Rattle.std.proofs.Common.{arith, lt→ltb, eqb→eq, mul-pos, pow-add, pow_pos, pow_mono, shl_lt, le-div_iff_mul-le, div-lt_iff_lt-mul}
 use Rattle.std.proofs.Math.Nat.{pow-succ'}
 use Rattle.std.specs.Float.{nan, inf, fin, binary64, sqrt}
@@ -117,11 +118,11 @@ zero-is (negsuc k) h = absurd (no (2 ^ k) (sym (ap (λ (x : ℕ). 1 * x) (pow-su
     no : (x : ℕ) → 1 * (2 * x) ≡ 1 → ⊥
     no x h = omega arith
 
-pub std-root : (x : Float) → T (fits binary64 x) → sqrt binary64 x ≡ sqrt_of x
+pub std_root : (x : Float) → T (fits binary64 x) → sqrt binary64 x ≡ sqrt_of x
 unfolding sqrt sqrt_of fits
-std-root nan f = refl
-std-root (inf true) f = refl
-std-root (inf false) f = refl
-std-root (fin s zero e) f = ap (λ (d : ℤ). fin s 0 d) (zero-is e (eqb→eq (up e * down e) 1 f))
-std-root (fin true (suc m) e) f = refl
-std-root (fin false (suc m) e) f = above-zero m e f
+std_root nan f = refl
+std_root (inf true) f = refl
+std_root (inf false) f = refl
+std_root (fin s zero e) f = ap (λ (d : ℤ). fin s 0 d) (zero-is e (eqb→eq (up e * down e) 1 f))
+std_root (fin true (suc m) e) f = refl
+std_root (fin false (suc m) e) f = above-zero m e f
