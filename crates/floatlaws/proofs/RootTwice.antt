@@ -1,8 +1,9 @@
--- std takes a root by `root_twice`: twice the root where that is whole, and else the odd number between twice its two neighbours. Of 4 * w * (h * h), for an
--- even h or an odd one, that is 4 * h roots of w; rounded to a multiple of 4 * h it gives the whole number nearest to the root of w (`nears`). Assumes nothing.
+-- std takes a root by `root_twice`: twice the root where that is whole, and else the odd number between twice its two neighbours. At 4 * w * (h * h) that is
+-- 4 * h times the root of w, and it is rounded to a multiple of 4 * h: so to the whole number nearest to the root of w, `nears`. Assumes nothing.
 use Rattle.std.specs.Prelude.{◌≡◌, ℕ, suc, ◌+◌, ◌*◌, ◌/◌, ◌%◌, ◌^◌, ◌≤◌, ◌<◌, Bool, true, false, not, cond, T, eqb}
 use Rattle.std.proofs.Common.{sym, ap, ◌∙◌, subst, le_trans, le_of_eq, lt_of_lt_of_le, lt_of_not-le, mul-le-mul, mul_assoc, mul-pos, arith, eqb→eq}
-use Rattle.std.proofs.Common.{lt_of_mul-lt-mul_right, le_of_mul-le-mul_right, leb→le, mul_left_comm, mul-add, add-mul, one-mul, div-add-mod', mod-lt, le-div_iff_mul-le}
+use Rattle.std.proofs.Common.{lt_of_mul-lt-mul_right, le_of_mul-le-mul_right, leb→le, mul_left_comm, mul-add, add-mul, one-mul, div-add-mod'}
+use Rattle.std.proofs.Common.{mod-lt, le-div_iff_mul-le}
 use Rattle.std.proofs.Math.Arith.{lt_of_le-ne}
 use Rattle.std.proofs.Math.Dec.{nleb→lt, is_le, compare_is_eq}
 use Rattle.std.proofs.Math.Nat.{mul-mul-mul_comm, eq_of_mul-eq-mul_right}
@@ -38,7 +39,7 @@ twice n = go (root_below (size n) n) (whole_part n) (eqb (root_below (size n) n 
         odd : (r q : ℕ) → 2 * r + 1 ≡ 2 * q → ⊥
         odd r q l = omega arith
 
--- ---- the same of 4 w, where n is w with the digits of D * D more, D = 2 * h
+-- ---- at 4 * w * (h * h): t lies to 2 * (c * h) as twice the root of w to c
 module _ (w h t : ℕ) (some : 0 < h) (tw : Twice (4 * w * (h * h)) t) (big : 2 ^ 104 ≤ w) (small : w < 2 ^ 106) where
   spread : (c : ℕ) → c * h * (c * h) ≡ c * c * (h * h)
   spread c = mul-mul-mul_comm c h c h
@@ -52,7 +53,7 @@ module _ (w h t : ℕ) (some : 0 < h) (tw : Twice (4 * w * (h * h)) t) (big : 2 
   exact : (c : ℕ) → t ≡ 2 * (c * h) → 4 * w ≡ c * c
   exact c l = eq_of_mul-eq-mul_right (h * h) (mul-pos some some) (4 * w) (c * c) (tw.exact (c * h) l ∙ spread c)
 
-  -- between 2 ^ 52 and 2 ^ 53, in units of 4 * h
+  -- t is from 2 ^ 52 up to 2 ^ 53, in units of 4 * h
   pub least : 2 ^ 52 * (4 * h) ≤ t
   least = past (lt_of_not-le (λ (g : suc t ≤ 2 ^ 52 * (4 * h)). no (high (2 ^ 53) (omega arith))))
     where

@@ -61,7 +61,7 @@ finite q k h few =
     ap (λ (x : Bool). cond x (odd 54 false q k 1074) (inf false)) (is_true (ltb (q * 2 ^ k) (2 ^ 2098)) (lt→ltb (q * 2 ^ k) (2 ^ 2098)
     (lt_of_lt_of_le (shl_lt 54 k a) (pow_mono b))))
 
--- the root of w with 1197 + k digits more, half of them below t's last, rounded
+-- t, which is the root of w in units of 4 * h, rounded
 root-of : (w k h t : ℕ) → 4 * h ≡ 2 ^ (1198 + k) → 0 < h → Twice (4 * w * (h * h)) t → 2 ^ 104 ≤ w → w < 2 ^ 106 → k ≤ 2000
     → round binary64 false t (2 ^ 2272) ≡ odd 54 false (nearest_root w) k 1074
 root-of w k h t unit some tw big small few =
