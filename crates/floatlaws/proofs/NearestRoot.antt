@@ -117,29 +117,60 @@ module _ (m : ℕ) (e : ℤ) (f : T (fits binary64 (fin false (suc m) e))) where
             is = ap (λ (x : ℕ). r.d * x) (pow-add 2 r.k 1074) ∙ sym (mul_assoc r.d (2 ^ r.k) (2 ^ 1074)) ∙ ap (λ (x : ℕ). x * 2 ^ 1074) r.is;
           }
 
+  -- x is w * 2 ^ (2 k) of these units, for a w of 105 or 106 digits
+  pub record Rooted : Type 0 where
+    pub w : ℕ
+    pub k : ℕ
+    pub big : 2 ^ 104 ≤ w
+    pub small : w < 2 ^ 106
+    pub few : k ≤ 2000
+    pub whole : (units m e f).n * 2 ^ 1074 ≡ w * (2 ^ k * 2 ^ k)
+    pub same : sqrt_of (fin false (suc m) e) ≡ odd 54 false (nearest_root w) k 1074
+
+  pub rooted : Rooted
+  rooted =
+      let s = scale in
+      let k : ℕ = s.j / 2 - 26 in
+      let parity : s.j % 2 < 2 = omega arith in
+      let twice : 2 * k ≡ k + k = omega arith in
+      record {
+        w = s.d * 2 ^ (s.j % 2) * 2 ^ 52;
+        k = k;
+        big = wide s.d (s.j % 2) s.lo;
+        small = narrow s.d (s.j % 2) parity s.hi;
+        few = omega (arith, s.near);
+        whole = sym s.is ∙ spread s.d s.j s.lo s.hi s.far ∙ ap (λ (x : ℕ). s.d * 2 ^ (s.j % 2) * 2 ^ 52 * x) (ap (λ (x : ℕ). 2 ^ x) twice ∙ pow-add 2 k k);
+        same = sqrt-finite m e ∙ ap (λ (x : ℕ). root_at (x * 2 ^ 1074)) (counted m e f) ∙ ap root_at (sym s.is) ∙ root-at s.d s.j s.lo s.hi s.far;
+      }
+    where
+      wide : (d t : ℕ) → 2 ^ 52 ≤ d → 2 ^ 104 ≤ d * 2 ^ t * 2 ^ 52
+      wide d t h = let a : 2 ^ 52 * 1 ≤ d * 2 ^ t = mul-le-mul h (pow_pos t) in omega arith
+
+      narrow : (d t : ℕ) → t < 2 → d < 2 ^ 53 → d * 2 ^ t * 2 ^ 52 < 2 ^ 106
+      narrow d zero l h = omega arith
+      narrow d (suc zero) l h = omega arith
+      narrow d (suc (suc t)) l h = absurd (no t l)
+        where
+          no : (t : ℕ) → suc (suc t) < 2 → ⊥
+          no t l = omega arith
+
   law : Nearest (fin false (suc m) e) (sqrt_of (fin false (suc m) e))
   law =
       let n : ℕ = (units m e f).n in
-      let s = scale in
-      let w : ℕ = s.d * 2 ^ (s.j % 2) * 2 ^ 52 in
-      let k : ℕ = s.j / 2 - 26 in
+      let s = rooted in
+      let w : ℕ = s.w in
+      let k : ℕ = s.k in
+      let big : 2 ^ 104 ≤ w = s.big in
+      let small : w < 2 ^ 106 = s.small in
+      let few : k ≤ 2000 = s.few in
       let q : ℕ = nearest_root w in
       let r : Float = odd 54 false q k 1074 in
-      let parity : s.j % 2 < 2 = omega arith in
-      let big : 2 ^ 104 ≤ w = wide s.d (s.j % 2) s.lo in
-      let small : w < 2 ^ 106 = narrow s.d (s.j % 2) parity s.hi in
       let near : Nears w q = nearest-law w (omega arith) small in
-      let few : k ≤ 2000 = omega (arith, s.near) in
-      let twice : 2 * k ≡ k + k = omega arith in
-      let whole : n * 2 ^ 1074 ≡ w * (2 ^ k * 2 ^ k) =
-      sym s.is ∙ spread s.d s.j s.lo s.hi s.far ∙ ap (λ (x : ℕ). w * x) (ap (λ (x : ℕ). 2 ^ x) twice ∙ pow-add 2 k k) in
-      let same : sqrt_of (fin false (suc m) e) ≡ r =
-      sqrt-finite m e ∙ ap (λ (x : ℕ). root_at (x * 2 ^ 1074)) (counted m e f) ∙ ap root_at (sym s.is) ∙ root-at s.d s.j s.lo s.hi s.far in
       let ex : suc m * up e * (2 ^ 1074 * 2 ^ 1074) ≡ w * (2 ^ k * 2 ^ k) * down e =
       sym (mul_assoc (suc m * up e) (2 ^ 1074) (2 ^ 1074)) ∙ ap (λ (x : ℕ). x * 2 ^ 1074) (units m e f).value ∙ mul_right_comm n (down e) (2 ^ 1074)
-      ∙ ap (λ (x : ℕ). x * down e) whole in
+      ∙ ap (λ (x : ℕ). x * down e) s.whole in
       let val : HasValue r false (q * 2 ^ k) (2 ^ 1074) = odd_sign 54 false q k 1074 in
-      subst (λ (z : Float). Nearest (fin false (suc m) e) z) (sym same)
+      subst (λ (z : Float). Nearest (fin false (suc m) e) z) (sym s.same)
       (record {
         fitting = made-fits q k (nears-least w q near big) (nears-most w q near small) few;
         above_zero = value-positive r (q * 2 ^ k) (2 ^ 1074) val (mul-pos (lt_of_lt_of_le (pow_pos 52) (nears-least w q near big)) (pow_pos k));
@@ -158,17 +189,6 @@ module _ (m : ℕ) (e : ℤ) (f : T (fits binary64 (fin false (suc m) e))) where
             (below-units w q k y'.p y'.i near big y'.short
             (lt-units y r (y'.p * 2 ^ y'.i) (q * 2 ^ k) (2 ^ 1074) (pow_pos 1074) y'.value val h));
       })
-    where
-      wide : (d t : ℕ) → 2 ^ 52 ≤ d → 2 ^ 104 ≤ d * 2 ^ t * 2 ^ 52
-      wide d t h = let a : 2 ^ 52 * 1 ≤ d * 2 ^ t = mul-le-mul h (pow_pos t) in omega arith
-
-      narrow : (d t : ℕ) → t < 2 → d < 2 ^ 53 → d * 2 ^ t * 2 ^ 52 < 2 ^ 106
-      narrow d zero l h = omega arith
-      narrow d (suc zero) l h = omega arith
-      narrow d (suc (suc t)) l h = absurd (no t l)
-        where
-          no : (t : ℕ) → suc (suc t) < 2 → ⊥
-          no t l = omega arith
 
 -- no `f64` is nearer to the root of x than `sqrt_of x`
 pub nearest : (x : Float) → T (fits binary64 x) → T (positive x) → Nearest x (sqrt_of x)

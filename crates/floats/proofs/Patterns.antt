@@ -31,7 +31,7 @@ pow_le_back i p h = past (lt_of_not-le (λ (g : suc p ≤ i). lt_irrefl (2 ^ p) 
     past : i < suc p → i ≤ p
     past h = omega arith
 
-size_exact : (a n : ℕ) → 2 ^ a ≤ n → n < 2 ^ suc a → size n ≡ suc a
+pub size_exact : (a n : ℕ) → 2 ^ a ≤ n → n < 2 ^ suc a → size n ≡ suc a
 size_exact a n lo hi = le_antisymm (size-le n (suc a) hi) (pow_lt_back a (size n) (lt_of_le_of_lt lo (size-lt n)))
 
 size-shifted : (d k : ℕ) → 2 ^ 52 ≤ d → d < 2 ^ 53 → size (d * 2 ^ k) ≡ 53 + k

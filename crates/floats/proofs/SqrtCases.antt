@@ -1,4 +1,4 @@
--- `sqrt_of` by the tests that the code makes: above zero and finite, infinite, zero, and the rest. Assumes nothing.
+-- `sqrt_of` by tests of a number: above zero and finite, infinite, zero, and the rest. Assumes nothing.
 use Rattle.std.specs.Prelude.{◌≡◌, refl, ℕ, zero, suc, ◌*◌, ◌/◌, ◌^◌, ◌<◌, true, false, ℤ, pos, T, ltb, Float}
 use Rattle.std.proofs.Common.{sym, ap, ◌∙◌, arith, true≢false, ltb→lt}
 use Rattle.std.proofs.lemmas.Bool.{false≢true}

@@ -1,8 +1,14 @@
-// The square root of an `f64`, rounded to the nearest `f64`: the code of floats/specs/Sqrt.antt, in a crate of its own, so that an edit of the small
-// functions of `floats` is a check of seconds.
-// Stands on `floats`, which has the definition; called wherever a root is taken, and by `exports`.
+// The square root of an `f64`, rounded to the nearest `f64`: std's, under a contract by the definition of floats/specs/Sqrt.antt.
+// Stands on `floats`, which has that definition, and on `floatlaws`, which proves that the two are one (`std_root`); called wherever a root is taken, and by
+// `exports`.
 #![tactic(auto)]
 
-mod root;
+ghost use Rattle.std.specs.Prelude.{◌≡◌};
+ghost use Rattle.floats.specs.Sqrt.{sqrt_of};
 
-pub use root::sqrt;
+// The square root of x, rounded to the nearest `f64`.
+pub fn sqrt(x: f64) -> f64
+    ensures { result ≡ sqrt_of x }
+{
+    x.sqrt()
+}

@@ -1,0 +1,8 @@
+-- std's root is the definition's. Assumes nothing.
+use Rattle.std.proofs.Common.{◌∙◌}
+use Rattle.floats.specs.BasicLaws.{is-so}
+use Rattle.floatlaws.proofs.StdRoot.{std_root}
+use Rattle.roots.proofs.sqrt.Goals as goal
+
+pub returns : goal.returns
+returns c = c.sqrt.ensures.value ∙ std_root c.args.x (is-so _ c.well_formed.0.1)
