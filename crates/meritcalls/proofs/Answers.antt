@@ -57,7 +57,7 @@ module _ (p : OpticalPrescription) (f : MeritFunction) (old : MeritEvaluation) w
 -- ---- trace
 -- heights or slopes of surfaces laid flat are those of the lens
 module _ (p : OpticalPrescription) (slot : ℕ) (rest flat : List Float) (e : flat ≡ laid_flat p.surfaces p.surface_count ++ rest)
-  (part : ParaxialRay → Float) where
+    (part : ParaxialRay → Float) where
   agree : (k : ℕ) → k < p.surface_count → part (ray_at (flat_surface flat) (slot_index p.indices slot) p.entrance_pupil_diameter_mm k)
       ≡ part (lens_ray p slot k)
   agree k l =

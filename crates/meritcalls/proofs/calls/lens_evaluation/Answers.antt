@@ -12,8 +12,7 @@ laid-lens-requires c = (c.requires.surfaces, laid-room _ _ _ _ c.laid-flat.ensur
 pub evaluate_flat-requires : goal.evaluate_flat-requires
 evaluate_flat-requires c =
     let a = c.args in
-    let ok = c.requires in
-    (
+    let ok = c.requires in (
       ok.operands,
       slots-known a.prescription.slot_count ok.slots
           a.function ok.taken,
