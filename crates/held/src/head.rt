@@ -127,11 +127,4 @@ impl HeldHead {
             ],
         }
     }
-
-    // The same, written in place.
-    pub fn put(&mut self, kind: u64, turns: u64, head: RowHead)
-        ensures { self.new ≡ held_head kind turns head }
-    {
-        *self = HeldHead::of(kind, turns, head);
-    }
 }

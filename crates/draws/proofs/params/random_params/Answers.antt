@@ -12,7 +12,6 @@ use Rattle.xorshift.specs.Xorshift.{step_times}
 use Rattle.variables.specs.Active.{enabled_of}
 use Rattle.variables.specs.declared.types.VariableDef.{VariableDef}
 use Rattle.held.specs.JobFrom.{variable_count_from, variables_from}
-use Rattle.variables.proofs.Filling.{counted-le}
 use Rattle.draws.proofs.Drawing.{draw-more, draw-past, drawn-params, drawn-generator}
 use Rattle.std.proofs.Common.{rules}
 use Rattle.draws.proofs.params.random_params.Goals as goal
@@ -20,17 +19,7 @@ use Rattle.draws.proofs.params.random_params.Goals.{then-d, else-d}
 
 pub loop-i-init : goal.loop-i-init
 unfolding enabled_of tab step_times
-loop-i-init c = (record { filling = record { passed = omega arith; counted = refl; stored = refl }; drawn = refl }, c.variable_count-count.ensures)
-
-pub offset_bounds-x-q : goal.offset_bounds-x-q
-offset_bounds-x-q c = omega (arith, counted-le c.loop-i.invariant.0.filling, c.loop-i.invariant.1)
-
-pub bounds-x-q : goal.bounds-x-q
-bounds-x-q c =
-    omega (arith, counted-le c.loop-i.invariant.0.filling, c.loop-i.invariant.1)
-
-pub overflow_add-q : goal.overflow_add-q
-overflow_add-q c = omega (arith, counted-le c.loop-i.invariant.0.filling, c.loop-i.invariant.1)
+loop-i-init c = (record { filling = record { passed = omega arith; counted = refl; stored = refl }; drawn = refl }, c.variable_count-count.ensures, omega arith)
 
 pub loop-i-preserved : goal.loop-i-preserved
 loop-i-preserved c =
@@ -45,8 +34,9 @@ loop-i-preserved c =
             (w.uniform.ensures ∙ ap (λ (d : VariableDef). uniform_of w.drawn-draw.result.unit d.min_value d.max_value) c.variable_at-d.ensures) w.x-is
             w.rng-is w.q-is,
         c.loop-i.invariant.1,
+        omega (arith, c.loop-i.invariant.2, w.q-is),
       )
-      | else-d w ↦ (draw-past c.loop-i.invariant.0 _ _ _ h (sym e ∙ w.if-d.false) w.x-is w.rng-is w.q-is, c.loop-i.invariant.1)
+      | else-d w ↦ (draw-past c.loop-i.invariant.0 _ _ _ h (sym e ∙ w.if-d.false) w.x-is w.rng-is w.q-is, c.loop-i.invariant.1, omega (arith, c.loop-i.invariant.2, w.q-is))
     ]
 
 pub returns : goal.returns

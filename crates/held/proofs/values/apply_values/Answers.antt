@@ -6,7 +6,7 @@ use Rattle.variables.specs.declared.types.VariableDef.{VariableDef}
 use Rattle.variables.specs.Active.{enabled_of}
 use Rattle.variables.specs.Kinds.{apply_clamp}
 use Rattle.variables.specs.Values.{stored_in, applied_to, applied}
-use Rattle.variables.proofs.Applying.{counted-le, apply-more, apply-past}
+use Rattle.variables.proofs.Applying.{apply-more, apply-past}
 use mathlib.Core.List.{List}
 use lib.ListN.{get_or}
 use lib.Ieee.{nan}
@@ -18,18 +18,7 @@ use Rattle.held.proofs.values.apply_values.Goals.{then-d, else-d}
 
 pub loop-i-init : goal.loop-i-init
 unfolding enabled_of applied_to
-loop-i-init c = (record { passed = omega arith; counted = refl; stored = refl }, c.variable_count-count.ensures, record { long = refl; rest = refl })
-
-pub offset_bounds-values-q : goal.offset_bounds-values-q
-offset_bounds-values-q c = omega (arith, counted-le c.loop-i.invariant.0, c.loop-i.invariant.1)
-
-pub bounds-values-q : goal.bounds-values-q
-bounds-values-q c = omega (arith, counted-le c.loop-i.invariant.0, c.loop-i.invariant.1)
-
-pub overflow_add-q : goal.overflow_add-q
-overflow_add-q c =
-    let l = c.loop-i in
-    omega (arith, counted-le l.invariant.0, l.invariant.1)
+loop-i-init c = (record { passed = omega arith; counted = refl; stored = refl }, c.variable_count-count.ensures, record { long = refl; rest = refl }, omega arith)
 
 pub loop-i-preserved : goal.loop-i-preserved
 loop-i-preserved c =
@@ -45,20 +34,22 @@ loop-i-preserved c =
         apply-more l.invariant.0 _ _ h (sym e ∙ w.if-d.true) (ap standing w.flat-is ∙ w.apply_variable.ensures.fact_1 ∙ ap stored is) w.q-is,
         l.invariant.1,
         further l.invariant.2 w.apply_variable.ensures.fact_2 w.flat-is,
+        omega (arith, l.invariant.3, w.q-is),
       )
       | else-d w ↦ (
         apply-past l.invariant.0 _ _ h (sym e ∙ w.if-d.false) (ap standing w.flat-is) w.q-is,
         l.invariant.1,
         further l.invariant.2 (record { long = refl; rest = refl })
             w.flat-is,
+        omega (arith, l.invariant.3, w.q-is),
       )
     ]
 
-pub returns : goal.returns
+pub returns-clause-fact_1 : goal.returns-clause-fact_1
 unfolding applied
-returns c =
+returns-clause-fact_1 c =
     let x = c.args in
     let l = c.loop-i in
     let v = variables_from x.job.now.counts x.job.now.numbers in
     let e : l.i ≡ variable_count_from x.job.now.counts = omega (arith, l.invariant.0.passed, l.invariant.1) in
-    record { fact_1 = l.invariant.0.stored ∙ ap (applied_to v x.values (standing x.flat.now)) (rw e at l.invariant.0.counted); fact_2 = l.invariant.2 }
+    l.invariant.0.stored ∙ ap (applied_to v x.values (standing x.flat.now)) (rw e at l.invariant.0.counted)

@@ -6,7 +6,7 @@ use Rattle.variables.specs.declared.types.VariableDef.{VariableDef}
 use Rattle.variables.specs.Active.{enabled_of}
 use Rattle.held.specs.JobFrom.{variable_count_from, variables_from}
 use Rattle.lists.specs.Tab.{tab}
-use Rattle.variables.proofs.Filling.{counted-le, fill_more, fill-past, fill_end}
+use Rattle.variables.proofs.Filling.{fill_more, fill-past, fill_end}
 use lib.ListN.{get_or-replicate}
 use lib.Ieee.{nan}
 use Rattle.floats.specs.Constants.{zero64}
@@ -19,16 +19,7 @@ use Rattle.held.proofs.values.extract_values.Goals.{then-d, else-d}
 
 pub loop-i-init : goal.loop-i-init
 unfolding enabled_of tab
-loop-i-init c = (record { passed = omega arith; counted = refl; stored = refl }, c.variable_count-count.ensures)
-
-pub offset_bounds-x-q : goal.offset_bounds-x-q
-offset_bounds-x-q c = omega (arith, counted-le c.loop-i.invariant.0, c.loop-i.invariant.1)
-
-pub bounds-x-q : goal.bounds-x-q
-bounds-x-q c = omega (arith, counted-le c.loop-i.invariant.0, c.loop-i.invariant.1)
-
-pub overflow_add-q : goal.overflow_add-q
-overflow_add-q c = omega (arith, counted-le c.loop-i.invariant.0, c.loop-i.invariant.1)
+loop-i-init c = (record { passed = omega arith; counted = refl; stored = refl }, c.variable_count-count.ensures, omega arith)
 
 pub loop-i-preserved : goal.loop-i-preserved
 loop-i-preserved c =
@@ -43,8 +34,9 @@ loop-i-preserved c =
       | then-d w ↦ (
         fill_more c.loop-i.invariant.0 _ _ _ refl (search rules) h (sym e ∙ w.if-d.true) (w.value_of.ensures ∙ y) w.x-is w.q-is,
         c.loop-i.invariant.1,
+        omega (arith, c.loop-i.invariant.2, w.q-is),
       )
-      | else-d w ↦ (fill-past c.loop-i.invariant.0 _ _ h (sym e ∙ w.if-d.false) w.x-is w.q-is, c.loop-i.invariant.1)
+      | else-d w ↦ (fill-past c.loop-i.invariant.0 _ _ h (sym e ∙ w.if-d.false) w.x-is w.q-is, c.loop-i.invariant.1, omega (arith, c.loop-i.invariant.2, w.q-is))
     ]
 
 pub returns : goal.returns

@@ -3,7 +3,7 @@ use Prim.Native.Nat.{ℕ, ◌+◌, ◌≤◌}
 use mathlib.Core.Path.{◌≡◌, refl, sym, ap, ◌∙◌}
 use native.Mathlib.Omega.{arith}
 use Rattle.variables.specs.Active.{enabled_of}
-use Rattle.variables.proofs.ActiveLaws.{count-le, count-more, count_past}
+use Rattle.variables.proofs.ActiveLaws.{count-more, count_past}
 use Rattle.variables.specs.declared.types.VariableDef.{VariableDef}
 use Rattle.held.specs.JobFrom.{variable_count_from, variables_from}
 use mathlib.Core.Logic.{inl, inr}
@@ -35,15 +35,6 @@ returns-then-p-q c =
       c.loop-i.invariant.0,
     )) (sym e ∙ c.if-d.true)
     (sym c.if-p-q.true ∙ c.loop-i.invariant.1))
-
-pub overflow_add-p : goal.overflow_add-p
-overflow_add-p c = let x = c.args in
-    omega (
-      arith,
-      c.loop-i.invariant.0,
-      count-le (variables_from x.self.now.counts x.self.now.numbers)
-          c.loop-i.i,
-    )
 
 pub loop-i-preserved : goal.loop-i-preserved
 loop-i-preserved c =
