@@ -3,12 +3,10 @@ ghost use Rattle.std.specs.Prelude.{◌≡◌, length};
 ghost use Rattle.bench.specs.Calls.{admit_number, admitted_bench, turn_number, turned_bench, scratch_after, fetch_number, fetched_result, release_number};
 ghost use Rattle.bench.specs.Calls.{released_bench, listing_of};
 ghost use Rattle.refusals.specs.Numbers.{answered};
-ghost use Rattle.held.specs.RowFrom.{Long};
 ghost use Rattle.records.specs.Exported.{admit_record_number, admitted_record_bench};
-ghost use Rattle.rowturns.specs.Parts.{held_of};
 
+use crate::lengths::row_long;
 use bench::{Bench, Finished};
-use held::{HeldJob, HeldRow};
 use jobs::JobRequest;
 use records::RequestRecord;
 use refusals::Refusal;
@@ -42,48 +40,6 @@ pub extern "C" fn admit_record(bench: &mut Bench, place: usize, asked: &RequestR
     refusals::answered(admit_asked(bench, place, *asked))
 }
 
-// Each array of a row is as long as its type says: for proofs alone, it does nothing.
-fn arrays_long(
-    words: &[u64; 13],
-    scalars: &[f64; 7],
-    job: &HeldJob,
-    surfaces: &[f64; 64],
-    jacobian: &[f64; 96],
-    values: &[f64; 12],
-    residuals: &[f64; 12],
-    plus_residuals: &[f64; 12],
-    params: &[f64; 8],
-    candidate: &[f64; 8],
-    best_surfaces: &[f64; 64],
-    best_values: &[f64; 12],
-    best_residuals: &[f64; 12],
-)
-    ensures { Long (held_of words.now scalars.now job.now surfaces.now jacobian.now values.now residuals.now
-        plus_residuals.now params.now candidate.now best_surfaces.now best_values.now best_residuals.now) }
-{
-    job.lengths();
-}
-
-fn row_long(row: &HeldRow)
-    ensures { Long row.now }
-{
-    arrays_long(
-        &row.words,
-        &row.scalars,
-        &row.job,
-        &row.surfaces,
-        &row.jacobian,
-        &row.values,
-        &row.residuals,
-        &row.plus_residuals,
-        &row.params,
-        &row.candidate,
-        &row.best_surfaces,
-        &row.best_values,
-        &row.best_residuals,
-    );
-}
-
 pub(crate) fn take_turn(bench: &mut Bench, place: usize, scratch: &mut [f64]) -> Result<(), Refusal>
     ensures { (answered result ≡ turn_number bench.old place (length scratch.old))
         × (bench.new ≡ turned_bench bench.old place (length scratch.old))
@@ -94,22 +50,7 @@ pub(crate) fn take_turn(bench: &mut Bench, place: usize, scratch: &mut [f64]) ->
     }
     let row = &mut bench.rows[place];
     row_long(row);
-    let done = rowturns::turn_parts(
-        &mut row.words,
-        &mut row.scalars,
-        &row.job,
-        &mut row.surfaces,
-        &mut row.jacobian,
-        &mut row.values,
-        &mut row.residuals,
-        &mut row.plus_residuals,
-        &mut row.params,
-        &mut row.candidate,
-        &mut row.best_surfaces,
-        &mut row.best_values,
-        &mut row.best_residuals,
-        scratch,
-    );
+    let done = rowturns::turn_row(row, scratch);
     row_long(row);
     done
 }

@@ -4,6 +4,7 @@
 
 mod dealings;
 mod empty;
+mod lengths;
 mod lent;
 mod play;
 mod types;

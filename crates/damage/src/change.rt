@@ -41,7 +41,7 @@ impl Change {
     {
         let mut r = *row;
         match self {
-            Change::Word(at, limit) => set(&mut r.words, at, past(limit.least(row), v)),
+            Change::Word(at, limit) => set(&mut r.head.words, at, past(limit.least(row), v)),
             Change::Count(at, step, limit) => {
                 set(
                     &mut r.job.counts,
@@ -57,24 +57,24 @@ impl Change {
                 set(&mut r.job.numbers, place(at, step, i), range.values()[v]);
             }
             Change::Surface(at, range) => {
-                set(&mut r.surfaces, place(at, 4, i), range.values()[v]);
+                set(&mut r.run.surfaces, place(at, 4, i), range.values()[v]);
             }
             Change::BestSurface(at, range) => {
-                set(&mut r.best_surfaces, place(at, 4, i), range.values()[v]);
+                set(&mut r.best.surfaces, place(at, 4, i), range.values()[v]);
             }
             Change::Crossed => cross(&mut r.job.numbers, place(places::VARIABLE_NUMBERS, 3, i)),
             Change::Sign => follow(&mut r.job.counts, i, past(3, v), 0),
             Change::Plus => {
-                let surface = past(row.job.counts[places::SURFACE_COUNT], v);
+                let surface = past(row.job.surface_count() as u64, v);
                 follow(&mut r.job.counts, i, 1, surface);
             }
             Change::Minus => follow(&mut r.job.counts, i, 2, 0),
             Change::NoFollower => {
-                let surface = past(row.job.counts[places::SURFACE_COUNT], v);
+                let surface = past(row.job.surface_count() as u64, v);
                 follow(&mut r.job.counts, i, 0, surface);
             }
             Change::Taken => leave_taken(&mut r, v),
-            Change::Emptied => set(&mut r.words, places::KIND, 0),
+            Change::Emptied => set(&mut r.head.words, places::KIND, 0),
         }
         r
     }
@@ -114,12 +114,12 @@ fn follow(counts: &mut [u64; 73], i: usize, sign: u64, surface: u64) {
 fn leave_taken(r: &mut HeldRow, v: usize) {
     match v {
         0 => {}
-        1 => r.words[places::GENERATOR] = 0,
-        2 => r.params = [f64::NAN; 8],
-        3 => r.jacobian = [f64::NAN; 96],
+        1 => r.head.words[places::GENERATOR] = 0,
+        2 => r.run.params = [f64::NAN; 8],
+        3 => r.run.jacobian = [f64::NAN; 96],
         _ => {
-            r.scalars[places::CURRENT_MERIT] = f64::NAN;
-            r.scalars[places::TEMPERATURE] = f64::NAN;
+            r.head.scalars[places::CURRENT_MERIT] = f64::NAN;
+            r.head.scalars[places::TEMPERATURE] = f64::NAN;
         }
     }
 }

@@ -1,5 +1,5 @@
 // Whole numbers: the least value of an entry that is damage, with all that are greater.
-use held::{HeldRow, places};
+use held::{HeldJob, HeldRow, methods, phases};
 
 #[derive(Clone, Copy)]
 pub(crate) enum Limit {
@@ -20,31 +20,32 @@ pub(crate) enum Limit {
 
 impl Limit {
     pub(crate) fn least(self, row: &HeldRow) -> u64 {
-        let kind = row.words[places::KIND];
+        let kind = row.head.kind();
+        let job = &row.job;
         match self {
             Limit::Is(least) => least,
-            Limit::Surfaces => row.job.counts[places::SURFACE_COUNT],
-            Limit::Slots => row.job.counts[places::SLOT_COUNT],
-            Limit::Enabled => enabled(row),
+            Limit::Surfaces => job.surface_count() as u64,
+            Limit::Slots => job.slot_count() as u64,
+            Limit::Enabled => enabled(job),
             Limit::Phase => match kind {
-                3 => 7,
-                _ => 5,
+                methods::ANNEALING => one_more(phases::WALK),
+                _ => one_more(phases::FINISHED),
             },
-            Limit::Turns => turns(row, kind),
+            Limit::Turns => turns(job, kind),
             Limit::Iteration => match kind {
-                3 => 26,
-                _ => one_more(row.job.counts[places::MAX_ITERATIONS]),
+                methods::ANNEALING => 26,
+                _ => one_more(job.max_iterations()),
             },
             Limit::Trial => match kind {
-                2 => one_more(row.job.counts[places::NUM_TRIALS]),
+                methods::MULTI_START => one_more(job.num_trials()),
                 _ => 1,
             },
             Limit::Cycle => match kind {
-                3 => row.job.counts[places::MAX_COOLING_CYCLES].max(1),
+                methods::ANNEALING => job.max_cooling_cycles().max(1),
                 _ => 1,
             },
             Limit::Step => match kind {
-                3 => row.job.counts[places::STEPS_PER_TEMPERATURE].max(1),
+                methods::ANNEALING => job.steps_per_temperature().max(1),
                 _ => 1,
             },
         }
@@ -56,30 +57,23 @@ fn one_more(x: u64) -> u64 {
 }
 
 // How many of the variables that there are are enabled.
-fn enabled(row: &HeldRow) -> u64 {
-    let count = row.job.counts[places::VARIABLE_COUNT];
-    let mut n: u64 = 0;
-    for i in 0..8 {
-        if (i as u64) < count && row.job.counts[places::VARIABLE_COUNTS + 5 * i + 2] == 1 {
-            n = one_more(n);
-        }
-    }
-    n
+fn enabled(job: &HeldJob) -> u64 {
+    let count = job.variable_count().min(8);
+    (0..count).filter(|i| job.variable_at(*i).enabled).count() as u64
 }
 
 // The job's bound on turns (01): of a damped run, multi-start, annealing.
-fn turns(row: &HeldRow, kind: u64) -> u64 {
-    let counts = &row.job.counts;
-    let a_step = enabled(row).wrapping_mul(2).wrapping_add(10);
-    let damped = one_more(counts[places::MAX_ITERATIONS].wrapping_mul(a_step));
+fn turns(job: &HeldJob, kind: u64) -> u64 {
+    let a_step = enabled(job).wrapping_mul(2).wrapping_add(10);
+    let damped = one_more(job.max_iterations().wrapping_mul(a_step));
     match kind {
-        3 => {
-            let steps = counts[places::MAX_COOLING_CYCLES].wrapping_mul(
-                counts[places::STEPS_PER_TEMPERATURE],
-            );
+        methods::ANNEALING => {
+            let steps = job
+                .max_cooling_cycles()
+                .wrapping_mul(job.steps_per_temperature());
             steps.wrapping_add(a_step.wrapping_mul(25)).wrapping_add(2)
         }
-        2 => one_more(counts[places::NUM_TRIALS]).wrapping_mul(damped),
+        methods::MULTI_START => one_more(job.num_trials()).wrapping_mul(damped),
         _ => damped,
     }
 }

@@ -1,5 +1,7 @@
 // Where a row has an entry in use.
-use held::{HeldRow, places};
+use held::{HeldJob, HeldRow, methods, phases};
+use merit::OperandType;
+use variables::VariableType;
 
 #[derive(Clone, Copy)]
 pub(crate) enum Uses {
@@ -30,62 +32,70 @@ pub(crate) enum Uses {
 impl Uses {
     // Whether the row has the entry at place i, and it bears on the job there.
     pub(crate) fn holds(self, row: &HeldRow, i: usize) -> bool {
-        let kind = row.words[places::KIND];
-        let phase = row.words[places::PHASE];
+        let job = &row.job;
+        let kind = row.head.kind();
+        let phase = row.head.phase();
         match self {
             Uses::Once => i == 0,
-            Uses::OnWay => i == 0 && phase != 4,
-            Uses::Damped => i == 0 && kind < 3,
-            Uses::MultiStart => i == 0 && kind == 2,
-            Uses::Annealing => i == 0 && kind == 3,
-            Uses::Variables => is_variable(row, i),
-            Uses::SemiDiameters => is_variable(row, i) && variable(row, i) == 3,
-            Uses::MinusVariables => is_variable(row, i) && variable(row, i) % 2 == 1,
-            Uses::Operands => is_operand(row, i),
-            Uses::SlotOperands => is_operand(row, i) && has_slot(operand(row, i)),
-            Uses::LimitedOperands => is_operand(row, i) && operand(row, i) > 4,
-            Uses::Indices => is_surface(row, i / 4) && is_slot(row, i % 4),
-            Uses::Surfaces => is_surface(row, i),
-            Uses::Current => is_surface(row, i) && (kind, phase) != (2, 4),
-            Uses::Best => is_surface(row, i) && has_best(kind, phase, row.words[places::TRIAL]),
+            Uses::OnWay => i == 0 && phase != phases::FINISHED,
+            Uses::Damped => i == 0 && kind != methods::ANNEALING,
+            Uses::MultiStart => i == 0 && kind == methods::MULTI_START,
+            Uses::Annealing => i == 0 && kind == methods::ANNEALING,
+            Uses::Variables => i < job.variable_count(),
+            Uses::SemiDiameters => i < job.variable_count() && is_semi_diameter(variable(job, i)),
+            Uses::MinusVariables => i < job.variable_count() && is_length(variable(job, i)),
+            Uses::Operands => i < job.operand_count(),
+            Uses::SlotOperands => i < job.operand_count() && has_slot(operand(job, i)),
+            Uses::LimitedOperands => i < job.operand_count() && has_limit(operand(job, i)),
+            Uses::Indices => i / 4 < job.surface_count() && i % 4 < job.slot_count(),
+            Uses::Surfaces => i < job.surface_count(),
+            Uses::Current => {
+                i < job.surface_count() && (kind, phase) != (methods::MULTI_START, phases::FINISHED)
+            }
+            Uses::Best => i < job.surface_count() && has_best(kind, phase, row.head.trial()),
         }
     }
 }
 
 fn has_best(kind: u64, phase: u64, trial: u64) -> bool {
     match (kind, phase) {
-        (2, 4) | (3, 6) => true,
-        (2, _) => trial > 0,
+        (methods::MULTI_START, phases::FINISHED) | (methods::ANNEALING, phases::WALK) => true,
+        (methods::MULTI_START, _) => trial > 0,
         _ => false,
     }
 }
 
-fn has_slot(operand: u64) -> bool {
-    operand < 5 && operand != 2
+// What variable i varies, of which there are eight at most.
+fn variable(job: &HeldJob, i: usize) -> VariableType {
+    job.variable_at(i % 8).var_type
 }
 
-fn is_surface(row: &HeldRow, i: usize) -> bool {
-    (i as u64) < row.job.counts[places::SURFACE_COUNT]
+fn is_semi_diameter(varied: VariableType) -> bool {
+    matches!(varied, VariableType::SemiDiameter(_))
 }
 
-fn is_slot(row: &HeldRow, i: usize) -> bool {
-    (i as u64) < row.job.counts[places::SLOT_COUNT]
+// A thickness too.
+fn is_length(varied: VariableType) -> bool {
+    matches!(
+        varied,
+        VariableType::Thickness(_) | VariableType::SemiDiameter(_)
+    )
 }
 
-fn is_variable(row: &HeldRow, i: usize) -> bool {
-    (i as u64) < row.job.counts[places::VARIABLE_COUNT]
+// The kind of operand i, of which there are twelve at most.
+fn operand(job: &HeldJob, i: usize) -> OperandType {
+    job.operand_at(i % 12).operand_type
 }
 
-fn is_operand(row: &HeldRow, i: usize) -> bool {
-    (i as u64) < row.job.counts[places::OPERAND_COUNT]
+fn has_slot(operand: OperandType) -> bool {
+    !has_limit(operand) && !matches!(operand, OperandType::TotalTrack)
 }
 
-// The kind of a variable, of which there are eight at most.
-fn variable(row: &HeldRow, i: usize) -> u64 {
-    row.job.counts[places::VARIABLE_COUNTS + 5 * (i % 8)]
-}
-
-// The kind of an operand, of which there are twelve at most.
-fn operand(row: &HeldRow, i: usize) -> u64 {
-    row.job.counts[places::OPERAND_COUNTS + 2 * (i % 12)]
+fn has_limit(operand: OperandType) -> bool {
+    matches!(
+        operand,
+        OperandType::MinCenterThickness { .. }
+            | OperandType::MaxCenterThickness { .. }
+            | OperandType::MinEdgeThickness { .. }
+    )
 }

@@ -7,4 +7,4 @@ returns-then-place-gt3 c = turn-past c.args.bench.now c.args.place c.if-place-gt
 
 pub returns : goal.returns
 returns c = turned-there c.args.bench.now c.args.place c.if-place-gt3.false c.args.scratch.now _ _ _ c.row_long.ensures c.row_long-2.ensures
-    c.turn_parts-done.ensures
+    c.turn_row-done.ensures
