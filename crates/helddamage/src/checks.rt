@@ -11,7 +11,7 @@ ghost use Rattle.jobs.specs.Records.{multi_start_config, method, known_variables
 ghost use Rattle.held.specs.JobFrom.{standing, surface_count_from, slot_count_from, variable_count_from, operand_count_from, settings_from, job_record_from};
 ghost use Rattle.held.specs.JobFrom.{held_job, prescription_from, variables_from, operands_from, variable_record_from, operand_record_from};
 
-use held::HeldJob;
+use held::{HeldJob, methods};
 use variables::VariableDef;
 
 #[tactic(auto, unfolding(jobs::specs::Checks::counts_taken))]
@@ -102,8 +102,8 @@ fn settings_taken(kind: u64, job: &HeldJob) -> bool
     ensures { result ≡ settings_taken (method kind (settings_from job.now.counts job.now.numbers)) }
 {
     match kind {
-        1 => jobs::dls_taken(job.dls_config()),
-        2 => multi_start_taken(job),
+        methods::DAMPED => jobs::dls_taken(job.dls_config()),
+        methods::MULTI_START => multi_start_taken(job),
         _ => jobs::annealing_taken(job.annealing_config()),
     }
 }

@@ -10,7 +10,7 @@ use Rattle.jobs.specs.Records.{operand_record_at}
 use Rattle.held.specs.EntryLaws.{operand-record}
 use Rattle.held.specs.JobFrom.{operand_count_from, slot_count_from, job_record_from, operand_record_from, operands_from}
 use Rattle.helddamage.specs.Verdicts.{all_both}
-use Rattle.helddamage.proofs.Ranged.{all-ranged}
+use Rattle.helddamage.specs.Ranged.{all-ranged}
 use Rattle.helddamage.proofs.checks.operands_taken.Goals as goal
 
 pub returns : goal.returns

@@ -6,7 +6,7 @@ use Rattle.lists.specs.All.{all_same}
 use Rattle.optics.specs.Check.{surface_taken}
 use Rattle.optics.specs.Types.{flat_surface}
 use Rattle.held.specs.Standing.{standing-at}
-use Rattle.helddamage.proofs.Ranged.{all-ranged}
+use Rattle.helddamage.specs.Ranged.{all-ranged}
 use Rattle.helddamage.proofs.checks.surfaces_taken.Goals as goal
 
 pub returns : goal.returns

@@ -10,7 +10,7 @@ use Rattle.jobs.specs.Records.{variable_record_at}
 use Rattle.held.specs.EntryLaws.{variable-record}
 use Rattle.held.specs.JobFrom.{surface_count_from, variable_count_from, job_record_from, variable_record_from, variables_from}
 use Rattle.helddamage.specs.Verdicts.{all_both}
-use Rattle.helddamage.proofs.Ranged.{all-ranged}
+use Rattle.helddamage.specs.Ranged.{all-ranged}
 use Rattle.helddamage.proofs.checks.variables_taken.Goals as goal
 
 pub returns : goal.returns

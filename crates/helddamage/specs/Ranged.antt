@@ -1,4 +1,4 @@
--- A test of each number below a count. Assumes nothing.
+-- A test of each number below a count, by an iterator over the range. Assumes nothing.
 use Rattle.std.specs.Prelude.{◌≡◌, Bool, ℕ, length, get_or}
 use Rattle.std.proofs.Common.{sym, ap, ◌∙◌, arith, zero-add}
 use Rattle.std.specs.List.{range_with_len, list_all}
