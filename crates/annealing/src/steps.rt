@@ -38,15 +38,14 @@ pub(crate) fn at_step(
         best: BestHead {
             initial_merit,
             final_merit: w.best_merit,
-            iterations: 0,
-            converged: 0,
+            ..BestHead::default()
         },
         generator: drawn.generator,
-        trial: 0,
         cycle: c,
         step: k,
         temperature: w.temp,
         current_merit: w.current_merit,
+        ..RowHead::default()
     }
 }
 
@@ -65,15 +64,8 @@ pub(crate) fn at_polish(initial_merit: f64, run: &mut HeldRun, best: &mut HeldBe
         damped,
         best: BestHead {
             initial_merit,
-            final_merit: 0.0,
-            iterations: 0,
-            converged: 0,
+            ..BestHead::default()
         },
-        generator: 0,
-        trial: 0,
-        cycle: 0,
-        step: 0,
-        temperature: 0.0,
-        current_merit: 0.0,
+        ..RowHead::default()
     }
 }

@@ -6,6 +6,7 @@ use bench::Bench;
 use held::HeldRow;
 use jobs::JobRequest;
 use optics::OpticalSurface;
+use refusals::Refusal;
 use runs::OptimizationResult;
 
 pub(crate) fn is_right(case: &Case, changed: HeldRow, change: Change) -> bool {
@@ -17,32 +18,40 @@ pub(crate) fn is_right(case: &Case, changed: HeldRow, change: Change) -> bool {
     }
 }
 
-// A turn and a fetch give the number and change nothing, and the place is not listed.
-fn is_out(bench: &Bench, place: usize, number: u32) -> bool {
-    turn_number(bench, place) == Some(number)
-        && fetch_number(bench, place) == Some(number)
+// A turn and a fetch are refused so and change nothing, and the place is not listed.
+fn is_out(bench: &Bench, place: usize, refusal: Refusal) -> bool {
+    let number = Some(refusal.number());
+    turn_number(bench, place) == number
+        && fetch_number(bench, place) == number
         && lists_others(bench, place)
 }
 
-// Whether an admission answers the number and leaves that bench.
-fn admits(bench: &Bench, place: usize, request: JobRequest, number: u32, after: &Bench) -> bool {
+// Whether an admission answers this and leaves that bench.
+fn admits(
+    bench: &Bench,
+    place: usize,
+    request: JobRequest,
+    wanted: Result<(), Refusal>,
+    after: &Bench,
+) -> bool {
     let mut left = *bench;
     let answer = benchcalls::admit(&mut left, place, request);
-    refusals::answered(answer) == number && same::same_benches(&left, after)
+    refusals::answered(answer) == refusals::answered(wanted) && same::same_benches(&left, after)
 }
 
 // The same of a release.
-fn releases(bench: &Bench, place: usize, number: u32, after: &Bench) -> bool {
+fn releases(bench: &Bench, place: usize, wanted: Result<(), Refusal>, after: &Bench) -> bool {
     let mut left = *bench;
-    benchcalls::release(&mut left, place) == number && same::same_benches(&left, after)
+    benchcalls::release(&mut left, place) == refusals::answered(wanted)
+        && same::same_benches(&left, after)
 }
 
 // Damage: a turn and a fetch give 12, an admission 10, the place is not listed, and a release empties it.
 fn is_refused(bench: &Bench, place: usize, request: JobRequest) -> bool {
     let zero = benchcalls::empty_bench().rows[0];
-    is_out(bench, place, 12)
-        && admits(bench, place, request, 10, bench)
-        && releases(bench, place, 0, &with_row(bench, place, zero))
+    is_out(bench, place, Refusal::Damaged)
+        && admits(bench, place, request, Err(Refusal::Taken), bench)
+        && releases(bench, place, Ok(()), &with_row(bench, place, zero))
         && deals::refuses(bench)
 }
 
@@ -52,19 +61,30 @@ fn is_empty(bench: &Bench, place: usize, request: JobRequest) -> bool {
     let is_admitted = benchcalls::admit(&mut admitted, place, request).is_ok();
     let fresh = admitted.rows[place % 4];
     is_admitted
-        && is_out(bench, place, 11)
-        && releases(bench, place, 11, bench)
-        && admits(bench, place, request, 0, &with_row(bench, place, fresh))
+        && is_out(bench, place, Refusal::Empty)
+        && releases(bench, place, Err(Refusal::Empty), bench)
+        && admits(
+            bench,
+            place,
+            request,
+            Ok(()),
+            &with_row(bench, place, fresh),
+        )
         && deals::deals_none(bench)
 }
 
 // No damage: a place is at its end or not, and all calls say the same of it.
 fn is_taken(bench: &Bench, place: usize) -> bool {
     let count = finished::listed(bench).count;
-    let agree = match (turn_number(bench, place), fetch_number(bench, place)) {
-        (Some(0), Some(14)) => count == 3 && deals::serves(bench, place),
-        (Some(13), Some(0)) => count == 4 && deals::deals_none(bench),
-        _ => false,
+    let turn = turn_number(bench, place);
+    let fetch = fetch_number(bench, place);
+    let agree = if turn == Some(0) {
+        fetch == Some(Refusal::Unfinished.number()) && count == 3 && deals::serves(bench, place)
+    } else {
+        turn == Some(Refusal::Finished.number())
+            && fetch == Some(0)
+            && count == 4
+            && deals::deals_none(bench)
     };
     agree && deals::refuses_past(bench)
 }

@@ -17,14 +17,8 @@ pub fn holding(phase: u64, run: &mut HeldRun) -> Head
     run.residuals = [0.0; 12];
     run.plus_residuals = [0.0; 12];
     Head {
-        total_merit: 0.0,
-        initial_merit: 0.0,
-        damping: 0.0,
         phase,
-        iteration: 0,
-        column: 0,
-        attempt: 0,
-        converged: 0,
+        ..Head::default()
     }
 }
 

@@ -50,7 +50,7 @@ pub struct HeldRow {
 
 // The numbers of a damped run that go by value; its arrays are lent.
 #[repr(C)]
-#[derive(Clone, Copy)]
+#[derive(Clone, Copy, Default)]
 pub struct Head {
     pub total_merit: f64,
     pub initial_merit: f64,
@@ -65,7 +65,7 @@ pub struct Head {
 
 // Those of the best result.
 #[repr(C)]
-#[derive(Clone, Copy)]
+#[derive(Clone, Copy, Default)]
 pub struct BestHead {
     pub initial_merit: f64,
     pub final_merit: f64,
@@ -75,7 +75,7 @@ pub struct BestHead {
 
 // Those of a run's state.
 #[repr(C)]
-#[derive(Clone, Copy)]
+#[derive(Clone, Copy, Default)]
 pub struct RowHead {
     pub damped: Head,
     pub best: BestHead,

@@ -1,16 +1,17 @@
 // A held job and surfaces laid flat, as admission to an empty place would check them.
-ghost use Rattle.std.specs.Prelude.{◌≡◌, true, ◌&&◌, List, ℕ, ◌≤◌, Float, length};
+ghost use Rattle.std.specs.Prelude.{◌≡◌, true, ◌&&◌, List, ℕ, ◌<◌, ◌≤◌, Float, length};
 ghost use Rattle.optics.specs.Check.{surfaces_taken, lens_taken};
-ghost use Rattle.variables.specs.Active.{num_active};
+ghost use Rattle.variables.specs.Active.{num_active, variable_at};
 ghost use Rattle.variables.specs.Taken.{variable_taken, variables_taken, follower_taken, followers_taken};
-ghost use Rattle.merit.specs.Check.{operands_taken};
+ghost use Rattle.merit.specs.Check.{operand_taken, operands_taken};
+ghost use Rattle.merit.specs.OperandTable.{operand_at};
 ghost use Rattle.jobs.specs.Checks.{multi_start_taken, settings_taken, counts_taken, record_taken};
+ghost use Rattle.jobs.specs.Entries.{variable_known, operand_known};
 ghost use Rattle.jobs.specs.Records.{multi_start_config, method, known_variables, known_operands};
 ghost use Rattle.held.specs.JobFrom.{standing, surface_count_from, slot_count_from, variable_count_from, operand_count_from, settings_from, job_record_from};
-ghost use Rattle.held.specs.JobFrom.{held_job};
-ghost use Rattle.held.specs.JobFrom.{prescription_from, variables_from, operands_from};
+ghost use Rattle.held.specs.JobFrom.{held_job, prescription_from, variables_from, operands_from, variable_record_from, operand_record_from};
 
-use held::HeldJob;
+use held::{HeldJob, methods};
 use variables::VariableDef;
 
 #[tactic(auto, unfolding(jobs::specs::Checks::counts_taken))]
@@ -27,12 +28,7 @@ pub(crate) fn surfaces_taken(flat: &[f64], count: usize) -> bool
     requires { (count ≤ 16) × (64 ≤ length flat.now) }
     ensures { result ≡ surfaces_taken (standing flat.now) count }
 {
-    for i in 0..count {
-        if !optics::surface_taken(optics::surface_at(flat, i)) {
-            return false;
-        }
-    }
-    true
+    (0..count).all(|i| optics::surface_taken(optics::surface_at(flat, i)))
 }
 
 // Check 3 on the lens.
@@ -55,7 +51,16 @@ fn variable_taken(d: VariableDef, surfaces: usize) -> bool
         && variables::follower_taken(d.var_type, d.follower, surfaces)
 }
 
-// Checks 4 and 17, and that every kind, mark and sign is one that there is.
+// These, and that the variable's kind, mark and sign are ones that there are.
+fn variable_sound(job: &HeldJob, i: usize, surfaces: usize) -> bool
+    requires { i < 8 }
+    ensures { let d = variable_at (variables_from job.now.counts job.now.numbers) i in
+        result ≡ variable_taken surfaces d && follower_taken surfaces d.var_type d.follower
+        && variable_known (variable_record_from job.now.counts job.now.numbers i) }
+{
+    variable_taken(job.variable_at(i), surfaces) && job.variable_known(i)
+}
+
 fn variables_taken(job: &HeldJob) -> bool
     requires { variable_count_from job.now.counts ≤ 8 }
     ensures { result ≡ variables_taken (surface_count_from job.now.counts) (variables_from job.now.counts job.now.numbers)
@@ -63,37 +68,25 @@ fn variables_taken(job: &HeldJob) -> bool
         && known_variables (job_record_from job.now.counts job.now.numbers) }
 {
     let surfaces = job.surface_count();
-    let count = job.variable_count();
-    for i in 0..count {
-        if !job.variable_known(i) {
-            return false;
-        }
-        let d = job.variable_at(i);
-        if !variable_taken(d, surfaces) {
-            return false;
-        }
-    }
-    true
+    (0..job.variable_count()).all(|i| variable_sound(job, i, surfaces))
 }
 
-// Check 5, and that every kind is one that there is.
+// Check 5 on one operand, and that its kind is one that there is.
+fn operand_sound(job: &HeldJob, n: usize, slots: usize) -> bool
+    requires { n < 12 }
+    ensures { result ≡ operand_taken slots (operand_at (operands_from job.now.counts job.now.numbers) n)
+        && operand_known (operand_record_from job.now.counts job.now.numbers n) }
+{
+    meritcalls::operand_taken(slots, job.operand_at(n)) && job.operand_known(n)
+}
+
 fn operands_taken(job: &HeldJob) -> bool
     requires { operand_count_from job.now.counts ≤ 12 }
     ensures { result ≡ operands_taken (slot_count_from job.now.counts) (operands_from job.now.counts job.now.numbers)
         && known_operands (job_record_from job.now.counts job.now.numbers) }
 {
     let slots = job.slot_count();
-    let many = job.operand_count();
-    for n in 0..many {
-        if !job.operand_known(n) {
-            return false;
-        }
-        let o = job.operand_at(n);
-        if !meritcalls::operand_taken(slots, o) {
-            return false;
-        }
-    }
-    true
+    (0..job.operand_count()).all(|n| operand_sound(job, n, slots))
 }
 
 #[tactic(auto, unfolding(jobs::specs::Checks::multi_start_taken))]
@@ -109,8 +102,8 @@ fn settings_taken(kind: u64, job: &HeldJob) -> bool
     ensures { result ≡ settings_taken (method kind (settings_from job.now.counts job.now.numbers)) }
 {
     match kind {
-        1 => jobs::dls_taken(job.dls_config()),
-        2 => multi_start_taken(job),
+        methods::DAMPED => jobs::dls_taken(job.dls_config()),
+        methods::MULTI_START => multi_start_taken(job),
         _ => jobs::annealing_taken(job.annealing_config()),
     }
 }

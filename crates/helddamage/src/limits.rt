@@ -9,15 +9,15 @@ ghost use Rattle.kinds.specs.Phases.{StateInPhase};
 ghost use Rattle.kinds.specs.Limits.{CountsWithin};
 ghost use Rattle.held.specs.JobFrom.{settings_from};
 
-use held::HeldJob;
+use held::{HeldJob, methods, phases};
 
 #[tactic(auto, unfolding(jobs::specs::Records::method))]
 pub(crate) fn last_phase(kind: u64) -> u64
     ensures { (s : SettingsRecord) → result ≡ last_phase (method kind s) }
 {
     match kind {
-        1 | 2 => 4,
-        _ => 6,
+        methods::DAMPED | methods::MULTI_START => phases::FINISHED,
+        _ => phases::WALK,
     }
 }
 
@@ -26,7 +26,7 @@ pub fn is_over(kind: u64, phase: u64) -> bool
     ensures { (c : SettingsRecord) → StateInPhase phase (λ s. result ≡ finished_by (method kind c) s) }
 {
     match kind {
-        1 | 2 => kinds::damped_over(phase),
+        methods::DAMPED | methods::MULTI_START => kinds::damped_over(phase),
         _ => kinds::annealing_over(phase),
     }
 }
@@ -37,8 +37,8 @@ pub(crate) fn uses_current(kind: u64, phase: u64) -> bool
     ensures { (c : SettingsRecord) → StateInPhase phase (λ s. result ≡ uses_current (method kind c) s) }
 {
     match kind {
-        1 => true,
-        2 => !kinds::damped_over(phase),
+        methods::DAMPED => true,
+        methods::MULTI_START => !kinds::damped_over(phase),
         _ => true,
     }
 }
@@ -49,9 +49,9 @@ pub(crate) fn uses_best(kind: u64, phase: u64, trial: u64) -> bool
     ensures { (c : SettingsRecord) → StateInPhase phase (λ s. s.trial ≡ trial → result ≡ uses_best (method kind c) s) }
 {
     match kind {
-        1 => false,
-        2 => 0 < trial || kinds::damped_over(phase),
-        _ => phase == 6,
+        methods::DAMPED => false,
+        methods::MULTI_START => 0 < trial || kinds::damped_over(phase),
+        _ => phase == phases::WALK,
     }
 }
 
@@ -72,13 +72,13 @@ pub(crate) fn counter_limits(kind: u64, job: &HeldJob) -> CounterLimits
     ensures step { (numbers : List Float) → result.step ≡ step_limit (method kind (settings_from job.now.counts numbers)) }
 {
     match kind {
-        1 => CounterLimits {
+        methods::DAMPED => CounterLimits {
             iteration: job.max_iterations(),
             trial: 0,
             cycle: 0,
             step: 0,
         },
-        2 => CounterLimits {
+        methods::MULTI_START => CounterLimits {
             iteration: job.max_iterations(),
             trial: job.num_trials(),
             cycle: 0,
@@ -100,8 +100,8 @@ pub(crate) fn bound(kind: u64, job: &HeldJob, p: u64) -> u64
     ensures { (numbers : List Float) → result ≡ bound_by (method kind (settings_from job.now.counts numbers)) p }
 {
     match kind {
-        1 => kinds::damped_bound(job.max_iterations(), p),
-        2 => kinds::multi_start_bound(job.num_trials(), job.max_iterations(), p),
+        methods::DAMPED => kinds::damped_bound(job.max_iterations(), p),
+        methods::MULTI_START => kinds::multi_start_bound(job.num_trials(), job.max_iterations(), p),
         _ => kinds::annealing_bound(job.max_cooling_cycles(), job.steps_per_temperature(), p),
     }
 }

@@ -47,8 +47,8 @@ fn lay_operand(o: OperandRecord, n: usize, job: &mut HeldJob)
     job.numbers[real + 2] = o.weight;
 }
 
-// Behind what stands in front of the variables. Like lay_operands, but over other places of both arrays with parts of other lengths:
-// one function for both would be handed the part's writer and its places, and say more than the two.
+// Behind what stands in front of the variables. Like lay_operands, but each is one line of code: one function for both would be handed both writers' places,
+// parts and entries for none by a trait, with laws that the parts lie side by side, and the proofs would stand in its impls.
 fn lay_variables(records: [VariableRecord; 8], job: &mut HeldJob)
     ensures { (take (operand_kind_at 0) job.new.counts ≡ take (variable_kind_at 0) job.old.counts ++ in_turn
         (λ (i : ℕ). variable_counts (get_or records i no_variable_record)) 8)
@@ -56,8 +56,8 @@ fn lay_variables(records: [VariableRecord; 8], job: &mut HeldJob)
         (λ (i : ℕ). variable_numbers (get_or records i no_variable_record)) 8) }
 {
     job.lengths();
-    for i in 0..8 {
-        lay_variable(records[i], i, job);
+    for (i, record) in records.iter().enumerate() {
+        lay_variable(*record, i, job);
     }
 }
 
@@ -67,8 +67,8 @@ fn lay_operands(records: [OperandRecord; 12], job: &mut HeldJob)
         × (job.new.numbers ≡ take (limit_at 0) job.old.numbers ++ in_turn (λ (n : ℕ). operand_numbers (get_or records n no_operand_record)) 12) }
 {
     job.lengths();
-    for n in 0..12 {
-        lay_operand(records[n], n, job);
+    for (n, record) in records.iter().enumerate() {
+        lay_operand(*record, n, job);
     }
 }
 

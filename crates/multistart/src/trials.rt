@@ -44,12 +44,7 @@ fn ended(best: BestHead, run: &mut HeldRun) -> RowHead
     RowHead {
         damped,
         best,
-        generator: 0,
-        trial: 0,
-        cycle: 0,
-        step: 0,
-        temperature: 0.0,
-        current_merit: 0.0,
+        ..RowHead::default()
     }
 }
 
@@ -77,10 +72,7 @@ fn resume_trials(
             best,
             generator: next,
             trial: trial + 1,
-            cycle: 0,
-            step: 0,
-            temperature: 0.0,
-            current_merit: 0.0,
+            ..RowHead::default()
         };
     }
     ended(best, run)

@@ -4,6 +4,7 @@ ghost use Rattle.records.specs.Requests.{is_given, dls_request, multi_start_requ
 ghost use Rattle.records.specs.Requests.{method_request, request_of, is_request};
 
 use crate::types::RequestRecord;
+use held::methods;
 use jobs::{
     DlsRequest, JobRequest, MethodRequest, MultiStartRequest, SettingsRecord,
     SimulatedAnnealingRequest,
@@ -58,8 +59,8 @@ fn method_request(kind: u64, s: SettingsRecord, given: u64) -> MethodRequest
     ensures { result ≡ method_request kind s given }
 {
     match kind {
-        1 => MethodRequest::Damped(dls_request(s, given)),
-        2 => MethodRequest::MultiStart(multi_start_request(s, given)),
+        methods::DAMPED => MethodRequest::Damped(dls_request(s, given)),
+        methods::MULTI_START => MethodRequest::MultiStart(multi_start_request(s, given)),
         _ => MethodRequest::Annealing(annealing_request(s, given)),
     }
 }

@@ -12,7 +12,7 @@ ghost use Rattle.draws.specs.Parts.{ForAnnealer};
 use held::{HeldBest, HeldJob, HeldRun, RowHead, methods, phases};
 
 // Annealing: the base, a step's trial, or the polish's.
-#[tactic(auto, unfolding(runs::specs::AnnealingRow::pending, runs::specs::AnnealingRow::pending_at, runs::specs::AnnealingRow::phase_of, runs::specs::AnnealingRun::trial_presc))]
+#[tactic(auto, unfolding(runs::specs::AnnealingRow::pending, runs::specs::AnnealingRow::pending_at, runs::specs::AnnealingRow::phase_of))]
 fn pending_annealing(h: RowHead, job: &HeldJob, run: &HeldRun, flat: &mut [f64])
     requires fact_1 { variable_count_from job.now.counts ≤ 8 }
     requires fact_2 { h.damped.column < num_active (variables_from job.now.counts job.now.numbers) }

@@ -1,4 +1,4 @@
--- `annealing::judging::judged` meets its contract: no draw where the merit did not rise. The check finds this answer too; with it a draw there is refused as one.
+-- `annealing::judging::judged` meets its contract. The check finds this answer too; with it a draw where the merit did not rise is refused as one.
 use mathlib.Core.Path.{◌∙◌}
 use Rattle.runs.specs.AnnealingRun.{judged, if_not_risen}
 use Rattle.annealing.proofs.judging.judged.Goals as goal

@@ -1,27 +1,24 @@
--- `dealing::checks::has_damaged` meets its contract. The loop's invariant: no row passed is taken and damaged. Assumes nothing.
-use Rattle.std.proofs.Common.{◌≡◌, Bool, ℕ, not, ap, arith, rules, sym, ◌∙◌}
-use Rattle.lists.specs.All.{all_below, all_more, not-all}
-use Rattle.bench.specs.declared.types.Bench.{Bench}
+-- `dealing::checks::has_damaged` meets its contract. Assumes nothing.
+use Rattle.std.proofs.Common.{◌≡◌, refl, Bool, true, false, not, ◌&&◌, ◌||◌, ℕ, List, [], ◌∷◌, ap, ◌∙◌, rules, tests}
+use Rattle.std.specs.List.{range_with_len, list_all, list_any}
+use Rattle.std.proofs.lemmas.Iterator.{YieldsList-from_range}
+use Rattle.std.proofs.lemmas.Iterator.Search.{any_from_yields_List}
 use Rattle.bench.specs.Benches.{row_at}
 use Rattle.bench.specs.Calls.{taken_damaged}
+use Rattle.helddamage.specs.Ranged.{all-ranged}
 use Rattle.dealing.proofs.checks.has_damaged.Goals as goal
 
-abbrev sound : Bench → ℕ → Bool
-sound b place = not (taken_damaged (row_at b place))
-
-pub loop-place-init : goal.loop-place-init
-unfolding all_below
-loop-place-init c = search rules
-
-pub returns-then-is_damaged : goal.returns-then-is_damaged
-returns-then-is_damaged c =
-    sym (ap not (not-all (sound c.args.bench.now) 4 c.loop-place.place (omega arith) (ap not (sym c.is_damaged.ensures ∙ c.if-is_damaged.true))))
-
-pub loop-place-preserved : goal.loop-place-preserved
-loop-place-preserved c =
-    all_more (sound c.args.bench.now) c.loop-place.place c.loop-place.invariant (ap not (sym c.is_damaged.ensures ∙ c.if-is_damaged.false))
+any-not-all : (t : ℕ → Bool) (l : List ℕ) → list_any t l ≡ not (list_all (λ x. not (t x)) l)
+any-not-all t [] = refl
+any-not-all t (x ∷ l) = (λ i. t x || any-not-all t l i) ∙ either (t x) (list_all (λ x. not (t x)) l)
+  where
+    either : (a b : Bool) → a || not b ≡ not (not a && b)
+    either true b = refl
+    either false b = refl
 
 pub returns : goal.returns
 returns c =
-    let e : c.loop-place.place ≡ 4 = omega arith in
-    sym (ap not (rw e at c.loop-place.invariant))
+    let damaged = λ (place : ℕ). taken_damaged (row_at c.args.bench.now place) in
+    any_from_yields_List damaged _ _ _ c.any.ensures.ran (YieldsList-from_range 0 4 4 refl refl) (λ x b q k. search (rules, tests))
+    ∙ any-not-all damaged (range_with_len 0 4)
+    ∙ ap not (all-ranged (λ place. not (damaged place)) 4)

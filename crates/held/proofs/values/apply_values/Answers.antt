@@ -18,7 +18,8 @@ use Rattle.held.proofs.values.apply_values.Goals.{then-d, else-d}
 
 pub loop-i-init : goal.loop-i-init
 unfolding enabled_of applied_to
-loop-i-init c = (record { passed = omega arith; counted = refl; stored = refl }, c.variable_count-count.ensures, record { long = refl; rest = refl }, omega arith)
+loop-i-init c =
+    (record { passed = omega arith; counted = refl; stored = refl }, c.variable_count-count.ensures, record { long = refl; rest = refl }, omega arith)
 
 pub loop-i-preserved : goal.loop-i-preserved
 loop-i-preserved c =

@@ -36,7 +36,11 @@ loop-i-preserved c =
         c.loop-i.invariant.1,
         omega (arith, c.loop-i.invariant.2, w.q-is),
       )
-      | else-d w ↦ (fill-past c.loop-i.invariant.0 _ _ h (sym e ∙ w.if-d.false) w.x-is w.q-is, c.loop-i.invariant.1, omega (arith, c.loop-i.invariant.2, w.q-is))
+      | else-d w ↦ (
+        fill-past c.loop-i.invariant.0 _ _ h (sym e ∙ w.if-d.false) w.x-is w.q-is,
+        c.loop-i.invariant.1,
+        omega (arith, c.loop-i.invariant.2, w.q-is),
+      )
     ]
 
 pub returns : goal.returns

@@ -1,31 +1,19 @@
--- `helddamage::checks::surfaces_taken` meets its contract: the loop's invariant: every surface passed is taken. Assumes nothing.
-use mathlib.Core.Path.{sym, ap, ◌∙◌}
-use mathlib.Core.Path.{refl}
-use Prim.Native.Nat.{ℕ}
-use native.Mathlib.Omega.{arith}
-use Rattle.lists.specs.All.{all_below, all_more, not-all}
+-- `helddamage::checks::surfaces_taken` meets its contract. Assumes nothing.
+use Rattle.std.proofs.Common.{ℕ, refl, sym, ap, ◌∙◌, arith, rules, tests}
+use Rattle.std.proofs.lemmas.Iterator.{YieldsList-from_range}
+use Rattle.std.proofs.lemmas.Iterator.Search.{all_from_yields_List}
+use Rattle.lists.specs.All.{all_same}
 use Rattle.optics.specs.Check.{surface_taken}
-use Rattle.optics.specs.Types.{surface_at}
-use Rattle.held.specs.JobFrom.{standing}
+use Rattle.optics.specs.Types.{flat_surface}
 use Rattle.held.specs.Standing.{standing-at}
+use Rattle.helddamage.specs.Ranged.{all-ranged}
 use Rattle.helddamage.proofs.checks.surfaces_taken.Goals as goal
 
-pub loop-i-init : goal.loop-i-init
-unfolding all_below
-loop-i-init c = refl
-
-pub returns-then-not-surface_taken : goal.returns-then-not-surface_taken
-returns-then-not-surface_taken c =
-    let a = c.args in
-    let is = ap surface_taken (c.surface_at.ensures
-    ∙ sym (standing-at a.flat.now c.loop-i.i (omega arith))) in
-    sym (not-all (λ (k : ℕ). surface_taken (surface_at (standing a.flat.now) k)) a.count c.loop-i.i
-    c.loop-i-test.true (sym (c.surface_taken.ensures ∙ is) ∙ c.if-not-surface_taken.true))
-
-pub loop-i-preserved : goal.loop-i-preserved
-loop-i-preserved c =
-    let a = c.args in
-    let is = ap surface_taken (c.surface_at.ensures
-    ∙ sym (standing-at a.flat.now c.loop-i.i (omega arith))) in
-    all_more (λ (k : ℕ). surface_taken (surface_at (standing a.flat.now) k)) c.loop-i.i
-    c.loop-i.invariant (sym (c.surface_taken.ensures ∙ is) ∙ c.if-not-surface_taken.false)
+pub returns : goal.returns
+returns c =
+    let flat = c.args.flat.now in
+    let n = c.args.count in
+    all_from_yields_List (λ (i : ℕ). surface_taken (flat_surface flat i)) _ _ _ c.all.ensures.ran
+    (YieldsList-from_range 0 n n refl (omega arith)) (λ x b q k. search (rules, tests))
+    ∙ all-ranged _ n
+    ∙ all_same _ _ n (λ i h. ap surface_taken (sym (standing-at flat i (omega arith))))

@@ -25,66 +25,66 @@ not_below a b = grind (arith, leb_tells b a, leb_tells (suc a) b)
 
 pub returns-then-not-is_kind : goal.returns-then-not-is_kind
 returns-then-not-is_kind c =
-    let a = c.args in
+    let r = c.args.row.now in
     let kind = ap is_kind (sym c.kind-kind.ensures) ∙ sym c.is_kind.ensures in
     elim c.then-not-is_kind.branch [
-      | then-not-is_kind-via-then-not-is_kind w ↦ sym (no_kind a.row.now (kind ∙ w.if-not-is_kind.true))
+      | then-not-is_kind-via-then-not-is_kind w ↦ sym (no_kind r (kind ∙ w.if-not-is_kind.true))
       | then-not-is_kind-via-else-not-is_kind+then-not-counts_taken w ↦
-          let counted = sym (w.counts_taken.ensures a.row.now.job.numbers (kind_from a.row.now.head.words)) ∙ w.if-not-counts_taken.true in
-          sym (no-job a.row.now (kind ∙ w.if-not-is_kind.false)
-          (counts-refused a.row.now.job.counts a.row.now.job.numbers (kind_from a.row.now.head.words) counted))
+          let counted = sym (w.counts_taken.ensures r.job.numbers (kind_from r.head.words)) ∙ w.if-not-counts_taken.true in
+          sym (no-job r (kind ∙ w.if-not-is_kind.false)
+          (counts-refused r.job.counts r.job.numbers (kind_from r.head.words) counted))
     ]
 
 pub num_active-p-requires : goal.num_active-p-requires
-num_active-p-requires c = let a = c.args in
-    let n = counts (held_job a.row.now.job.counts a.row.now.job.numbers 0) (sym (c.counts_taken.ensures a.row.now.job.numbers 0) ∙ c.if-not-counts_taken.false) in
+num_active-p-requires c = let r = c.args.row.now in
+    let n = counts (held_job r.job.counts r.job.numbers 0) (sym (c.counts_taken.ensures r.job.numbers 0) ∙ c.if-not-counts_taken.false) in
     n.variables
 
 pub job_taken-requires : goal.job_taken-requires
-job_taken-requires c = let a = c.args in (
-  sym (c.counts_taken.ensures a.row.now.job.numbers c.kind-kind.result)
+job_taken-requires c = let r = c.args.row.now in (
+  sym (c.counts_taken.ensures r.job.numbers c.kind-kind.result)
       ∙ c.if-not-counts_taken.false,
   c.num_active-p.ensures,
 )
 
 pub bound-requires : goal.bound-requires
 bound-requires c =
-    let a = c.args in
+    let r = c.args.row.now in
     let k = c.kind-kind.result in
-    let n = counts (held_job a.row.now.job.counts a.row.now.job.numbers 0)
-    (sym (c.counts_taken.ensures a.row.now.job.numbers 0)
+    let n = counts (held_job r.job.counts r.job.numbers 0)
+    (sym (c.counts_taken.ensures r.job.numbers 0)
     ∙ c.if-not-counts_taken.false) in
     let job =
     sym c.job_taken.ensures
     ∙ c.if-not-job_taken.false in
-    let w = taken-within (held_job a.row.now.job.counts a.row.now.job.numbers k)
-    ((and-eq-true_iff (job_taken (held_job a.row.now.job.counts a.row.now.job.numbers k))
-    (known_kinds (job_record_from a.row.now.job.counts a.row.now.job.numbers))).0 job).0 in (
-      λ numbers. within-any a.row.now.job.counts a.row.now.job.numbers numbers k w.counts,
+    let w = taken-within (held_job r.job.counts r.job.numbers k)
+    ((and-eq-true_iff (job_taken (held_job r.job.counts r.job.numbers k))
+    (known_kinds (job_record_from r.job.counts r.job.numbers))).0 job).0 in (
+      λ numbers. within-any r.job.counts r.job.numbers numbers k w.counts,
       omega (
         arith,
         c.num_active-p.ensures,
         n.variables,
-        count-le (variables_from a.row.now.job.counts a.row.now.job.numbers) (variable_count_from a.row.now.job.counts),
+        count-le (variables_from r.job.counts r.job.numbers) (variable_count_from r.job.counts),
       ),
     )
 
 pub returns-then-not-is_over : goal.returns-then-not-is_over
 unfolding Rows.bound
 returns-then-not-is_over c =
-    let a = c.args in
+    let r = c.args.row.now in
     let kind = ap is_kind (sym c.kind-kind.ensures) ∙ sym c.is_kind.ensures ∙ c.if-not-is_kind.false in
-    let job = ap (λ (k : ℕ). record_taken k (job_record_from a.row.now.job.counts a.row.now.job.numbers)) (sym c.kind-kind.ensures)
+    let job = ap (λ (k : ℕ). record_taken k (job_record_from r.job.counts r.job.numbers)) (sym c.kind-kind.ensures)
     ∙ sym c.job_taken.ensures ∙ c.if-not-job_taken.false in
     let state = sym (c.state_sound.ensures c.num_active-p.ensures) ∙ c.if-not-state_sound.false in
     let over =
-    sym (c.is_over.ensures (settings_from a.row.now.job.counts a.row.now.job.numbers)
-    (held_state a.row.now) (sym c.phase.ensures)
-    ∙ ap (λ (k : ℕ). finished_by (method k (settings_from a.row.now.job.counts a.row.now.job.numbers))
-    (held_state a.row.now)) c.kind-kind.ensures)
+    sym (c.is_over.ensures (settings_from r.job.counts r.job.numbers)
+    (held_state r) (sym c.phase.ensures)
+    ∙ ap (λ (k : ℕ). finished_by (method k (settings_from r.job.counts r.job.numbers))
+    (held_state r)) c.kind-kind.ensures)
     ∙ c.if-not-is_over.true in
     let limit =
-    c.bound.ensures a.row.now.job.numbers
-    ∙ (λ i. bound_by (method (c.kind-kind.ensures i) (settings_from a.row.now.job.counts a.row.now.job.numbers)) (c.num_active-p.ensures i)) in
+    c.bound.ensures r.job.numbers
+    ∙ (λ i. bound_by (method (c.kind-kind.ensures i) (settings_from r.job.counts r.job.numbers)) (c.num_active-p.ensures i)) in
     not_below c.turns.result c.bound.result ∙ (λ i. not (ltb (c.turns.ensures i) (limit i)))
-    ∙ sym (before-end a.row.now kind job state over)
+    ∙ sym (before-end r kind job state over)

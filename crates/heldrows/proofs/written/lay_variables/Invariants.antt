@@ -11,6 +11,6 @@ use Rattle.heldrows.proofs.written.lay_variables.Given as goal
 abbrev pub invariant-loop-i : goal.invariant-loop-i
 invariant-loop-i l = (length l.job.counts ≡ length l.initial.job.counts) × (length l.job.numbers ≡ length l.initial.job.numbers)
     × (take (variable_kind_at l.i) l.job.counts ≡ take (variable_kind_at 0) l.initial.job.counts
-    ++ in_turn (λ (k : ℕ). variable_counts (get_or l.records k no_variable_record)) l.i)
+    ++ in_turn (λ (k : ℕ). variable_counts (get_or l.fn.records k no_variable_record)) l.i)
     × (take (min_value_at l.i) l.job.numbers ≡ take (min_value_at 0) l.initial.job.numbers
-    ++ in_turn (λ (k : ℕ). variable_numbers (get_or l.records k no_variable_record)) l.i)
+    ++ in_turn (λ (k : ℕ). variable_numbers (get_or l.fn.records k no_variable_record)) l.i)

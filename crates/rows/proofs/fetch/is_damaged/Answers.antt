@@ -1,5 +1,5 @@
 -- `rows::fetch::is_damaged` meets its contract: past a kind that is one, the damage test decides. Assumes nothing.
-use mathlib.Core.Path.{sym, ◌∙◌}
+use mathlib.Core.Path.{◌∙◌}
 use borrow.Author.Tests.{ne_eqb}
 use Rattle.held.specs.RowFrom.{kind_from}
 use Rattle.rows.proofs.fetch.is_damaged.Goals as goal
