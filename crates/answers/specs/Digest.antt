@@ -1,6 +1,6 @@
 -- FNV-1a of 64 bits, over surfaces and merits. Definitions only.
-use Rattle.std.specs.Prelude.{ℕ, zero, suc, ◌*◌, ◌/◌, ◌%◌, ◌^◌, List, bit_xor, slice_index_or, Float}
-use Rattle.optics.specs.Types.{no_surface}
+use Rattle.std.specs.Prelude.{ℕ, zero, suc, ◌*◌, ◌/◌, ◌%◌, ◌^◌, List, take, bit_xor, Float}
+use Rattle.std.specs.List.{fold}
 use Rattle.optics.specs.declared.types.OpticalSurface.{OpticalSurface}
 use Rattle.text.specs.Numbers.{bits_of}
 
@@ -26,6 +26,5 @@ with_surface hash s =
     s.semi_diameter_mm
 
 -- the first n surfaces
-unfoldable pub with_surfaces : ℕ → List OpticalSurface → ℕ → ℕ
-with_surfaces hash surfaces zero = hash
-with_surfaces hash surfaces (suc n) = with_surface (with_surfaces hash surfaces n) (slice_index_or surfaces n no_surface)
+abbrev pub with_surfaces : ℕ → List OpticalSurface → ℕ → ℕ
+with_surfaces hash surfaces n = fold with_surface hash (take n surfaces)

@@ -53,9 +53,7 @@ fn with_surface(hash: u64, s: OpticalSurface) -> u64
 pub fn with_surfaces(hash: u64, surfaces: [OpticalSurface; 16], count: usize) -> u64
     ensures { result ≡ with_surfaces hash surfaces (min count 16) }
 {
-    let mut h = hash;
-    for s in &surfaces[..count.min(16)] {
-        h = with_surface(h, *s);
-    }
-    h
+    surfaces[..count.min(16)]
+        .iter()
+        .fold(hash, |h, s| with_surface(h, *s))
 }

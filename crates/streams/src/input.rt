@@ -40,7 +40,7 @@ pub struct Input {
     pub to: usize,
     // The number of the line that begins there.
     pub number: u64,
-    // Whether the start of that line is gone, since the buffer does not hold the whole: the rest of it stands there all the same.
+    // Whether the start of that line is gone, since the buffer does not hold the whole. No value goes with it: the rest stands there.
     pub is_cut: bool,
     pub stage: Stage,
 }
@@ -142,7 +142,7 @@ pub struct Line {
     pub from: usize,
     pub to: usize,
     pub number: u64,
-    // Whether its start is gone; a line by itself all the same, so it is no other variant.
+    // Whether its start is gone. The rest of it stands there all the same, so it is no variant of its own.
     pub is_cut: bool,
 }
 

@@ -11,7 +11,7 @@ use crate::{moves, parts};
 pub struct Waiting {
     // How many bytes at the start of the buffer wait.
     pub bytes: usize,
-    // Whether all that went before them was written.
+    // Whether all that went before them was written. No value goes with it, and the counts go on where it was not.
     pub is_good: bool,
     // How many lines were refused.
     pub refused: u64,

@@ -1,6 +1,7 @@
 -- The words of a line. Definitions only.
-use Rattle.std.specs.Prelude.{ℕ, zero, suc, ◌+◌, min, Bool, true, false, cond, List, [], ◌∷◌, length, take, drop, eqb, leb}
+use Rattle.std.specs.Prelude.{ℕ, zero, ◌+◌, min, Bool, true, false, cond, List, [], ◌∷◌, length, take, drop, eqb, leb}
 use Rattle.std.specs.Bool.{beq}
+use Rattle.std.specs.List.{prefix_len}
 use Rattle.text.specs.declared.words.Word.{Word}
 
 abbrev pub between : ℕ → ℕ → ℕ → Bool
@@ -11,9 +12,8 @@ abbrev pub is_blank : ℕ → Bool
 is_blank b = cond (eqb b 32) true (cond (eqb b 11) false (between 9 13 b))
 
 -- how many of the first bytes are blank, or are not
-unfoldable pub leading : Bool → List ℕ → ℕ
-leading blank [] = zero
-leading blank (b ∷ rest) = cond (beq (is_blank b) blank) (suc (leading blank rest)) zero
+abbrev pub leading : Bool → List ℕ → ℕ
+leading blank bytes = prefix_len (λ b. beq (is_blank b) blank) bytes
 
 -- the word that begins at `from`
 abbrev pub word_at : List ℕ → ℕ → Word

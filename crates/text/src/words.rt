@@ -17,6 +17,14 @@ fn is_blank(b: u8) -> bool
     b.is_ascii_whitespace()
 }
 
+// How many of the first bytes are blank, or are not.
+fn leading(text: &[u8], blank: bool) -> usize
+    ensures value { result ≡ leading blank text.now }
+    ensures within { result ≤ length text.now }
+{
+    text.iter().take_while(|b| is_blank(**b) == blank).count()
+}
+
 // Where the bytes end that are blank, or that are not, from `at` on.
 fn skip(line: &[u8], at: usize, blank: bool) -> usize
     requires { at ≤ length line.now }
@@ -24,12 +32,7 @@ fn skip(line: &[u8], at: usize, blank: bool) -> usize
     ensures upper_bound { result ≤ length line.now }
     ensures value { result ≡ at + leading blank (drop at line.now) }
 {
-    for i in at..line.len() {
-        if is_blank(line[i]) != blank {
-            return i;
-        }
-    }
-    line.len()
+    at + leading(&line[at..], blank)
 }
 
 // The next word from `at` on.
