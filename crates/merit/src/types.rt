@@ -51,7 +51,8 @@ pub struct WeightRoot {
     pub root: f64,
 }
 
-// What a trace that is not refused answers. Fewer than two surfaces are a failed trace.
+// What a trace that is not refused answers. Fewer than two surfaces are a failed trace. No bool and no Option: `Ok(true)` or `Ok(None)` would not say what
+// was done, and a failed trace hands out nothing else.
 #[derive(Clone, Copy)]
 pub enum Traced {
     Done,
