@@ -23,4 +23,5 @@ module _ {F B : Type 0} (g : Mut F (ℕ × Unit {0}) B) (f : F) (rule : ℕ → 
       ]
 
   pub made : (n : ℕ) (d : B) → IsFromFnResult g f ys n → ((k : ℕ) (y : B) (q : F) → k < n → Called g f (k, tt) y q → (y ≡ rule k) × (q ≡ f)) → ys ≡ tab rule n
-  made n d r steps = listed rule ys n d r.long (λ i h. from 0 n (λ k y q l called. steps k y q (omega (arith, l)) called) r.each i d (omega arith) (omega (arith, h)))
+  made n d r steps =
+      listed rule ys n d r.long (λ i h. from 0 n (λ k y q l called. steps k y q (omega (arith, l)) called) r.each i d (omega arith) (omega (arith, h)))

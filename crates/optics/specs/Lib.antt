@@ -1,5 +1,5 @@
--- The lens: its values (`Types`), the trace (`Curvature`, `Trace`), what follows from it (`Properties`), refusal 3 (`Check`), surfaces laid flat (`Flat`, `Laid`);
--- and laws on these for callers.
+-- The lens: its values (`Types`), the trace (`Curvature`, `Trace`), what follows from it (`Properties`), refusal 3 (`Check`), surfaces laid flat (`Flat`,
+-- `Laid`); and laws on these for callers.
 pub mod Types
 pub mod Curvature
 pub mod Trace

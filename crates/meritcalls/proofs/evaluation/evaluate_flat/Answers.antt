@@ -40,7 +40,8 @@ loop-n-preserved c =
     ∙ sym (values-after surface index a.lens.now.pupil a.lens.now.surfaces.count a.function l.n (omega arith)) in
     let v : turn.value_of-value.result ≡ value_at surface index a.lens.now.pupil a.lens.now.surfaces.count a.function l.n =
     turn.value_of-value.ensures
-    ∙ ap (λ (z : List Float). value_of z (λ (w : ℕ). get_or slots.result w None) surface a.lens.now.surfaces.count (operand_at a.function l.n).operand_type) earlier
+    ∙ ap (λ (z : List Float). value_of z (λ (w : ℕ). get_or slots.result w None) surface a.lens.now.surfaces.count
+    (operand_at a.function l.n).operand_type) earlier
     ∙ value_same _ _ _ _ _ _ (start.requires.1 l.n more) (traced _) in
     let d = turn.difference_of-d.ensures in
     let root = turn.root_of-known.ensures in
