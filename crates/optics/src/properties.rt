@@ -16,6 +16,7 @@ fn is_negligible(x: f64) -> bool
 }
 
 // How far behind its surface a ray meets the axis.
+#[tactic(auto, using(floats::specs::Constants::infinite))]
 fn focus_of(ray: ParaxialRay) -> f64
     ensures { result ≡ focus_of ray }
 {
@@ -26,6 +27,7 @@ fn focus_of(ray: ParaxialRay) -> f64
 }
 
 // `height` is that at the first surface; the back focus is measured along `back`.
+#[tactic(auto, using(floats::specs::Constants::infinite))]
 fn properties_from(
     height: f64,
     pupil: f64,
