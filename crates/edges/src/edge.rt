@@ -44,6 +44,7 @@ fn edge_between(surface: OpticalSurface, successor: OpticalSurface) -> Option<f6
 }
 
 // The edge behind surface i, any number: i + 1 is formed only where i is a surface's.
+#[tactic(auto, unfolding(crate::specs::Edges::edge_of))]
 pub fn edge_of(surfaces: &FlatSurfaces, i: usize) -> Option<f64>
     ensures { result ≡ edge_of (laid_surface surfaces.now) surfaces.now.count i }
 {

@@ -6,6 +6,7 @@ use merit::{MeritFunction, MeritOperand, OperandType};
 use optics::is_within;
 
 // A thickness or edge operand whose surface, or its successor, is absent is taken.
+#[tactic(auto, unfolding(merit::specs::Check::kind_taken))]
 fn kind_taken(slots: usize, kind: OperandType) -> bool
     ensures { result ≡ kind_taken slots kind }
 {

@@ -18,6 +18,7 @@ pub fn difference_of(o: MeritOperand, value: f64) -> f64
 }
 
 // A total that is not finite counts as the greatest that is.
+#[tactic(auto, unfolding(merit::specs::Evaluation::counted_total, merit::specs::Evaluation::overflow_merit))]
 pub fn counted_total(total: f64) -> f64
     ensures { result ≡ counted_total total }
 {

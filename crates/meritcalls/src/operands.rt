@@ -157,6 +157,7 @@ fn edge_counted(limit: f64, edge: Option<f64>) -> f64
 }
 
 // An operand's value, given the traces of the slots, on surfaces laid flat.
+#[tactic(auto, unfolding(merit::specs::Operands::value_of))]
 pub fn value_of(
     kind: OperandType,
     slots: [Option<ParaxialProperties>; 4],
