@@ -1,22 +1,19 @@
 -- A dealing from one place to the next. Definitions only.
-use Rattle.std.specs.Prelude.{cond, not, ◌||◌, ℕ, zero, suc, ◌+◌, ltb, Result, Ok, Err}
+use Rattle.std.specs.Prelude.{cond, not, ◌||◌, ℕ, ◌+◌, ltb, Result, Ok, Err}
+use Rattle.refusals.specs.Numbers.{value_unless}
 use Rattle.bench.specs.declared.types.Bench.{Bench}
 use Rattle.bench.specs.declared.types.Dealt.{Dealt}
 use Rattle.bench.specs.Dealing.{place_after}
 use Rattle.bench.specs.Calls.{deal_number}
 use Rattle.dealing.specs.declared.types.Round.{Round}
 
--- a dealing that is refused by its number has no round
-abbrev pub round_unless : (number : ℕ) → Round → Result Round ℕ
-round_unless zero r = Ok r
-round_unless (suc n) r = Err (suc n)
-
 -- "The next dealing starts there"
 abbrev pub first_round : Bench → (turns : ℕ) → Round
 first_round b turns = record { at = b.next_place; next = b.next_place; missed = 0; dealt = 0; limit = turns }
 
+-- a dealing that is refused has none
 abbrev pub begun_of : Bench → (turns room : ℕ) → Result Round ℕ
-begun_of b turns room = round_unless (deal_number b room) (first_round b turns)
+begun_of b turns room = value_unless (deal_number b room) (first_round b turns)
 
 -- the place was served
 abbrev pub served_of : Round → Round

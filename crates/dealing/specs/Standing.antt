@@ -24,7 +24,8 @@ use Rattle.bench.specs.Calls.{cleared_by}
 use Rattle.bench.specs.Calls.{dealt_scratch}
 use Rattle.bench.proofs.Dealings.{with_next, starts-below, long, turn-taken, turn-live}
 use Rattle.dealing.specs.declared.types.Round.{Round}
-use Rattle.dealing.specs.Rounds.{round_unless, first_round, begun_of, served_of, passed_of, moved_of}
+use Rattle.refusals.specs.Numbers.{value_unless}
+use Rattle.dealing.specs.Rounds.{first_round, begun_of, served_of, passed_of, moved_of}
 
 -- the places that n more turns serve, where the next is found to be this one
 abbrev served_from : Found → (n : ℕ) → Bench → List ℕ
@@ -111,7 +112,7 @@ module _ (b₀ : Bench) (turns : ℕ) (s₀ : List Float) where
   pub stands : Begun b₀ turns s₀ (begun_of b₀ turns (length s₀))
   stands = go (deal_number b₀ (length s₀)) refl
     where
-      go : (k : ℕ) → deal_number b₀ (length s₀) ≡ k → Begun b₀ turns s₀ (round_unless k (first_round b₀ turns))
+      go : (k : ℕ) → deal_number b₀ (length s₀) ≡ k → Begun b₀ turns s₀ (value_unless k (first_round b₀ turns))
       go zero e = stands-at-first e
       go (suc k) e = deals-nothing k e
 

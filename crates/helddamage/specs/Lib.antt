@@ -1,3 +1,2 @@
--- What the tests amount to (`Verdicts`), and a test of each number below a count (`Ranged`).
-pub mod Ranged
+-- What the tests amount to.
 pub mod Verdicts

@@ -2,7 +2,7 @@
 use Rattle.std.proofs.Common.{◌≡◌, refl, ℕ, ◌&&◌, sym, ap, ◌∙◌, arith, rules, tests}
 use Rattle.std.proofs.lemmas.Iterator.{YieldsList-from_range}
 use Rattle.std.proofs.lemmas.Iterator.Search.{all_from_yields_List}
-use Rattle.lists.specs.All.{all_below, all_same}
+use Rattle.lists.specs.All.{all_below, all_same, all-counted}
 use Rattle.merit.specs.OperandTable.{operand_at}
 use Rattle.merit.specs.Check.{operand_taken}
 use Rattle.jobs.specs.Entries.{operand_known}
@@ -10,7 +10,6 @@ use Rattle.jobs.specs.Records.{operand_record_at}
 use Rattle.held.specs.EntryLaws.{operand-record}
 use Rattle.held.specs.JobFrom.{operand_count_from, slot_count_from, job_record_from, operand_record_from, operands_from}
 use Rattle.helddamage.specs.Verdicts.{all_both}
-use Rattle.helddamage.specs.Ranged.{all-ranged}
 use Rattle.helddamage.proofs.checks.operands_taken.Goals as goal
 
 pub returns : goal.returns
@@ -23,7 +22,7 @@ returns c =
     let kept = λ (n : ℕ). operand_known (operand_record_at (job_record_from job.counts job.numbers) n) in
     all_from_yields_List (λ (n : ℕ). taken c.slot_count-slots.result n && known n) _ _ _ c.all.ensures.ran
     (YieldsList-from_range 0 n n refl (omega arith)) (λ x b q k. search (rules, tests))
-    ∙ all-ranged _ n
+    ∙ sym (all-counted _ n)
     ∙ all_same _ (λ n. taken (slot_count_from job.counts) n && kept n) n (λ n h i. taken (c.slot_count-slots.ensures i) n
     && sym (ap operand_known (operand-record job.counts job.numbers n (omega arith))) i)
     ∙ all_both (taken (slot_count_from job.counts)) kept n

@@ -2,7 +2,7 @@
 use Rattle.std.proofs.Common.{◌≡◌, refl, ℕ, ◌&&◌, Bool, sym, ap, ◌∙◌, arith, rules, tests}
 use Rattle.std.proofs.lemmas.Iterator.{YieldsList-from_range}
 use Rattle.std.proofs.lemmas.Iterator.Search.{all_from_yields_List}
-use Rattle.lists.specs.All.{all_below, all_same}
+use Rattle.lists.specs.All.{all_below, all_same, all-counted}
 use Rattle.variables.specs.Active.{variable_at}
 use Rattle.variables.specs.Taken.{variable_taken, follower_taken, variables_taken, followers_taken}
 use Rattle.jobs.specs.Entries.{variable_known}
@@ -10,7 +10,6 @@ use Rattle.jobs.specs.Records.{variable_record_at}
 use Rattle.held.specs.EntryLaws.{variable-record}
 use Rattle.held.specs.JobFrom.{surface_count_from, variable_count_from, job_record_from, variable_record_from, variables_from}
 use Rattle.helddamage.specs.Verdicts.{all_both}
-use Rattle.helddamage.specs.Ranged.{all-ranged}
 use Rattle.helddamage.proofs.checks.variables_taken.Goals as goal
 
 pub returns : goal.returns
@@ -28,7 +27,7 @@ returns c =
     all_from_yields_List (λ (i : ℕ). placed c.surface_count-surfaces.result i && followed c.surface_count-surfaces.result i && known i) _ _ _
     c.all.ensures.ran
     (YieldsList-from_range 0 n n refl (omega arith)) (λ x b q k. search (rules, tests))
-    ∙ all-ranged _ n
+    ∙ sym (all-counted _ n)
     ∙ all_same _ (λ i. placed s i && followed s i && kept i) n (λ i h t. placed (c.surface_count-surfaces.ensures t) i
     && followed (c.surface_count-surfaces.ensures t) i && sym (ap variable_known (variable-record job.counts job.numbers i (omega arith))) t)
     ∙ all_both (λ i. placed s i && followed s i) kept n
