@@ -44,7 +44,7 @@ pub(crate) fn ray_behind(
     let u = (ray.n * ray.u - ray.y * power) / index;
     ArrivingRay {
         y: ray.y + thickness * u,
-        u: u,
+        u,
         n: index,
     }
 }
