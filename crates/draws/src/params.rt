@@ -1,12 +1,12 @@
 // The draws for a trial of multi-start and for a step of annealing: one for each enabled variable of a held job, in order.
-ghost use Rattle.std.specs.Prelude.{◌≡◌, ◌≤◌};
+ghost use Rattle.std.specs.Prelude.{◌≡◌};
 ghost use Rattle.xorshift.specs.Xorshift.{step_times};
 ghost use Rattle.variables.specs.Active.{num_active};
 ghost use Rattle.runs.specs.MultiStartRun.{random_params, after_draws};
-ghost use Rattle.held.specs.JobFrom.{variable_count_from, variables_from};
 ghost use Rattle.draws.specs.Parts.{TriedBy};
+ghost use Rattle.held.specs.JobOf.{variables_of};
 
-use held::HeldJob;
+use held::VariedJob;
 
 // What was drawn, and the generator after it.
 #[derive(Clone, Copy)]
@@ -17,17 +17,16 @@ pub struct Drawn {
 
 // `rng.uniform(var.min_value, var.max_value)` for each, and +0.0 after them. The loop is like trial_params'; one for both would take the value
 // as a closure, of which each invariant would have to speak for every rule that the closure meets: the two proofs share `Drawing` instead.
-pub fn random_params(generator: u64, job: &HeldJob) -> Drawn
-    requires { variable_count_from job.now.counts ≤ 8 }
-    ensures { (result.params ≡ random_params (variables_from job.now.counts job.now.numbers) generator)
-        × (result.generator ≡ after_draws (variables_from job.now.counts job.now.numbers) generator) }
+pub fn random_params(generator: u64, job: VariedJob) -> Drawn
+    ensures { (result.params ≡ random_params (variables_of job.entry.held.now) generator)
+        × (result.generator ≡ after_draws (variables_of job.entry.held.now) generator) }
 {
-    let count = job.variable_count();
+    let count = job.held.variable_count();
     let mut x = [0.0; 8];
     let mut rng = generator;
     let mut q: usize = 0;
     for i in 0..count {
-        let d = job.variable_at(i);
+        let d = job.held.variable_at(i);
         if d.enabled {
             let draw = xorshift::drawn(rng);
             rng = draw.state;
@@ -42,17 +41,16 @@ pub fn random_params(generator: u64, job: &HeldJob) -> Drawn
 }
 
 // Each param moved by up to a twentieth of its range either way, and clamped; what stands after them is kept.
-pub fn trial_params(generator: u64, job: &HeldJob, params: [f64; 8]) -> Drawn
-    requires { variable_count_from job.now.counts ≤ 8 }
-    ensures { TriedBy (variables_from job.now.counts job.now.numbers) params generator result.params
-        × (result.generator ≡ step_times (num_active (variables_from job.now.counts job.now.numbers)) generator) }
+pub fn trial_params(generator: u64, job: VariedJob, params: [f64; 8]) -> Drawn
+    ensures { TriedBy (variables_of job.entry.held.now) params generator result.params
+        × (result.generator ≡ step_times (num_active (variables_of job.entry.held.now)) generator) }
 {
-    let count = job.variable_count();
+    let count = job.held.variable_count();
     let mut x = params;
     let mut rng = generator;
     let mut q: usize = 0;
     for i in 0..count {
-        let d = job.variable_at(i);
+        let d = job.held.variable_at(i);
         if d.enabled {
             let draw = xorshift::drawn(rng);
             rng = draw.state;

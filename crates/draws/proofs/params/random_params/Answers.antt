@@ -24,9 +24,9 @@ loop-i-init c = (record { filling = record { passed = omega arith; counted = ref
 pub loop-i-preserved : goal.loop-i-preserved
 loop-i-preserved c =
     let x = c.args in
-    let v = variables_from x.job.now.counts x.job.now.numbers in
+    let v = variables_from x.job.held.now.counts x.job.held.now.numbers in
     let e = ap (λ (d : VariableDef). d.enabled) c.variable_at-d.ensures in
-    let h : c.loop-i.i < variable_count_from x.job.now.counts =
+    let h : c.loop-i.i < variable_count_from x.job.held.now.counts =
     omega (arith, c.loop-i-test.true, c.loop-i.invariant.1) in
     elim c.if-d.branch [
       | then-d w ↦ (
@@ -47,7 +47,7 @@ pub returns : goal.returns
 unfolding random_params after_draws
 returns c =
     let x = c.args in
-    let h : variable_count_from x.job.now.counts ≤ c.loop-i.i = omega (arith, c.loop-i-test.false, c.loop-i.invariant.1) in (
+    let h : variable_count_from x.job.held.now.counts ≤ c.loop-i.i = omega (arith, c.loop-i-test.false, c.loop-i.invariant.1) in (
       drawn-params c.loop-i.invariant.0 (λ (k : ℕ). zero64) refl (search rules) h (λ k h. get_or-replicate 8 k zero64 nan h),
       drawn-generator c.loop-i.invariant.0 h,
     )

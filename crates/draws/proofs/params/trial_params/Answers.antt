@@ -24,9 +24,9 @@ loop-i-init c = (record { filling = record { passed = omega arith; counted = ref
 pub loop-i-preserved : goal.loop-i-preserved
 loop-i-preserved c =
     let x = c.args in
-    let v = variables_from x.job.now.counts x.job.now.numbers in
+    let v = variables_from x.job.held.now.counts x.job.held.now.numbers in
     let e = ap (λ (d : VariableDef). d.enabled) c.variable_at-d.ensures in
-    let h : c.loop-i.i < variable_count_from x.job.now.counts =
+    let h : c.loop-i.i < variable_count_from x.job.held.now.counts =
     omega (arith, c.loop-i-test.true, c.loop-i.invariant.1) in
     elim c.if-d.branch [
       | then-d w ↦ (
@@ -49,7 +49,7 @@ pub returns : goal.returns
 unfolding trial_params
 returns c =
     let x = c.args in
-    let l : variable_count_from x.job.now.counts ≤ c.loop-i.i = omega (arith, c.loop-i-test.false, c.loop-i.invariant.1) in (
+    let l : variable_count_from x.job.held.now.counts ≤ c.loop-i.i = omega (arith, c.loop-i-test.false, c.loop-i.invariant.1) in (
       λ a w ev ep er. simp (ev, ep, er) (drawn-params c.loop-i.invariant.0 (λ (k : ℕ). get_or x.params k nan) (search rules) (search rules) l (λ k h. refl)),
       drawn-generator c.loop-i.invariant.0 l,
     )
