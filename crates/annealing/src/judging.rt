@@ -1,11 +1,12 @@
 // A step of annealing's walk judged: the run and the best result are lent, the walk's numbers go by value.
-ghost use Rattle.std.specs.Prelude.{◌≡◌, ◌≤◌};
+ghost use Rattle.std.specs.Prelude.{◌≡◌};
 ghost use Rattle.runs.specs.AnnealingRun as Run;
-ghost use Rattle.held.specs.JobFrom.{standing, variable_count_from, variables_from};
+ghost use Rattle.held.specs.JobFrom.{standing};
 ghost use Rattle.draws.specs.Parts.{ForAnnealer, ForAnnealerBy};
 ghost use Rattle.annealing.specs.WalkFrom.{walk_from, WalkAlone};
+ghost use Rattle.held.specs.JobOf.{variables_of};
 
-use held::{HeldBest, HeldJob, HeldRun};
+use held::{HeldBest, HeldRun, VariedJob};
 use jobs::SimulatedAnnealingConfig;
 use merit::MeritEvaluation;
 
@@ -23,12 +24,11 @@ pub(crate) struct WalkHead {
 pub(crate) fn started(
     config: SimulatedAnnealingConfig,
     merit: f64,
-    job: &HeldJob,
+    job: VariedJob,
     run: &mut HeldRun,
     best: &mut HeldBest,
 ) -> WalkHead
-    requires { variable_count_from job.now.counts ≤ 8 }
-    ensures fact_1 { ForAnnealerBy config (variables_from job.now.counts job.now.numbers) (λ a. (e : MeritEvaluation) → e.total_merit ≡ merit →
+    ensures fact_1 { ForAnnealerBy config (variables_of job.entry.held.now) (λ a. (e : MeritEvaluation) → e.total_merit ≡ merit →
         walk_from result run.new best.new ≡ Run.started a (standing run.old.surfaces) e) }
     ensures fact_2 { WalkAlone run.old best.old run.new best.new }
 {
@@ -56,12 +56,11 @@ fn prob(delta_merit: f64, temp: f64) -> f64
 fn accepted(
     w: WalkHead,
     merit: f64,
-    job: &HeldJob,
+    job: VariedJob,
     run: &mut HeldRun,
     best: &mut HeldBest,
 ) -> WalkHead
-    requires { variable_count_from job.now.counts ≤ 8 }
-    ensures fact_1 { ForAnnealer (variables_from job.now.counts job.now.numbers) (λ a.
+    ensures fact_1 { ForAnnealer (variables_of job.entry.held.now) (λ a.
         walk_from result run.new best.new ≡ Run.accepted a run.old.candidate merit (walk_from w run.old best.old)) }
     ensures fact_2 { WalkAlone run.old best.old run.new best.new }
 {
@@ -87,12 +86,11 @@ fn accepted(
 pub(crate) fn judged(
     w: WalkHead,
     merit: f64,
-    job: &HeldJob,
+    job: VariedJob,
     run: &mut HeldRun,
     best: &mut HeldBest,
 ) -> WalkHead
-    requires { variable_count_from job.now.counts ≤ 8 }
-    ensures fact_1 { ForAnnealer (variables_from job.now.counts job.now.numbers) (λ a. (e : MeritEvaluation) → e.total_merit ≡ merit →
+    ensures fact_1 { ForAnnealer (variables_of job.entry.held.now) (λ a. (e : MeritEvaluation) → e.total_merit ≡ merit →
         walk_from result run.new best.new ≡ Run.judged a run.old.candidate e (walk_from w run.old best.old)) }
     ensures fact_2 { WalkAlone run.old best.old run.new best.new }
 {

@@ -1,14 +1,15 @@
 // The two states that annealing's walk goes on to: just before the merit of a step, and the polish's beginning.
-ghost use Rattle.std.specs.Prelude.{◌≡◌, ◌≤◌};
+ghost use Rattle.std.specs.Prelude.{◌≡◌};
 ghost use Rattle.runs.specs.AnnealingRow.{at_polish, at_step};
 ghost use Rattle.runs.specs.DampedRow.{at_first};
-ghost use Rattle.held.specs.JobFrom.{standing, variable_count_from, variables_from};
+ghost use Rattle.held.specs.JobFrom.{standing};
 ghost use Rattle.held.specs.RowFrom.{state_from};
 ghost use Rattle.draws.specs.Parts.{ForAnnealer};
 ghost use Rattle.annealing.specs.WalkFrom.{walk_from};
+ghost use Rattle.held.specs.JobOf.{variables_of};
 
 use crate::judging::WalkHead;
-use held::{BestHead, HeldBest, HeldJob, HeldRun, RowHead, phases};
+use held::{BestHead, HeldBest, HeldRun, RowHead, VariedJob, phases};
 
 // Step k of cycle c, with its draws made.
 // global.rs: `trial_params`
@@ -18,12 +19,11 @@ pub(crate) fn at_step(
     initial_merit: f64,
     c: u64,
     k: u64,
-    job: &HeldJob,
+    job: VariedJob,
     run: &mut HeldRun,
     best: &mut HeldBest,
 ) -> RowHead
-    requires { variable_count_from job.now.counts ≤ 8 }
-    ensures { ForAnnealer (variables_from job.now.counts job.now.numbers) (λ a.
+    ensures { ForAnnealer (variables_of job.entry.held.now) (λ a.
         state_from result run.new best.new ≡ at_step a initial_merit (walk_from w run.old best.old) c k) }
 {
     let drawn = draws::trial_params(w.rng, job, run.params);

@@ -1,15 +1,15 @@
 // Annealing's walk, from merit to merit as far as the polish: a step judged and the next one's draws made.
-ghost use Rattle.std.specs.Prelude.{◌≡◌, false, ℕ, ◌≤◌};
+ghost use Rattle.std.specs.Prelude.{◌≡◌, false, ℕ};
 ghost use Rattle.runs.specs.AnnealingRow.{walk, walk_first, resume_steps, advance_at};
-ghost use Rattle.held.specs.JobFrom.{variable_count_from, variables_from};
 ghost use Rattle.draws.specs.Parts.{ForAnnealerBy};
 ghost use Rattle.held.specs.RowFrom.{state_from};
 ghost use Rattle.annealing.specs.WalkFrom.{walk_from};
+ghost use Rattle.held.specs.JobOf.{variables_of};
 
 use crate::judging::WalkHead;
 use crate::steps::{at_polish, at_step};
 use crate::{cycles, judging};
-use held::{HeldBest, HeldJob, HeldRun, RowHead};
+use held::{HeldBest, HeldRun, RowHead, VariedJob};
 use jobs::SimulatedAnnealingConfig;
 use merit::MeritEvaluation;
 
@@ -21,12 +21,11 @@ fn next_cycle(
     config: SimulatedAnnealingConfig,
     initial_merit: f64,
     c: u64,
-    job: &HeldJob,
+    job: VariedJob,
     run: &mut HeldRun,
     best: &mut HeldBest,
 ) -> RowHead
-    requires { variable_count_from job.now.counts ≤ 8 }
-    ensures { ForAnnealerBy config (variables_from job.now.counts job.now.numbers) (λ a. (k : ℕ) →
+    ensures { ForAnnealerBy config (variables_of job.entry.held.now) (λ a. (k : ℕ) →
         state_from result run.new best.new ≡ resume_steps a false initial_merit (walk_from w run.old best.old) c k) }
 {
     let cool = WalkHead {
@@ -43,12 +42,11 @@ fn next_cycle(
 pub fn advance_walk_first(
     config: SimulatedAnnealingConfig,
     merit: f64,
-    job: &HeldJob,
+    job: VariedJob,
     run: &mut HeldRun,
     best: &mut HeldBest,
 ) -> RowHead
-    requires { variable_count_from job.now.counts ≤ 8 }
-    ensures { ForAnnealerBy config (variables_from job.now.counts job.now.numbers)
+    ensures { ForAnnealerBy config (variables_of job.entry.held.now)
         (λ a. (h : RowHead) (e : MeritEvaluation) → e.total_merit ≡ merit →
         state_from result run.new best.new ≡ advance_at a walk_first (state_from h run.old best.old) e) }
 {
@@ -66,12 +64,11 @@ pub fn advance_walk(
     h: RowHead,
     config: SimulatedAnnealingConfig,
     merit: f64,
-    job: &HeldJob,
+    job: VariedJob,
     run: &mut HeldRun,
     best: &mut HeldBest,
 ) -> RowHead
-    requires { variable_count_from job.now.counts ≤ 8 }
-    ensures { ForAnnealerBy config (variables_from job.now.counts job.now.numbers) (λ a. (e : MeritEvaluation) → e.total_merit ≡ merit →
+    ensures { ForAnnealerBy config (variables_of job.entry.held.now) (λ a. (e : MeritEvaluation) → e.total_merit ≡ merit →
         state_from result run.new best.new ≡ advance_at a walk (state_from h run.old best.old) e) }
 {
     let w = WalkHead {

@@ -3,9 +3,9 @@ use Rattle.std.specs.Prelude.{◌≡◌, List, ℕ, Float}
 use Rattle.merit.specs.declared.types.MeritEvaluation.{MeritEvaluation}
 use Rattle.runs.specs.Run.{Surfaces}
 use Rattle.runs.specs.JobMerit.{evaluate_of}
-use Rattle.held.specs.JobFrom.{held_job}
+use Rattle.held.specs.declared.types.HeldJob.{HeldJob}
+use Rattle.held.specs.JobOf.{job_of}
 
 -- every evaluation under the held job that has these values
-abbrev pub ForFound : (counts : List ℕ) (numbers found : List Float) → (MeritEvaluation → Type 0) → Type 0
-ForFound counts numbers found P =
-    (kind : ℕ) (s : Surfaces) → found ≡ (evaluate_of (held_job counts numbers kind) s).values → P (evaluate_of (held_job counts numbers kind) s)
+abbrev pub ForFound : HeldJob → (found : List Float) → (MeritEvaluation → Type 0) → Type 0
+ForFound held found P = (kind : ℕ) (s : Surfaces) → found ≡ (evaluate_of (job_of held kind) s).values → P (evaluate_of (job_of held kind) s)

@@ -2,21 +2,21 @@
 ghost use Rattle.std.specs.Prelude.{◌≡◌, ◌&&◌, ℕ, ◌≤◌, ◌<◌, ltb, length};
 ghost use Rattle.std.specs.Float.Ieee.{lt};
 ghost use Rattle.floats.specs.Basic.{finite_of};
-ghost use Rattle.normal.specs.Layout.{scratch_length, most_operands, most_variables};
+ghost use Rattle.normal.specs.Layout.{scratch_length};
 ghost use Rattle.variables.specs.Active.{num_active};
 ghost use Rattle.jobs.specs.declared.types.DlsConfig.{DlsConfig};
 ghost use Rattle.runs.specs.DampedRow as Damped;
 ghost use Rattle.runs.specs.DampedRow.{current_of, advance_at, resume_after};
 ghost use Rattle.runs.specs.DampedRun.{moved, accepted};
 ghost use Rattle.dls.specs.DampedSteps.{optimizer, with_current, ScratchKept, relative_gain, iteration_entered};
-ghost use Rattle.held.specs.JobFrom.{variable_count_from, operand_count_from, variables_from};
 ghost use Rattle.held.specs.RowFrom.{damped_from};
 ghost use Rattle.dls.specs.Found.{ForFound};
+ghost use Rattle.held.specs.JobOf.{variables_of, operand_count_of};
 
 use crate::attempts::resume_rejected;
 use crate::states::{at_plus, ended};
 use floats::{is_finite, max};
-use held::{Head, HeldJob, HeldRun, apply_values};
+use held::{CountedJob, Head, HeldRun, VariedJob, apply_values};
 use heldmerit::{merit_of, residuals_of};
 use jobs::DlsConfig;
 use normal::Damping;
@@ -55,18 +55,20 @@ pub(crate) fn resume_iterations(h: Head, limit: u64, run: &mut HeldRun) -> Head
 
 // The candidate's surfaces, parameters and merit become the current ones, and the damping is eased.
 // dls.rs: `current_prescription = test_presc` and on
-fn moved(h: Head, merit: f64, job: &HeldJob, found: &[f64; 12], run: &mut HeldRun) -> Head
-    requires fact_1 { variable_count_from job.now.counts ≤ most_variables }
-    requires fact_2 { operand_count_from job.now.counts ≤ most_operands }
-    ensures { ForFound job.now.counts job.now.numbers found.now (λ e. e.total_merit ≡ merit → (config : DlsConfig) (m : ℕ) →
-        let o = optimizer config (variables_from job.now.counts job.now.numbers) m in
+fn moved(h: Head, merit: f64, job: CountedJob, found: &[f64; 12], run: &mut HeldRun) -> Head
+    ensures { ForFound job.entry.held.now found.now (λ e. e.total_merit ≡ merit → (config : DlsConfig) (m : ℕ) →
+        let o = optimizer config (variables_of job.entry.held.now) m in
         let before = damped_from h run.old in
         damped_from result run.new ≡ with_current before (moved o run.old.candidate e (current_of before))) }
 {
-    apply_values(job, run.candidate, &mut run.surfaces);
+    apply_values(
+        VariedJob { held: job.held },
+        run.candidate,
+        &mut run.surfaces,
+    );
     run.params = run.candidate;
     run.values = *found;
-    run.residuals = residuals_of(found, job);
+    run.residuals = residuals_of(found, job.held);
     let damping = Damping { value: h.damping };
     Head {
         total_merit: merit,
@@ -80,15 +82,13 @@ fn advance_accepted(
     h: Head,
     config: DlsConfig,
     merit: f64,
-    job: &HeldJob,
+    job: CountedJob,
     found: &[f64; 12],
     run: &mut HeldRun,
 ) -> Head
-    requires fact_1 { variable_count_from job.now.counts ≤ most_variables }
-    requires fact_2 { operand_count_from job.now.counts ≤ most_operands }
-    requires fact_3 { 0 < num_active (variables_from job.now.counts job.now.numbers) }
-    ensures { ForFound job.now.counts job.now.numbers found.now (λ e. e.total_merit ≡ merit → (m : ℕ) →
-        let o = optimizer config (variables_from job.now.counts job.now.numbers) m in
+    requires { 0 < num_active (variables_of job.held.now) }
+    ensures { ForFound job.entry.held.now found.now (λ e. e.total_merit ≡ merit → (m : ℕ) →
+        let o = optimizer config (variables_of job.entry.held.now) m in
         damped_from result run.new ≡ resume_after o (accepted o run.old.candidate e (current_of (damped_from h run.old)))) }
 {
     let gain = rel_improvement(merit, h.total_merit);
@@ -103,21 +103,19 @@ fn advance_accepted(
 pub(crate) fn advance_candidate(
     h: Head,
     config: DlsConfig,
-    job: &HeldJob,
+    job: CountedJob,
     found: &[f64; 12],
     run: &mut HeldRun,
     scratch: &mut [f64],
 ) -> Head
     requires fact_1 { scratch_length ≤ length scratch.old }
-    requires fact_2 { variable_count_from job.now.counts ≤ most_variables }
-    requires fact_3 { operand_count_from job.now.counts ≤ most_operands }
-    requires fact_4 { 0 < num_active (variables_from job.now.counts job.now.numbers) }
-    ensures fact_1 { ForFound job.now.counts job.now.numbers found.now (λ e.
-        let o = optimizer config (variables_from job.now.counts job.now.numbers) (operand_count_from job.now.counts) in
+    requires fact_2 { 0 < num_active (variables_of job.held.now) }
+    ensures fact_1 { ForFound job.entry.held.now found.now (λ e.
+        let o = optimizer config (variables_of job.entry.held.now) (operand_count_of job.entry.held.now) in
         damped_from result run.new ≡ advance_at o Damped.candidate (damped_from h run.old) e) }
     ensures fact_2 { ScratchKept scratch.old scratch.new }
 {
-    let merit = merit_of(found, job);
+    let merit = merit_of(found, job.held);
     if is_reduction(merit, h.total_merit) {
         return advance_accepted(h, config, merit, job, found, run);
     }

@@ -3,18 +3,18 @@
 ghost use Rattle.std.specs.Prelude.{◌≡◌, not, ◌||◌, ◌-◌, ◌≤◌, length};
 ghost use Rattle.std.specs.Float.Ieee.{lt};
 ghost use Rattle.floats.specs.Basic.{finite_of};
-ghost use Rattle.normal.specs.Layout.{scratch_length, most_operands, most_variables};
+ghost use Rattle.normal.specs.Layout.{scratch_length, most_variables};
 ghost use Rattle.jobs.specs.declared.types.DlsConfig.{DlsConfig};
 ghost use Rattle.variables.specs.Active.{num_active};
 ghost use Rattle.runs.specs.DampedRow.{current_of, resume_stationary, resume_attempts};
 ghost use Rattle.runs.specs.DampedRun.{is_stationary, raised};
 ghost use Rattle.dls.specs.DampedSteps.{optimizer, ScratchKept, stepped_in, candidate_in, AttemptsMade};
-ghost use Rattle.held.specs.JobFrom.{variable_count_from, operand_count_from, variables_from};
 ghost use Rattle.held.specs.RowFrom.{damped_from};
+ghost use Rattle.held.specs.JobOf.{variables_of, operand_count_of};
 
 use crate::states::{at_candidate, ended};
 use floats::is_finite;
-use held::{Head, HeldJob, HeldRun, clamp_values};
+use held::{CountedJob, Head, HeldRun, VariedJob, clamp_values};
 use jobs::DlsConfig;
 use normal::{Damping, STEP, attempt_step, normal_equations};
 
@@ -34,11 +34,10 @@ fn stepped(params: [f64; 8], p: usize, scratch: &[f64]) -> [f64; 8]
 
 // The candidate: each parameter after its step, within its bounds.
 #[tactic(auto, using(crate::proofs::Few::few))]
-fn candidate_params(p: usize, job: &HeldJob, params: [f64; 8], scratch: &[f64]) -> [f64; 8]
+fn candidate_params(p: usize, job: VariedJob, params: [f64; 8], scratch: &[f64]) -> [f64; 8]
     requires fact_1 { scratch_length ≤ length scratch.now }
-    requires fact_2 { variable_count_from job.now.counts ≤ most_variables }
-    requires fact_3 { p ≡ num_active (variables_from job.now.counts job.now.numbers) }
-    ensures { result ≡ candidate_in (variables_from job.now.counts job.now.numbers) params scratch.now }
+    requires fact_2 { p ≡ num_active (variables_of job.held.now) }
+    ensures { result ≡ candidate_in (variables_of job.entry.held.now) params scratch.now }
 {
     let moved = stepped(params, p, scratch);
     clamp_values(job, moved)
@@ -52,14 +51,13 @@ fn resume_attempts(
     p: usize,
     damping: Damping,
     first: u64,
-    job: &HeldJob,
+    job: VariedJob,
     run: &mut HeldRun,
     scratch: &mut [f64],
 ) -> Head
     requires fact_1 { scratch_length ≤ length scratch.old }
-    requires fact_2 { variable_count_from job.now.counts ≤ most_variables }
-    requires fact_3 { p ≡ num_active (variables_from job.now.counts job.now.numbers) }
-    ensures { AttemptsMade (variables_from job.now.counts job.now.numbers) (damped_from h run.old) damping first scratch.old scratch.new
+    requires fact_2 { p ≡ num_active (variables_of job.held.now) }
+    ensures { AttemptsMade (variables_of job.entry.held.now) (damped_from h run.old) damping first scratch.old scratch.new
         (damped_from result run.new) }
 {
     let mut now = damping;
@@ -87,26 +85,24 @@ fn is_stationary(norm: f64, tolerance: f64) -> bool
 pub(crate) fn resume_stationary(
     h: Head,
     config: DlsConfig,
-    job: &HeldJob,
+    job: CountedJob,
     run: &mut HeldRun,
     scratch: &mut [f64],
 ) -> Head
-    requires fact_1 { scratch_length ≤ length scratch.old }
-    requires fact_2 { variable_count_from job.now.counts ≤ most_variables }
-    requires fact_3 { operand_count_from job.now.counts ≤ most_operands }
-    ensures fact_1 { (let o = optimizer config (variables_from job.now.counts job.now.numbers) (operand_count_from job.now.counts) in
+    requires { scratch_length ≤ length scratch.old }
+    ensures fact_1 { (let o = optimizer config (variables_of job.entry.held.now) (operand_count_of job.entry.held.now) in
         let before = current_of (damped_from h run.old) in
         damped_from result run.new ≡ resume_stationary o (is_stationary o run.old.jacobian before) run.old.jacobian before) }
     ensures fact_2 { ScratchKept scratch.old scratch.new }
 {
-    let p = job.num_active();
-    let m = job.operand_count();
+    let p = job.held.num_active();
+    let m = job.held.operand_count();
     let norm = normal_equations(scratch, &run.jacobian, &run.residuals, m, p);
     if is_stationary(norm, config.gradient_tolerance) {
         return ended(h, true, run);
     }
     let damping = Damping { value: h.damping };
-    resume_attempts(h, p, damping, 0, job, run, scratch)
+    resume_attempts(h, p, damping, 0, VariedJob { held: job.held }, run, scratch)
 }
 
 // A candidate was not accepted: its attempt is over, and the damping is raised.
@@ -114,22 +110,28 @@ pub(crate) fn resume_stationary(
 #[tactic(auto, using(crate::proofs::Few::few))]
 pub(crate) fn resume_rejected(
     h: Head,
-    job: &HeldJob,
+    job: CountedJob,
     run: &mut HeldRun,
     scratch: &mut [f64],
 ) -> Head
-    requires fact_1 { scratch_length ≤ length scratch.old }
-    requires fact_2 { variable_count_from job.now.counts ≤ most_variables }
-    requires fact_3 { operand_count_from job.now.counts ≤ most_operands }
+    requires { scratch_length ≤ length scratch.old }
     ensures fact_1 { ((config : DlsConfig) →
-        let o = optimizer config (variables_from job.now.counts job.now.numbers) (operand_count_from job.now.counts) in
+        let o = optimizer config (variables_of job.entry.held.now) (operand_count_of job.entry.held.now) in
         damped_from result run.new
         ≡ resume_attempts o (10 - h.attempt) run.old.jacobian (raised (current_of (damped_from h run.old))) h.attempt) }
     ensures fact_2 { ScratchKept scratch.old scratch.new }
 {
-    let p = job.num_active();
-    let m = job.operand_count();
+    let p = job.held.num_active();
+    let m = job.held.operand_count();
     let norm = normal_equations(scratch, &run.jacobian, &run.residuals, m, p);
     let damping = Damping { value: h.damping };
-    resume_attempts(h, p, damping.raise(), h.attempt, job, run, scratch)
+    resume_attempts(
+        h,
+        p,
+        damping.raise(),
+        h.attempt,
+        VariedJob { held: job.held },
+        run,
+        scratch,
+    )
 }

@@ -3,16 +3,17 @@
 ghost use Rattle.std.specs.Prelude.{◌≡◌, ℕ, ◌≤◌, ◌<◌, Float, length, get_or, set};
 ghost use Rattle.std.specs.Float.{nan};
 ghost use Rattle.variables.specs.Active.{active_at};
-ghost use Rattle.normal.specs.Layout.{most_operands, most_variables};
+ghost use Rattle.normal.specs.Layout.{most_variables};
 ghost use Rattle.variables.specs.Values.{applied};
 ghost use Rattle.runs.specs.DampedRun.{denom, with_differences};
 ghost use Rattle.runs.specs.DampedRow.{current_of};
 ghost use Rattle.dls.specs.DampedSteps.{optimizer, moved_up, moved_down, with_jacobian};
-ghost use Rattle.held.specs.JobFrom.{standing, variable_count_from, operand_count_from, variables_from};
+ghost use Rattle.held.specs.JobFrom.{standing};
 ghost use Rattle.held.specs.RowFrom.{damped_from};
 ghost use Rattle.held.specs.Standing.{Behind};
+ghost use Rattle.held.specs.JobOf.{variables_of, operand_count_of};
 
-use held::{Head, HeldJob, HeldRun, lay_applied};
+use held::{CountedJob, Head, HeldRun, VariedJob, lay_applied};
 use jobs::DlsConfig;
 use normal::{delta, denominator, jacobian_column, minus_value, plus_value};
 use variables::VariableDef;
@@ -40,15 +41,14 @@ pub(crate) fn lay_moved<F: Fn(f64, f64, VariableDef) -> f64>(
     side: F,
     h: Head,
     config: DlsConfig,
-    job: &HeldJob,
+    job: VariedJob,
     run: &HeldRun,
     flat: &mut [f64],
 )
-    requires fact_1 { variable_count_from job.now.counts ≤ most_variables }
-    requires fact_2 { h.column < most_variables }
-    requires fact_3 { 64 ≤ length flat.old }
-    requires fact_4 { F.IsAlwaysCallable side }
-    ensures fact_1 { let v = variables_from job.now.counts job.now.numbers in
+    requires fact_1 { h.column < most_variables }
+    requires fact_2 { 64 ≤ length flat.old }
+    requires fact_3 { F.IsAlwaysCallable side }
+    ensures fact_1 { let v = variables_of job.entry.held.now in
         (x : Float) × F.post side (get_or run.now.params h.column nan) config.finite_difference_relative_step (active_at v h.column) x
         × (standing flat.new ≡ applied v (set run.now.params h.column x) (standing run.now.surfaces)) }
     ensures fact_2 { Behind flat.old flat.new }
@@ -58,22 +58,21 @@ pub(crate) fn lay_moved<F: Fn(f64, f64, VariableDef) -> f64>(
     moved[q] = side(
         run.params[q],
         config.finite_difference_relative_step,
-        job.active_at(q),
+        job.held.active_at(q),
     );
     lay_applied(job, moved, &run.surfaces, flat);
 }
 
 // What lies between the parameter moved up and moved down.
 // dls.rs: `denom`
-fn between(h: Head, config: DlsConfig, job: &HeldJob, run: &HeldRun) -> f64
-    requires fact_1 { variable_count_from job.now.counts ≤ most_variables }
-    requires fact_2 { h.column < most_variables }
+fn between(h: Head, config: DlsConfig, job: VariedJob, run: &HeldRun) -> f64
+    requires { h.column < most_variables }
     ensures { (m : ℕ) →
-        let o = optimizer config (variables_from job.now.counts job.now.numbers) m in
+        let o = optimizer config (variables_of job.entry.held.now) m in
         result ≡ denom o (current_of (damped_from h run.now)) h.column }
 {
     let q = h.column as usize;
-    let variable = job.active_at(q);
+    let variable = job.held.active_at(q);
     let x0 = run.params[q];
     let relative = config.finite_difference_relative_step;
     let plus = moved_up(x0, relative, variable);
@@ -86,19 +85,17 @@ fn between(h: Head, config: DlsConfig, job: &HeldJob, run: &HeldRun) -> f64
 pub(crate) fn with_differences(
     h: Head,
     config: DlsConfig,
-    job: &HeldJob,
+    job: CountedJob,
     minus: [f64; 12],
     run: &mut HeldRun,
 )
-    requires fact_1 { variable_count_from job.now.counts ≤ most_variables }
-    requires fact_2 { operand_count_from job.now.counts ≤ most_operands }
-    requires fact_3 { h.column < most_variables }
-    ensures { let o = optimizer config (variables_from job.now.counts job.now.numbers) (operand_count_from job.now.counts) in
+    requires { h.column < most_variables }
+    ensures { let o = optimizer config (variables_of job.entry.held.now) (operand_count_of job.entry.held.now) in
         let before = damped_from h run.old in
         damped_from h run.new ≡ with_jacobian before (with_differences o (current_of before) h.column run.old.jacobian run.old.plus_residuals minus) }
 {
-    let d = between(h, config, job, run);
+    let d = between(h, config, VariedJob { held: job.held }, run);
     let q = h.column as usize;
-    let m = job.operand_count();
+    let m = job.held.operand_count();
     jacobian_column(&mut run.jacobian, q, &run.plus_residuals, &minus, m, d);
 }

@@ -1,31 +1,31 @@
 // A damped run, from one merit to the next: the surfaces whose merit comes next, and how the run goes on with that merit.
 ghost use Rattle.std.specs.Prelude.{◌≡◌, ℕ, ◌≤◌, ◌<◌, length};
-ghost use Rattle.normal.specs.Layout.{scratch_length, most_operands, most_variables};
+ghost use Rattle.normal.specs.Layout.{scratch_length};
 ghost use Rattle.variables.specs.Active.{num_active};
 ghost use Rattle.runs.specs.DampedRow as Damped;
 ghost use Rattle.runs.specs.DampedRow.{pending, advance, advance_at};
 ghost use Rattle.dls.specs.DampedSteps.{optimizer, ScratchKept};
-ghost use Rattle.held.specs.JobFrom.{standing, variable_count_from, operand_count_from, variables_from};
+ghost use Rattle.held.specs.JobFrom.{standing};
 ghost use Rattle.held.specs.RowFrom.{damped_from};
 ghost use Rattle.held.specs.Standing.{Behind};
 ghost use Rattle.dls.specs.Found.{ForFound};
+ghost use Rattle.held.specs.JobOf.{variables_of, operand_count_of};
 
 use crate::accepting::{advance_candidate, resume_iterations};
 use crate::attempts::resume_stationary;
 use crate::columns::{lay_moved, moved_down, moved_up, with_differences};
 use crate::states::{at_minus, at_plus};
-use held::{Head, HeldJob, HeldRun, copy, extract_values, lay_applied, phases};
+use held::{CountedJob, Head, HeldRun, VariedJob, copy, extract_values, lay_applied, phases};
 use heldmerit::{merit_of, residuals_of};
 use jobs::DlsConfig;
 
 // The surfaces whose merit comes next, laid where it is worked out.
 #[tactic(auto, using(crate::proofs::Few::few))]
-pub fn pending_damped(h: Head, config: DlsConfig, job: &HeldJob, run: &HeldRun, flat: &mut [f64])
-    requires fact_1 { variable_count_from job.now.counts ≤ most_variables }
-    requires fact_2 { h.column < num_active (variables_from job.now.counts job.now.numbers) }
-    requires fact_3 { 64 ≤ length flat.old }
+pub fn pending_damped(h: Head, config: DlsConfig, job: VariedJob, run: &HeldRun, flat: &mut [f64])
+    requires fact_1 { h.column < num_active (variables_of job.held.now) }
+    requires fact_2 { 64 ≤ length flat.old }
     ensures fact_1 { ((m : ℕ) →
-        standing flat.new ≡ pending (optimizer config (variables_from job.now.counts job.now.numbers) m) (damped_from h run.now)) }
+        standing flat.new ≡ pending (optimizer config (variables_of job.entry.held.now) m) (damped_from h run.now)) }
     ensures fact_2 { Behind flat.old flat.new }
 {
     match h.phase {
@@ -41,21 +41,19 @@ pub fn pending_damped(h: Head, config: DlsConfig, job: &HeldJob, run: &HeldRun, 
 fn advance_first(
     h: Head,
     config: DlsConfig,
-    job: &HeldJob,
+    job: CountedJob,
     found: &[f64; 12],
     run: &mut HeldRun,
 ) -> Head
-    requires fact_1 { variable_count_from job.now.counts ≤ most_variables }
-    requires fact_2 { operand_count_from job.now.counts ≤ most_operands }
-    requires fact_3 { 0 < num_active (variables_from job.now.counts job.now.numbers) }
-    ensures { ForFound job.now.counts job.now.numbers found.now (λ e. (m : ℕ) →
-        let o = optimizer config (variables_from job.now.counts job.now.numbers) m in
+    requires { 0 < num_active (variables_of job.held.now) }
+    ensures { ForFound job.entry.held.now found.now (λ e. (m : ℕ) →
+        let o = optimizer config (variables_of job.entry.held.now) m in
         damped_from result run.new ≡ advance_at o Damped.first (damped_from h run.old) e) }
 {
-    run.params = extract_values(job, &run.surfaces);
+    run.params = extract_values(VariedJob { held: job.held }, &run.surfaces);
     run.values = *found;
-    run.residuals = residuals_of(found, job);
-    let merit = merit_of(found, job);
+    run.residuals = residuals_of(found, job.held);
+    let merit = merit_of(found, job.held);
     let next = Head {
         total_merit: merit,
         initial_merit: merit,
@@ -71,24 +69,22 @@ fn advance_first(
 fn advance_minus(
     h: Head,
     config: DlsConfig,
-    job: &HeldJob,
+    job: CountedJob,
     found: &[f64; 12],
     run: &mut HeldRun,
     scratch: &mut [f64],
 ) -> Head
     requires fact_1 { scratch_length ≤ length scratch.old }
-    requires fact_2 { variable_count_from job.now.counts ≤ most_variables }
-    requires fact_3 { operand_count_from job.now.counts ≤ most_operands }
-    requires fact_4 { h.column < num_active (variables_from job.now.counts job.now.numbers) }
-    ensures fact_1 { ForFound job.now.counts job.now.numbers found.now (λ e.
-        let o = optimizer config (variables_from job.now.counts job.now.numbers) (operand_count_from job.now.counts) in
+    requires fact_2 { h.column < num_active (variables_of job.held.now) }
+    ensures fact_1 { ForFound job.entry.held.now found.now (λ e.
+        let o = optimizer config (variables_of job.entry.held.now) (operand_count_of job.entry.held.now) in
         damped_from result run.new ≡ advance_at o Damped.minus (damped_from h run.old) e) }
     ensures fact_2 { ScratchKept scratch.old scratch.new }
 {
-    let below = residuals_of(found, job);
+    let below = residuals_of(found, job.held);
     with_differences(h, config, job, below, run);
     let column = h.column + 1;
-    let p = job.num_active();
+    let p = job.held.num_active();
     if (column as usize) < p {
         return at_plus(h, column, run);
     }
@@ -100,23 +96,21 @@ fn advance_minus(
 pub fn advance_damped(
     h: Head,
     config: DlsConfig,
-    job: &HeldJob,
+    job: CountedJob,
     found: &[f64; 12],
     run: &mut HeldRun,
     scratch: &mut [f64],
 ) -> Head
     requires fact_1 { scratch_length ≤ length scratch.old }
-    requires fact_2 { variable_count_from job.now.counts ≤ most_variables }
-    requires fact_3 { operand_count_from job.now.counts ≤ most_operands }
-    requires fact_4 { h.column < num_active (variables_from job.now.counts job.now.numbers) }
-    ensures fact_1 { ForFound job.now.counts job.now.numbers found.now (λ e.
-        let o = optimizer config (variables_from job.now.counts job.now.numbers) (operand_count_from job.now.counts) in
+    requires fact_2 { h.column < num_active (variables_of job.held.now) }
+    ensures fact_1 { ForFound job.entry.held.now found.now (λ e.
+        let o = optimizer config (variables_of job.entry.held.now) (operand_count_of job.entry.held.now) in
         damped_from result run.new ≡ advance o (damped_from h run.old) e) }
     ensures fact_2 { ScratchKept scratch.old scratch.new }
 {
     match h.phase {
         phases::FIRST => advance_first(h, config, job, found, run),
-        phases::PLUS => at_minus(h, residuals_of(found, job), run),
+        phases::PLUS => at_minus(h, residuals_of(found, job.held), run),
         phases::MINUS => advance_minus(h, config, job, found, run, scratch),
         phases::CANDIDATE => advance_candidate(h, config, job, found, run, scratch),
         _ => h,

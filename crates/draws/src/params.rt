@@ -1,12 +1,14 @@
 // The draws for a trial of multi-start and for a step of annealing: one for each enabled variable of a held job, in order.
-ghost use Rattle.std.specs.Prelude.{◌≡◌, ◌≤◌};
+ghost use Rattle.std.specs.Prelude.{◌≡◌, Float};
 ghost use Rattle.xorshift.specs.Xorshift.{step_times};
+ghost use Rattle.variables.specs.declared.types.VariableDef.{VariableDef};
 ghost use Rattle.variables.specs.Active.{num_active};
 ghost use Rattle.runs.specs.MultiStartRun.{random_params, after_draws};
-ghost use Rattle.held.specs.JobFrom.{variable_count_from, variables_from};
-ghost use Rattle.draws.specs.Parts.{TriedBy};
+ghost use Rattle.draws.specs.Parts.{TriedBy, drawn_values, anywhere, nearby};
+ghost use Rattle.held.specs.JobOf.{variables_of};
 
-use held::HeldJob;
+use held::VariedJob;
+use variables::VariableDef;
 
 // What was drawn, and the generator after it.
 #[derive(Clone, Copy)]
@@ -15,23 +17,53 @@ pub struct Drawn {
     pub generator: u64,
 }
 
-// `rng.uniform(var.min_value, var.max_value)` for each, and +0.0 after them. The loop is like trial_params'; one for both would take the value
-// as a closure, of which each invariant would have to speak for every rule that the closure meets: the two proofs share `Drawing` instead.
-pub fn random_params(generator: u64, job: &HeldJob) -> Drawn
-    requires { variable_count_from job.now.counts ≤ 8 }
-    ensures { (result.params ≡ random_params (variables_from job.now.counts job.now.numbers) generator)
-        × (result.generator ≡ after_draws (variables_from job.now.counts job.now.numbers) generator) }
+// What a unit draw makes of a variable's value.
+trait Rule {
+    ghost rule: { (unit old : Float) → VariableDef → Float };
+
+    fn value(unit: f64, old: f64, d: VariableDef) -> f64
+        ensures { result ≡ rule unit old d };
+}
+
+// `rng.uniform(var.min_value, var.max_value)`
+struct Anywhere;
+
+impl Rule for Anywhere {
+    ghost rule = { anywhere };
+
+    fn value(unit: f64, _old: f64, d: VariableDef) -> f64 {
+        xorshift::uniform(unit, d.min_value, d.max_value)
+    }
+}
+
+// The value moved by up to a twentieth of its range either way, and clamped.
+struct Nearby;
+
+impl Rule for Nearby {
+    ghost rule = { nearby };
+
+    fn value(unit: f64, old: f64, d: VariableDef) -> f64 {
+        let perturb = (unit - 0.5) * 0.1 * (d.max_value - d.min_value);
+        floats::clamp(old + perturb, d.min_value, d.max_value)
+    }
+}
+
+// A draw for each, used by a rule; what stands after them is kept.
+#[tactic(auto, unfolding(lists::specs::Tab::tab, xorshift::specs::Xorshift::step_times, variables::specs::Active::enabled_of))]
+fn draw_each<R: Rule>(generator: u64, job: VariedJob, start: [f64; 8]) -> Drawn
+    ensures { (result.params ≡ drawn_values R.rule (variables_of job.entry.held.now) start generator)
+        × (result.generator ≡ step_times (num_active (variables_of job.entry.held.now)) generator) }
 {
-    let count = job.variable_count();
-    let mut x = [0.0; 8];
+    let count = job.held.variable_count();
+    let mut x = start;
     let mut rng = generator;
     let mut q: usize = 0;
     for i in 0..count {
-        let d = job.variable_at(i);
+        let d = job.held.variable_at(i);
         if d.enabled {
             let draw = xorshift::drawn(rng);
             rng = draw.state;
-            x[q] = xorshift::uniform(draw.unit, d.min_value, d.max_value);
+            x[q] = R::value(draw.unit, start[q], d);
             q += 1;
         }
     }
@@ -41,28 +73,20 @@ pub fn random_params(generator: u64, job: &HeldJob) -> Drawn
     }
 }
 
-// Each param moved by up to a twentieth of its range either way, and clamped; what stands after them is kept.
-pub fn trial_params(generator: u64, job: &HeldJob, params: [f64; 8]) -> Drawn
-    requires { variable_count_from job.now.counts ≤ 8 }
-    ensures { TriedBy (variables_from job.now.counts job.now.numbers) params generator result.params
-        × (result.generator ≡ step_times (num_active (variables_from job.now.counts job.now.numbers)) generator) }
+// For a trial of multi-start: any value within the bounds, and +0.0 after them.
+#[tactic(auto, unfolding(lists::specs::Tab::tab, runs::specs::MultiStartRun::random_params, runs::specs::MultiStartRun::after_draws))]
+pub fn random_params(generator: u64, job: VariedJob) -> Drawn
+    ensures { (result.params ≡ random_params (variables_of job.entry.held.now) generator)
+        × (result.generator ≡ after_draws (variables_of job.entry.held.now) generator) }
 {
-    let count = job.variable_count();
-    let mut x = params;
-    let mut rng = generator;
-    let mut q: usize = 0;
-    for i in 0..count {
-        let d = job.variable_at(i);
-        if d.enabled {
-            let draw = xorshift::drawn(rng);
-            rng = draw.state;
-            let perturb = (draw.unit - 0.5) * 0.1 * (d.max_value - d.min_value);
-            x[q] = floats::clamp(params[q] + perturb, d.min_value, d.max_value);
-            q += 1;
-        }
-    }
-    Drawn {
-        params: x,
-        generator: rng,
-    }
+    draw_each::<Anywhere>(generator, job, [0.0; 8])
+}
+
+// For a step of annealing: each param moved, and what stands after them kept.
+#[tactic(auto, unfolding(runs::specs::AnnealingRun::trial_params))]
+pub fn trial_params(generator: u64, job: VariedJob, params: [f64; 8]) -> Drawn
+    ensures { TriedBy (variables_of job.entry.held.now) params generator result.params
+        × (result.generator ≡ step_times (num_active (variables_of job.entry.held.now)) generator) }
+{
+    draw_each::<Nearby>(generator, job, params)
 }

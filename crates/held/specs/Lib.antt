@@ -2,6 +2,7 @@
 -- (`Written`).
 pub mod Places
 pub mod JobFrom
+pub mod JobOf
 pub mod RowFrom
 pub mod Written
 -- Laws: surfaces laid flat, held rows and rows are one to one; entries of the job.

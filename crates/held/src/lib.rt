@@ -12,7 +12,9 @@ pub mod places;
 mod sets;
 mod types;
 mod values;
+mod varied;
 
 pub use flat::{copy, stand};
 pub use types::{BestHead, Head, HeldBest, HeldHead, HeldJob, HeldRow, HeldRun, RowHead};
 pub use values::{apply_values, clamp_values, extract_values, lay_applied};
+pub use varied::{CountedJob, VariedJob};

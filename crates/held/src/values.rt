@@ -2,11 +2,12 @@
 ghost use Rattle.std.specs.Prelude.{◌≡◌, ◌≤◌, length};
 ghost use Rattle.variables.specs.Kinds.{value_of, apply_clamp, put_at, followed};
 ghost use Rattle.variables.specs.Values.{extracted, clamped_values, stored_in, applied};
-ghost use Rattle.held.specs.JobFrom.{standing, variable_count_from, variables_from};
+ghost use Rattle.held.specs.JobFrom.{standing};
+ghost use Rattle.held.specs.JobOf.{variables_of};
 ghost use Rattle.held.specs.Standing.{Behind};
 
 use crate::flat::{copy, put_surface};
-use crate::types::HeldJob;
+use crate::varied::VariedJob;
 use variables::{Follower, VariableDef, VariableType};
 
 // A variable's quantity as it stands in surfaces laid flat.
@@ -23,16 +24,15 @@ fn value_of(flat: &[f64], kind: VariableType) -> f64
 }
 
 // The values of the enabled variables, and +0.0 after them.
-pub fn extract_values(job: &HeldJob, flat: &[f64]) -> [f64; 8]
-    requires fact_1 { variable_count_from job.now.counts ≤ 8 }
-    requires fact_2 { 64 ≤ length flat.now }
-    ensures { result ≡ extracted (variables_from job.now.counts job.now.numbers) (standing flat.now) }
+pub fn extract_values(job: VariedJob, flat: &[f64]) -> [f64; 8]
+    requires { 64 ≤ length flat.now }
+    ensures { result ≡ extracted (variables_of job.entry.held.now) (standing flat.now) }
 {
-    let count = job.variable_count();
+    let count = job.held.variable_count();
     let mut x = [0.0; 8];
     let mut q: usize = 0;
     for i in 0..count {
-        let d = job.variable_at(i);
+        let d = job.held.variable_at(i);
         if d.enabled {
             x[q] = value_of(flat, d.var_type);
             q += 1;
@@ -42,15 +42,14 @@ pub fn extract_values(job: &HeldJob, flat: &[f64]) -> [f64; 8]
 }
 
 // Each value clamped to its variable's bounds, a NaN let through; what stands after them is kept.
-pub fn clamp_values(job: &HeldJob, values: [f64; 8]) -> [f64; 8]
-    requires { variable_count_from job.now.counts ≤ 8 }
-    ensures { result ≡ clamped_values (variables_from job.now.counts job.now.numbers) values }
+pub fn clamp_values(job: VariedJob, values: [f64; 8]) -> [f64; 8]
+    ensures { result ≡ clamped_values (variables_of job.entry.held.now) values }
 {
-    let count = job.variable_count();
+    let count = job.held.variable_count();
     let mut x = values;
     let mut q: usize = 0;
     for i in 0..count {
-        let d = job.variable_at(i);
+        let d = job.held.variable_at(i);
         if d.enabled {
             x[q] = floats::clamp(values[q], d.min_value, d.max_value);
             q += 1;
@@ -96,16 +95,15 @@ fn apply_variable(d: VariableDef, value: f64, flat: &mut [f64])
 }
 
 // The surfaces that stand in flat numbers with each value applied, in rising order of the variables.
-pub fn apply_values(job: &HeldJob, values: [f64; 8], flat: &mut [f64])
-    requires fact_1 { variable_count_from job.now.counts ≤ 8 }
-    requires fact_2 { 64 ≤ length flat.old }
-    ensures fact_1 { standing flat.new ≡ applied (variables_from job.now.counts job.now.numbers) values (standing flat.old) }
+pub fn apply_values(job: VariedJob, values: [f64; 8], flat: &mut [f64])
+    requires { 64 ≤ length flat.old }
+    ensures fact_1 { standing flat.new ≡ applied (variables_of job.entry.held.now) values (standing flat.old) }
     ensures fact_2 { Behind flat.old flat.new }
 {
-    let count = job.variable_count();
+    let count = job.held.variable_count();
     let mut q: usize = 0;
     for i in 0..count {
-        let d = job.variable_at(i);
+        let d = job.held.variable_at(i);
         if d.enabled {
             apply_variable(d, values[q], flat);
             q += 1;
@@ -114,11 +112,10 @@ pub fn apply_values(job: &HeldJob, values: [f64; 8], flat: &mut [f64])
 }
 
 // The surfaces of flat numbers laid in others, with each value applied.
-pub fn lay_applied(job: &HeldJob, values: [f64; 8], surfaces: &[f64], flat: &mut [f64])
-    requires fact_1 { variable_count_from job.now.counts ≤ 8 }
-    requires fact_2 { 64 ≤ length surfaces.now }
-    requires fact_3 { 64 ≤ length flat.old }
-    ensures fact_1 { standing flat.new ≡ applied (variables_from job.now.counts job.now.numbers) values (standing surfaces.now) }
+pub fn lay_applied(job: VariedJob, values: [f64; 8], surfaces: &[f64], flat: &mut [f64])
+    requires fact_1 { 64 ≤ length surfaces.now }
+    requires fact_2 { 64 ≤ length flat.old }
+    ensures fact_1 { standing flat.new ≡ applied (variables_of job.entry.held.now) values (standing surfaces.now) }
     ensures fact_2 { Behind flat.old flat.new }
 {
     copy(surfaces, flat);

@@ -1,6 +1,6 @@
 // Multi-start: a trial of it, and from the end of a trial to just before the next one's first merit.
 ghost use Rattle.std.specs.Prelude.{◌≡◌, ◌≤◌, ◌<◌, ltb, length};
-ghost use Rattle.normal.specs.Layout.{scratch_length, most_operands, most_variables};
+ghost use Rattle.normal.specs.Layout.{scratch_length};
 ghost use Rattle.variables.specs.Active.{num_active};
 ghost use Rattle.runs.specs.declared.types.DampedState.{DampedState};
 ghost use Rattle.runs.specs.MultiStartRun.{after_draws, trial_presc};
@@ -9,26 +9,26 @@ ghost use Rattle.runs.specs.DampedRow as Damped;
 ghost use Rattle.runs.specs.State.{with_damped};
 ghost use Rattle.jobs.specs.Records.{dls_config};
 ghost use Rattle.dls.specs.DampedSteps.{optimizer, ScratchKept};
-ghost use Rattle.held.specs.JobFrom.{standing, variable_count_from, operand_count_from, num_trials_from, settings_from, variables_from};
+ghost use Rattle.held.specs.JobFrom.{standing, num_trials_from};
 ghost use Rattle.dls.specs.Found.{ForFound};
 ghost use Rattle.draws.specs.Parts.{ForOptimizer};
 ghost use Rattle.held.specs.declared.types.HeldBest.{HeldBest};
 ghost use Rattle.held.specs.RowFrom.{result_from, state_from};
+ghost use Rattle.held.specs.JobOf.{variables_of, operand_count_of, settings_of};
 
 use crate::merging::merged;
-use held::{BestHead, HeldBest, HeldJob, HeldRun, RowHead, phases};
+use held::{BestHead, CountedJob, HeldBest, HeldRun, RowHead, VariedJob, phases};
 
 // The surfaces that a trial starts from; the generator after its draws.
 // global.rs: `trial_presc`
 #[tactic(auto, unfolding(runs::specs::MultiStartRun::trial_presc))]
-fn trial_surfaces(generator: u64, job: &HeldJob, surfaces: &mut [f64; 64]) -> u64
-    requires { variable_count_from job.now.counts ≤ 8 }
-    ensures { ForOptimizer (variables_from job.now.counts job.now.numbers)
-        (λ o. standing surfaces.new ≡ trial_presc o (standing job.now.numbers) generator)
-        × (result ≡ after_draws (variables_from job.now.counts job.now.numbers) generator) }
+fn trial_surfaces(generator: u64, job: VariedJob, surfaces: &mut [f64; 64]) -> u64
+    ensures { ForOptimizer (variables_of job.entry.held.now)
+        (λ o. standing surfaces.new ≡ trial_presc o (standing job.entry.held.now.numbers) generator)
+        × (result ≡ after_draws (variables_of job.entry.held.now) generator) }
 {
     let drawn = draws::random_params(generator, job);
-    held::lay_applied(job, drawn.params, &job.numbers, surfaces);
+    held::lay_applied(job, drawn.params, &job.held.numbers, surfaces);
     drawn.generator
 }
 
@@ -55,16 +55,15 @@ fn resume_trials(
     best: BestHead,
     generator: u64,
     trial: u64,
-    job: &HeldJob,
+    job: VariedJob,
     run: &mut HeldRun,
 ) -> RowHead
-    requires { variable_count_from job.now.counts ≤ 8 }
-    ensures { ForOptimizer (variables_from job.now.counts job.now.numbers) (λ o. (kept : HeldBest) →
-        let trials = num_trials_from job.now.counts in
+    ensures { ForOptimizer (variables_of job.entry.held.now) (λ o. (kept : HeldBest) →
+        let trials = num_trials_from job.entry.held.now.counts in
         state_from result run.new kept
-        ≡ resume_trials o (standing job.now.numbers) trials (ltb trial trials) (result_from best kept) generator trial) }
+        ≡ resume_trials o (standing job.entry.held.now.numbers) trials (ltb trial trials) (result_from best kept) generator trial) }
 {
-    if trial < job.num_trials() {
+    if trial < job.held.num_trials() {
         let next = trial_surfaces(generator, job, &mut run.surfaces);
         let damped = dls::at_first(run);
         return RowHead {
@@ -80,12 +79,11 @@ fn resume_trials(
 
 // After a merit has taken the trial's damped part to where it stands: it goes on there, or the trial is over.
 #[tactic(auto, unfolding(runs::specs::MultiStartRow::resume_damped))]
-fn resume_damped(h: RowHead, job: &HeldJob, run: &mut HeldRun, best: &mut HeldBest) -> RowHead
-    requires { variable_count_from job.now.counts ≤ 8 }
-    ensures { ForOptimizer (variables_from job.now.counts job.now.numbers) (λ o. (old : DampedState) →
+fn resume_damped(h: RowHead, job: VariedJob, run: &mut HeldRun, best: &mut HeldBest) -> RowHead
+    ensures { ForOptimizer (variables_of job.entry.held.now) (λ o. (old : DampedState) →
         let before = state_from h run.old best.old in
         state_from result run.new best.new
-        ≡ resume_damped o (standing job.now.numbers) (num_trials_from job.now.counts) (Damped.is_finished before.damped)
+        ≡ resume_damped o (standing job.entry.held.now.numbers) (num_trials_from job.entry.held.now.counts) (Damped.is_finished before.damped)
         (with_damped before old) before.damped) }
 {
     if kinds::damped_over(h.damped.phase) {
@@ -99,23 +97,21 @@ fn resume_damped(h: RowHead, job: &HeldJob, run: &mut HeldRun, best: &mut HeldBe
 #[tactic(auto, unfolding(runs::specs::MultiStartRow::advance))]
 pub fn advance_trials(
     h: RowHead,
-    job: &HeldJob,
+    job: CountedJob,
     found: &[f64; 12],
     run: &mut HeldRun,
     best: &mut HeldBest,
     scratch: &mut [f64],
 ) -> RowHead
     requires fact_1 { scratch_length ≤ length scratch.old }
-    requires fact_2 { variable_count_from job.now.counts ≤ most_variables }
-    requires fact_3 { operand_count_from job.now.counts ≤ most_operands }
-    requires fact_4 { h.damped.column < num_active (variables_from job.now.counts job.now.numbers) }
-    ensures fact_1 { ForFound job.now.counts job.now.numbers found.now (λ e.
-        let o = optimizer (dls_config (settings_from job.now.counts job.now.numbers)) (variables_from job.now.counts job.now.numbers)
-        (operand_count_from job.now.counts) in
+    requires fact_2 { h.damped.column < num_active (variables_of job.held.now) }
+    ensures fact_1 { ForFound job.entry.held.now found.now (λ e.
+        let o = optimizer (dls_config (settings_of job.entry.held.now)) (variables_of job.entry.held.now)
+        (operand_count_of job.entry.held.now) in
         state_from result run.new best.new
-        ≡ advance o (standing job.now.numbers) (num_trials_from job.now.counts) (state_from h run.old best.old) e) }
+        ≡ advance o (standing job.entry.held.now.numbers) (num_trials_from job.entry.held.now.counts) (state_from h run.old best.old) e) }
     ensures fact_2 { ScratchKept scratch.old scratch.new }
 {
-    let damped = dls::advance_damped(h.damped, job.dls_config(), job, found, run, scratch);
-    resume_damped(RowHead { damped, ..h }, job, run, best)
+    let damped = dls::advance_damped(h.damped, job.held.dls_config(), job, found, run, scratch);
+    resume_damped(RowHead { damped, ..h }, VariedJob { held: job.held }, run, best)
 }

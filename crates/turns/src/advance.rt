@@ -1,6 +1,6 @@
 // From a merit to just before the next, or to the end, by kind and phase.
 ghost use Rattle.std.specs.Prelude.{◌≡◌, ◌≤◌, ◌<◌, length};
-ghost use Rattle.normal.specs.Layout.{scratch_length, most_operands};
+ghost use Rattle.normal.specs.Layout.{scratch_length};
 ghost use Rattle.variables.specs.Active.{num_active};
 ghost use Rattle.jobs.specs.Records.{annealing_config};
 ghost use Rattle.runs.specs.State.{with_damped};
@@ -9,12 +9,12 @@ ghost use Rattle.runs.specs.DampedRow as Damped;
 ghost use Rattle.runs.specs.AnnealingRow as Annealing;
 ghost use Rattle.runs.specs.Rows.{advance_by};
 ghost use Rattle.dls.specs.DampedSteps.{optimizer, ScratchKept};
-ghost use Rattle.held.specs.JobFrom.{variable_count_from, operand_count_from, settings_from, variables_from, held_job};
 ghost use Rattle.held.specs.declared.types.HeldBest.{HeldBest};
 ghost use Rattle.held.specs.RowFrom.{state_from};
 ghost use Rattle.dls.specs.Found.{ForFound};
+ghost use Rattle.held.specs.JobOf.{variables_of, operand_count_of, settings_of, job_of};
 
-use held::{HeldBest, HeldJob, HeldRun, RowHead, methods, phases};
+use held::{CountedJob, HeldBest, HeldRun, RowHead, VariedJob, methods, phases};
 use heldmerit::merit_of;
 use jobs::DlsConfig;
 
@@ -22,17 +22,15 @@ use jobs::DlsConfig;
 fn advance_part(
     h: RowHead,
     config: DlsConfig,
-    job: &HeldJob,
+    job: CountedJob,
     found: &[f64; 12],
     run: &mut HeldRun,
     scratch: &mut [f64],
 ) -> RowHead
     requires fact_1 { scratch_length ≤ length scratch.old }
-    requires fact_2 { variable_count_from job.now.counts ≤ 8 }
-    requires fact_3 { operand_count_from job.now.counts ≤ most_operands }
-    requires fact_4 { h.damped.column < num_active (variables_from job.now.counts job.now.numbers) }
-    ensures fact_1 { ForFound job.now.counts job.now.numbers found.now (λ e. (best : HeldBest) →
-        let o = optimizer config (variables_from job.now.counts job.now.numbers) (operand_count_from job.now.counts) in
+    requires fact_2 { h.damped.column < num_active (variables_of job.held.now) }
+    ensures fact_1 { ForFound job.entry.held.now found.now (λ e. (best : HeldBest) →
+        let o = optimizer config (variables_of job.entry.held.now) (operand_count_of job.entry.held.now) in
         let before = state_from h run.old best in
         state_from result run.new best ≡ with_damped before (Damped.advance o before.damped e)) }
     ensures fact_2 { ScratchKept scratch.old scratch.new }
@@ -43,28 +41,26 @@ fn advance_part(
 
 fn advance_annealing(
     h: RowHead,
-    job: &HeldJob,
+    job: CountedJob,
     found: &[f64; 12],
     run: &mut HeldRun,
     best: &mut HeldBest,
     scratch: &mut [f64],
 ) -> RowHead
     requires fact_1 { scratch_length ≤ length scratch.old }
-    requires fact_2 { variable_count_from job.now.counts ≤ 8 }
-    requires fact_3 { operand_count_from job.now.counts ≤ most_operands }
-    requires fact_4 { h.damped.column < num_active (variables_from job.now.counts job.now.numbers) }
-    ensures fact_1 { ForFound job.now.counts job.now.numbers found.now (λ e.
-        let a = annealer_of (held_job job.now.counts job.now.numbers 3)
-        (annealing_config (settings_from job.now.counts job.now.numbers)) in
+    requires fact_2 { h.damped.column < num_active (variables_of job.held.now) }
+    ensures fact_1 { ForFound job.entry.held.now found.now (λ e.
+        let a = annealer_of (job_of job.entry.held.now 3)
+        (annealing_config (settings_of job.entry.held.now)) in
         state_from result run.new best.new ≡ Annealing.advance a (state_from h run.old best.old) e) }
     ensures fact_2 { ScratchKept scratch.old scratch.new }
 {
-    let config = job.annealing_config();
+    let config = job.held.annealing_config();
     match h.damped.phase {
         phases::WALK_FIRST => {
-            annealing::advance_walk_first(config, merit_of(found, job), job, run, best)
+            annealing::advance_walk_first(config, merit_of(found, job.held), VariedJob { held: job.held }, run, best)
         }
-        phases::WALK => { annealing::advance_walk(h, config, merit_of(found, job), job, run, best) }
+        phases::WALK => { annealing::advance_walk(h, config, merit_of(found, job.held), VariedJob { held: job.held }, run, best) }
         _ => advance_part(h, defaults::polish_settings(), job, found, run, scratch),
     }
 }
@@ -73,24 +69,22 @@ fn advance_annealing(
 pub(crate) fn advance_run(
     h: RowHead,
     kind: u64,
-    job: &HeldJob,
+    job: CountedJob,
     found: &[f64; 12],
     run: &mut HeldRun,
     best: &mut HeldBest,
     scratch: &mut [f64],
 ) -> RowHead
     requires fact_1 { scratch_length ≤ length scratch.old }
-    requires fact_2 { variable_count_from job.now.counts ≤ 8 }
-    requires fact_3 { operand_count_from job.now.counts ≤ most_operands }
-    requires fact_4 { h.damped.column < num_active (variables_from job.now.counts job.now.numbers) }
-    ensures fact_1 { ForFound job.now.counts job.now.numbers found.now (λ e.
-        let j = held_job job.now.counts job.now.numbers kind in
+    requires fact_2 { h.damped.column < num_active (variables_of job.held.now) }
+    ensures fact_1 { ForFound job.entry.held.now found.now (λ e.
+        let j = job_of job.entry.held.now kind in
         state_from result run.new best.new ≡ advance_by j.method j (state_from h run.old best.old) e) }
     ensures fact_2 { ScratchKept scratch.old scratch.new }
 {
     // What is neither of the first two counts as annealing.
     match kind {
-        methods::DAMPED => advance_part(h, job.dls_config(), job, found, run, scratch),
+        methods::DAMPED => advance_part(h, job.held.dls_config(), job, found, run, scratch),
         methods::MULTI_START => multistart::advance_trials(h, job, found, run, best, scratch),
         _ => advance_annealing(h, job, found, run, best, scratch),
     }

@@ -3,21 +3,21 @@ ghost use Rattle.std.specs.Prelude.{◌≡◌, ◌≤◌, ◌<◌, length};
 ghost use Rattle.variables.specs.Active.{num_active};
 ghost use Rattle.runs.specs.AnnealingRow as Annealing;
 ghost use Rattle.runs.specs.Rows.{pending_by};
-ghost use Rattle.held.specs.JobFrom.{standing, variable_count_from, variables_from, held_job};
+ghost use Rattle.held.specs.JobFrom.{standing};
 ghost use Rattle.held.specs.declared.types.HeldBest.{HeldBest};
 ghost use Rattle.held.specs.RowFrom.{state_from};
 ghost use Rattle.held.specs.Standing.{Behind};
 ghost use Rattle.draws.specs.Parts.{ForAnnealer};
+ghost use Rattle.held.specs.JobOf.{variables_of, job_of};
 
-use held::{HeldBest, HeldJob, HeldRun, RowHead, methods, phases};
+use held::{HeldBest, HeldRun, RowHead, VariedJob, methods, phases};
 
 // Annealing: the base, a step's trial, or the polish's.
 #[tactic(auto, unfolding(runs::specs::AnnealingRow::pending, runs::specs::AnnealingRow::pending_at, runs::specs::AnnealingRow::phase_of))]
-fn pending_annealing(h: RowHead, job: &HeldJob, run: &HeldRun, flat: &mut [f64])
-    requires fact_1 { variable_count_from job.now.counts ≤ 8 }
-    requires fact_2 { h.damped.column < num_active (variables_from job.now.counts job.now.numbers) }
-    requires fact_3 { 64 ≤ length flat.old }
-    ensures fact_1 { ForAnnealer (variables_from job.now.counts job.now.numbers) (λ a. (best : HeldBest) →
+fn pending_annealing(h: RowHead, job: VariedJob, run: &HeldRun, flat: &mut [f64])
+    requires fact_1 { h.damped.column < num_active (variables_of job.held.now) }
+    requires fact_2 { 64 ≤ length flat.old }
+    ensures fact_1 { ForAnnealer (variables_of job.entry.held.now) (λ a. (best : HeldBest) →
         standing flat.new ≡ Annealing.pending a (state_from h run.now best)) }
     ensures fact_2 { Behind flat.old flat.new }
 {
@@ -28,18 +28,17 @@ fn pending_annealing(h: RowHead, job: &HeldJob, run: &HeldRun, flat: &mut [f64])
     }
 }
 
-pub fn pending_surfaces(h: RowHead, kind: u64, job: &HeldJob, run: &HeldRun, flat: &mut [f64])
-    requires fact_1 { variable_count_from job.now.counts ≤ 8 }
-    requires fact_2 { h.damped.column < num_active (variables_from job.now.counts job.now.numbers) }
-    requires fact_3 { 64 ≤ length flat.old }
+pub fn pending_surfaces(h: RowHead, kind: u64, job: VariedJob, run: &HeldRun, flat: &mut [f64])
+    requires fact_1 { h.damped.column < num_active (variables_of job.held.now) }
+    requires fact_2 { 64 ≤ length flat.old }
     ensures fact_1 { ((best : HeldBest) →
-        let j = held_job job.now.counts job.now.numbers kind in
+        let j = job_of job.entry.held.now kind in
         standing flat.new ≡ pending_by j.method j (state_from h run.now best)) }
     ensures fact_2 { Behind flat.old flat.new }
 {
     match kind {
         methods::DAMPED | methods::MULTI_START => {
-            dls::pending_damped(h.damped, job.dls_config(), job, run, flat)
+            dls::pending_damped(h.damped, job.held.dls_config(), job, run, flat)
         }
         _ => pending_annealing(h, job, run, flat),
     }

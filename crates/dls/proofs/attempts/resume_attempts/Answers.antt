@@ -8,16 +8,16 @@ use Rattle.dls.proofs.attempts.resume_attempts.Goals as goal
 pub loop-k-preserved : goal.loop-k-preserved
 loop-k-preserved c =
     let a = c.attempt_step in
-    let n = active-le (variables_from c.args.job.now.counts c.args.job.now.numbers) in (
+    let n = active-le (variables_from c.args.job.held.now.counts c.args.job.held.now.numbers) in (
       c.loop-k.invariant.0,
-      trying-on c.loop-k.invariant.1 c.requires.fact_3 (omega arith) a.ensures (omega (arith, n)) c.if-not-attempt_step.true c.raise-now.ensures,
+      trying-on c.loop-k.invariant.1 c.requires.fact_2 (omega arith) a.ensures (omega (arith, n)) c.if-not-attempt_step.true c.raise-now.ensures,
     )
 
 pub returns-in-loop-k : goal.returns-in-loop-k
 returns-in-loop-k c =
     let a = c.attempt_step in
     trying-found c.loop-k.invariant.1
-    c.requires.fact_3
+    c.requires.fact_2
     (omega arith) a.ensures c.if-not-attempt_step.false (rw c.loop-k.invariant.0 at c.candidate_params-found.ensures)
     (rw c.loop-k.invariant.0 at c.at_candidate.ensures)
 

@@ -14,13 +14,13 @@ returns c = λ k lens w m.
     let x = c.args in
     let r = c.residuals_of-run in
     let e : record { values = x.found.now; residuals = r.result; total_merit = c.merit_of-merit.result }
-    ≡ (evaluate_of (held_job x.job.now.counts x.job.now.numbers k) lens) = λ i.
+    ≡ (evaluate_of (held_job x.job.held.now.counts x.job.held.now.numbers k) lens) = λ i.
     record {
       values = w i;
       residuals = residuals-held _ _ _ r.ensures k lens w i;
       total_merit = merit-held _ _ _ c.merit_of-merit.ensures k lens w i;
     } in
-    first_on _ _ _ c.requires.fact_3 c.extract_values-run.ensures
+    first_on _ _ _ c.requires c.extract_values-run.ensures
     (c.resume_iterations.ensures
     ∙ ap (λ (q : MeritEvaluation). iteration_entered (ltb 0 x.config.max_iterations)
     (record {

@@ -31,16 +31,16 @@ returns-in-1-clause-fact_1 c = λ best.
     let x = c.args in
     let lo : 1 ≤ x.kind = omega arith in
     let hi : x.kind ≤ 2 = omega arith in
-    c.pending_damped.ensures.fact_1 (operand_count_from x.job.now.counts)
-    ∙ ap (λ (k : DlsConfig). Damped.pending (optimizer k (variables_from x.job.now.counts x.job.now.numbers) (operand_count_from x.job.now.counts))
+    c.pending_damped.ensures.fact_1 (operand_count_from x.job.held.now.counts)
+    ∙ ap (λ (k : DlsConfig). Damped.pending (optimizer k (variables_from x.job.held.now.counts x.job.held.now.numbers) (operand_count_from x.job.held.now.counts))
     (damped_from x.h.damped x.run.now)) c.dls_config.ensures
-    ∙ damped-or-trial x.kind (settings_from x.job.now.counts x.job.now.numbers) _ (state_from x.h x.run.now best) lo hi
+    ∙ damped-or-trial x.kind (settings_from x.job.held.now.counts x.job.held.now.numbers) _ (state_from x.h x.run.now best) lo hi
 
 pub returns-in_default-clause-fact_1 : goal.returns-in_default-clause-fact_1
 unfolding pending_by
 returns-in_default-clause-fact_1 c = λ best.
     let x = c.args in
-    let job = held_job x.job.now.counts x.job.now.numbers x.kind in
-    let settings = settings_from x.job.now.counts x.job.now.numbers in
+    let job = held_job x.job.held.now.counts x.job.held.now.numbers x.kind in
+    let settings = settings_from x.job.held.now.counts x.job.held.now.numbers in
     c.pending_annealing.ensures.fact_1 (annealer_of job (annealing_config settings)) refl best
     ∙ ap (λ (m : Method). pending_by m job (state_from x.h x.run.now best)) (sym (is-annealing x.kind settings (λ e. omega arith) (λ e. omega arith)))
