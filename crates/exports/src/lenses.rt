@@ -16,6 +16,7 @@ pub(crate) fn lens_of(held: JobRecord) -> OpticalPrescription
 }
 
 // Whether each operand's number for a kind is one.
+#[tactic(auto, unfolding(crate::specs::Lenses::are_operands, lists::specs::All::all_below))]
 fn are_operands(held: JobRecord) -> bool
     ensures { result ≡ are_operands held }
 {
@@ -31,7 +32,9 @@ fn are_operands(held: JobRecord) -> bool
 pub(crate) fn evaluate(held: JobRecord, evaluation: &mut MeritEvaluation) -> Result<(), Refusal>
     ensures { (answered result ≡ evaluate_record_number held) × (evaluation.new ≡ evaluated_record evaluation.old held) }
 {
-    Refusal::BadCount.unless(are_operands(held))?;
+    if !are_operands(held) {
+        return Err(Refusal::BadCount);
+    }
     let job = jobs::job_of(1, held);
     meritcalls::evaluate(job.prescription, job.merit_function, evaluation)
 }

@@ -1,6 +1,6 @@
 -- `rowturns::pending::pending_of` meets its contract. Assumes nothing.
 use mathlib.Core.Path.{◌≡◌, ap, ◌∙◌}
-use Prim.Native.Nat.{ℕ, zero, suc}
+use Prim.Native.Nat.{ℕ}
 use native.Mathlib.Omega.{arith}
 use Rattle.normal.specs.Layout.{scratch_length}
 use Rattle.jobs.specs.declared.types.Job.{Job}
@@ -12,31 +12,20 @@ use Rattle.held.specs.JobFrom.{held_job}
 use Rattle.held.specs.RowFrom.{kind_from, state_from, row_from}
 use Rattle.turns.proofs.Laid.{operands-known}
 use Rattle.rows.specs.Calls.{turn_row_number}
-use Rattle.rowturns.specs.Next.{pending_unless, next_of, pending_of}
-use Rattle.rows.proofs.Refused.{above-zero, turnable}
+use Rattle.rowturns.specs.Next.{next_of, pending_of}
+use Rattle.rows.proofs.Refused.{turnable}
+use Rattle.refusals.proofs.Laws.{value-refused, value-given}
 use Rattle.std.proofs.lemmas.Result.{err_from_is_err_and}
-use Rattle.std.specs.Prelude.{Ok, Err}
-use Rattle.refusals.specs.Numbers.{number_of}
-use Rattle.refusals.specs.declared.Refusal.{Refusal as Cause}
-use Rattle.rowturns.specs.declared.types.Pending.{Pending}
 use Rattle.rows.proofs.Undamaged.{job-taken, column-below}
 use Rattle.std.proofs.Common.{rules}
 use Rattle.rowturns.proofs.pending.pending_of.Goals as goal
-
-refused : (q : Cause) (n : ℕ) (next : Pending) → number_of q ≡ n → Err (number_of q) ≡ pending_unless n next
-refused q zero next e = absurd (omega (arith, above-zero q, e))
-refused q (suc n) next e = ap Err e
-
-done : (n : ℕ) (p next : Pending) → 0 ≡ n → p ≡ next → Ok p ≡ pending_unless n next
-done zero p next e h = ap Ok h
-done (suc n) p next e h = absurd (omega (arith, e))
 
 pub returns-in_err-turn_refusal : goal.returns-in_err-turn_refusal
 unfolding pending_of
 returns-in_err-turn_refusal c =
     let r = row_from c.args.row.now in
     let p = err_from_is_err_and c.from_residual.result c.from_residual.ensures.1 in
-    rw (p.1, p.2) (refused _ (turn_row_number scratch_length r) (next_of r) c.in_err-turn_refusal.ensures)
+    rw (p.1, p.2) (value-refused _ (turn_row_number scratch_length r) (next_of r) c.in_err-turn_refusal.ensures)
 
 pub invariant_of-job : goal.invariant_of-job
 invariant_of-job c =
@@ -70,4 +59,4 @@ returns c =
     c.stand-surfaces.ensures ∙ c.pending_surfaces.ensures.fact_1 h.best
     ∙ (λ i. pending_by (job (c.kind-kind.ensures i)).method (job (c.kind-kind.ensures i)) (state_from (c.numbers.ensures i) h.run h.best)) in
     let merit = c.merit_at.ensures (kind_from h.head.words) ∙ ap (λ (s : Surfaces). (evaluate_of (job_of_row r) s).total_merit) pending in
-    done (turn_row_number scratch_length r) _ (next_of r) c.in_ok-turn_refusal.ensures (λ i. record { surfaces = pending i; merit = merit i })
+    value-given (turn_row_number scratch_length r) (next_of r) _ c.in_ok-turn_refusal.ensures (λ i. record { surfaces = pending i; merit = merit i })
