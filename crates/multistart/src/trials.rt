@@ -113,5 +113,10 @@ pub fn advance_trials(
     ensures fact_2 { ScratchKept scratch.old scratch.new }
 {
     let damped = dls::advance_damped(h.damped, job.held.dls_config(), job, found, run, scratch);
-    resume_damped(RowHead { damped, ..h }, VariedJob { held: job.held }, run, best)
+    resume_damped(
+        RowHead { damped, ..h },
+        VariedJob { held: job.held },
+        run,
+        best,
+    )
 }

@@ -8,7 +8,7 @@ ghost use Rattle.held.specs.RowFrom.{row_from};
 ghost use Rattle.rowturns.specs.Next.{pending_of};
 
 use crate::types::Pending;
-use held::{HeldJob, HeldRow};
+use held::{HeldJob, HeldRow, VariedJob};
 use optics::OpticalSurface;
 use refusals::Refusal;
 use rows::turn_refusal;
@@ -33,7 +33,8 @@ pub fn pending_of(row: &HeldRow) -> Result<Pending, Refusal>
     turn_refusal(normal::SCRATCH, row)?;
     let kind = row.head.kind();
     let mut flat = [0.0; 64];
-    turns::pending_surfaces(row.head.numbers(), kind, &row.job, &row.run, &mut flat);
+    let job = VariedJob { held: &row.job };
+    turns::pending_surfaces(row.head.numbers(), kind, job, &row.run, &mut flat);
     let surfaces = held::stand(&flat);
     Ok(Pending {
         surfaces,

@@ -58,9 +58,24 @@ fn advance_annealing(
     let config = job.held.annealing_config();
     match h.damped.phase {
         phases::WALK_FIRST => {
-            annealing::advance_walk_first(config, merit_of(found, job.held), VariedJob { held: job.held }, run, best)
+            annealing::advance_walk_first(
+                config,
+                merit_of(found, job.held),
+                VariedJob { held: job.held },
+                run,
+                best,
+            )
         }
-        phases::WALK => { annealing::advance_walk(h, config, merit_of(found, job.held), VariedJob { held: job.held }, run, best) }
+        phases::WALK => {
+            annealing::advance_walk(
+                h,
+                config,
+                merit_of(found, job.held),
+                VariedJob { held: job.held },
+                run,
+                best,
+            )
+        }
         _ => advance_part(h, defaults::polish_settings(), job, found, run, scratch),
     }
 }

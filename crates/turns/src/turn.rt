@@ -4,13 +4,13 @@ ghost use Rattle.normal.specs.Layout.{scratch_length};
 ghost use Rattle.variables.specs.Active.{num_active};
 ghost use Rattle.jobs.specs.Checks.{job_taken};
 ghost use Rattle.dls.specs.DampedSteps.{ScratchKept};
-ghost use Rattle.held.specs.JobFrom.{variables_from, held_job};
+ghost use Rattle.held.specs.JobOf.{variables_of, job_of};
 ghost use Rattle.held.specs.RowFrom.{state_from};
 ghost use Rattle.turns.specs.Turned.{turned_by};
 
 use crate::advance::advance_run;
 use crate::pending::pending_surfaces;
-use held::{HeldBest, HeldJob, HeldRun, RowHead};
+use held::{CountedJob, HeldBest, HeldJob, HeldRun, RowHead, VariedJob};
 
 // The surfaces pending are laid at the start of scratch and evaluated there, and the run goes on with what was found.
 pub fn turned(
@@ -22,12 +22,13 @@ pub fn turned(
     scratch: &mut [f64],
 ) -> RowHead
     requires fact_1 { scratch_length ≤ length scratch.old }
-    requires fact_2 { job_taken (held_job job.now.counts job.now.numbers kind) ≡ true }
-    requires fact_3 { h.damped.column < num_active (variables_from job.now.counts job.now.numbers) }
-    ensures fact_1 { state_from result run.new best.new ≡ turned_by (held_job job.now.counts job.now.numbers kind) (state_from h run.old best.old) }
+    requires fact_2 { job_taken (job_of job.now kind) ≡ true }
+    requires fact_3 { h.damped.column < num_active (variables_of job.now) }
+    ensures fact_1 { state_from result run.new best.new ≡ turned_by (job_of job.now kind) (state_from h run.old best.old) }
     ensures fact_2 { ScratchKept scratch.old scratch.new }
 {
-    pending_surfaces(h, kind, job, run, scratch);
+    let counted = CountedJob { held: job };
+    pending_surfaces(h, kind, VariedJob { held: job }, run, scratch);
     let found = heldmerit::values_of(scratch, job);
-    advance_run(h, kind, job, &found, run, best, scratch)
+    advance_run(h, kind, counted, &found, run, best, scratch)
 }
