@@ -9,7 +9,8 @@ ghost use Rattle.annealing.specs.WalkFrom.{walk_from};
 ghost use Rattle.held.specs.JobOf.{variables_of};
 
 use crate::judging::WalkHead;
-use held::{BestHead, HeldBest, HeldRun, RowHead, VariedJob, phases};
+use held::{BestHead, HeldBest, HeldRun, RowHead, VariedJob};
+use runs::phases;
 
 // Step k of cycle c, with its draws made.
 // global.rs: `trial_params`

@@ -1,5 +1,6 @@
 // Whole numbers: the least value of an entry that is damage, with all that are greater.
-use held::{HeldJob, HeldRow, methods, phases};
+use held::{HeldJob, HeldRow};
+use runs::{methods, phases};
 
 #[derive(Clone, Copy)]
 pub(crate) enum Limit {

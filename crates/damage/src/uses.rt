@@ -1,6 +1,7 @@
 // Where a row has an entry in use.
-use held::{HeldJob, HeldRow, methods, phases};
+use held::{HeldJob, HeldRow};
 use merit::OperandType;
+use runs::{methods, phases};
 use variables::VariableType;
 
 #[derive(Clone, Copy)]

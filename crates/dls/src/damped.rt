@@ -15,9 +15,10 @@ use crate::accepting::{advance_candidate, resume_iterations};
 use crate::attempts::resume_stationary;
 use crate::columns::{lay_moved, moved_down, moved_up, with_differences};
 use crate::states::{at_minus, at_plus};
-use held::{CountedJob, Head, HeldRun, VariedJob, copy, extract_values, lay_applied, phases};
+use held::{CountedJob, Head, HeldRun, VariedJob, copy, extract_values, lay_applied};
 use heldmerit::{merit_of, residuals_of};
 use jobs::DlsConfig;
+use runs::phases;
 
 // The surfaces whose merit comes next, laid where it is worked out.
 #[tactic(auto, using(crate::proofs::Few::few))]

@@ -6,7 +6,8 @@ ghost use Rattle.dls.specs.DampedSteps.{with_damping};
 ghost use Rattle.held.specs.JobFrom.{standing};
 ghost use Rattle.held.specs.RowFrom.{damped_from};
 
-use held::{Head, HeldRun, phases};
+use held::{Head, HeldRun};
+use runs::phases;
 
 // Outside the loops: the phase, and surfaces, params and a candidate that stand already.
 pub fn holding(phase: u64, run: &mut HeldRun) -> Head

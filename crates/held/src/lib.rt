@@ -6,8 +6,6 @@
 mod entries;
 mod flat;
 mod head;
-pub mod methods;
-pub mod phases;
 pub mod places;
 mod sets;
 mod types;

@@ -11,7 +11,8 @@ ghost use Rattle.jobs.specs.Records.{multi_start_config, method, known_variables
 ghost use Rattle.held.specs.JobFrom.{standing, surface_count_from, slot_count_from, variable_count_from, operand_count_from, settings_from, job_record_from};
 ghost use Rattle.held.specs.JobFrom.{held_job, prescription_from, variables_from, operands_from, variable_record_from, operand_record_from};
 
-use held::{HeldJob, methods};
+use held::HeldJob;
+use runs::methods;
 use variables::VariableDef;
 
 #[tactic(auto, unfolding(jobs::specs::Checks::counts_taken))]

@@ -9,7 +9,8 @@ ghost use Rattle.kinds.specs.Phases.{StateInPhase};
 ghost use Rattle.kinds.specs.Limits.{CountsWithin};
 ghost use Rattle.held.specs.JobFrom.{settings_from};
 
-use held::{HeldJob, methods, phases};
+use held::HeldJob;
+use runs::{methods, phases};
 
 #[tactic(auto, unfolding(jobs::specs::Records::method))]
 pub(crate) fn last_phase(kind: u64) -> u64

@@ -5,27 +5,32 @@ ghost use Rattle.runs.specs.AnnealingRow as Annealing;
 ghost use Rattle.runs.specs.Damage.{is_kind};
 ghost use Rattle.kinds.specs.Phases.{InPhase, StateInPhase};
 
+use runs::{methods, phases};
+
 pub fn is_kind(kind: u64) -> bool
     ensures { result ≡ is_kind kind }
 {
-    matches!(kind, 1 | 2 | 3)
+    matches!(
+        kind,
+        methods::DAMPED | methods::MULTI_START | methods::ANNEALING
+    )
 }
 
 // Whether a damped part in this phase is at its end.
 pub fn damped_over(phase: u64) -> bool
     ensures { InPhase phase (λ d. result ≡ Damped.is_finished d) }
 {
-    4 <= phase
+    phases::FINISHED <= phase
 }
 
-// The same of annealing, where 5 and 6 are the walk's.
+// The same of annealing, where two are the walk's.
 pub fn annealing_over(phase: u64) -> bool
     ensures { StateInPhase phase (λ s. result ≡ Annealing.is_finished s) }
 {
     match phase {
         // Two arms: the proof takes each phase by its own.
-        5 => false,
-        6 => false,
+        phases::WALK_FIRST => false,
+        phases::WALK => false,
         _ => damped_over(phase),
     }
 }

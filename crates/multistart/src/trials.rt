@@ -17,7 +17,8 @@ ghost use Rattle.held.specs.RowFrom.{result_from, state_from};
 ghost use Rattle.held.specs.JobOf.{variables_of, operand_count_of, settings_of};
 
 use crate::merging::merged;
-use held::{BestHead, CountedJob, HeldBest, HeldRun, RowHead, VariedJob, phases};
+use held::{BestHead, CountedJob, HeldBest, HeldRun, RowHead, VariedJob};
+use runs::phases;
 
 // The surfaces that a trial starts from; the generator after its draws.
 // global.rs: `trial_presc`

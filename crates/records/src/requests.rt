@@ -4,11 +4,11 @@ ghost use Rattle.records.specs.Requests.{is_given, dls_request, multi_start_requ
 ghost use Rattle.records.specs.Requests.{method_request, request_of, is_request};
 
 use crate::types::RequestRecord;
-use held::methods;
 use jobs::{
     DlsRequest, JobRequest, MethodRequest, MultiStartRequest, SettingsRecord,
     SimulatedAnnealingRequest,
 };
+use runs::methods;
 
 // Whether the bit of this weight is set.
 fn is_given(given: u64, weight: u64) -> bool

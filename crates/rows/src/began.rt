@@ -7,10 +7,9 @@ ghost use Rattle.runs.specs.State.{row_of, alone};
 ghost use Rattle.runs.specs.Rows as Rows;
 
 use crate::zeros::zero_result;
-use held::{methods, phases};
 use jobs::{Job, JobRecord, Method};
 use optics::OpticalSurface;
-use runs::{DampedState, Row};
+use runs::{DampedState, Row, methods, phases};
 
 // A damped part of these surfaces in this phase: all else is zero.
 fn beginning(phase: u64, surfaces: [OpticalSurface; 16]) -> DampedState

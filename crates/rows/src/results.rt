@@ -8,8 +8,8 @@ ghost use Rattle.held.specs.JobFrom.{steps_per_temperature_from, max_cooling_cyc
 ghost use Rattle.held.specs.RowFrom.{damped_from, result_from, row_from};
 ghost use Rattle.kinds.specs.Limits.{CountsWithin};
 
-use held::{BestHead, Head, HeldBest, HeldRow, HeldRun, RowHead, methods};
-use runs::OptimizationResult;
+use held::{BestHead, Head, HeldBest, HeldRow, HeldRun, RowHead};
+use runs::{OptimizationResult, methods};
 
 fn result_from(
     b: BestHead,

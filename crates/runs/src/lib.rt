@@ -3,6 +3,8 @@
 
 #![tactic(auto)]
 
+pub mod methods;
+pub mod phases;
 mod types;
 
 pub use types::{DampedState, OptimizationResult, Row};

@@ -14,9 +14,10 @@ ghost use Rattle.held.specs.RowFrom.{state_from};
 ghost use Rattle.dls.specs.Found.{ForFound};
 ghost use Rattle.held.specs.JobOf.{variables_of, operand_count_of, settings_of, job_of};
 
-use held::{CountedJob, HeldBest, HeldRun, RowHead, VariedJob, methods, phases};
+use held::{CountedJob, HeldBest, HeldRun, RowHead, VariedJob};
 use heldmerit::merit_of;
 use jobs::DlsConfig;
+use runs::{methods, phases};
 
 // The damped part under these settings; all else stays.
 fn advance_part(

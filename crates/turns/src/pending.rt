@@ -10,7 +10,8 @@ ghost use Rattle.held.specs.Standing.{Behind};
 ghost use Rattle.draws.specs.Parts.{ForAnnealer};
 ghost use Rattle.held.specs.JobOf.{variables_of, job_of};
 
-use held::{HeldBest, HeldRun, RowHead, VariedJob, methods, phases};
+use held::{HeldBest, HeldRun, RowHead, VariedJob};
+use runs::{methods, phases};
 
 // Annealing: the base, a step's trial, or the polish's.
 #[tactic(auto, unfolding(runs::specs::AnnealingRow::pending, runs::specs::AnnealingRow::pending_at, runs::specs::AnnealingRow::phase_of))]
