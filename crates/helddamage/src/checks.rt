@@ -62,6 +62,7 @@ fn variable_sound(job: &HeldJob, i: usize, surfaces: usize) -> bool
     variable_taken(job.variable_at(i), surfaces) && job.variable_known(i)
 }
 
+// The counts are asked loose here and in the two others: each has the one fact that it needs, straight from `counts_taken`.
 fn variables_taken(job: &HeldJob) -> bool
     requires { variable_count_from job.now.counts ≤ 8 }
     ensures { result ≡ variables_taken (surface_count_from job.now.counts) (variables_from job.now.counts job.now.numbers)

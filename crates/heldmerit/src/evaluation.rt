@@ -11,7 +11,8 @@ use held::HeldJob;
 use merit::WeightRoot;
 use optics::{FlatSurfaces, LaidLens};
 
-// The values of surfaces laid flat: all slots are traced in one pass over them.
+// The values of surfaces laid flat: all slots are traced in one pass over them. These three ask for the operands alone, and not for the variables as
+// `CountedJob` does.
 pub fn values_of<'a>(flat: &'a [f64], job: &'a HeldJob) -> [f64; 12]
     requires fact_1 { 4 * surface_count_from job.now.counts ≤ length flat.now }
     requires fact_2 { surface_count_from job.now.counts ≤ 16 }

@@ -47,4 +47,5 @@ returns-in_default-clause-fact_1 c = λ k lens w.
     in-phase _ s e (polish-phase x.h.damped.phase (λ e. omega arith) (λ e. omega arith))
     (c.advance_part.ensures.fact_1 k lens w x.best.now
     ∙ ap (λ (l : DlsConfig). with_damped s (Damped.advance
-    (optimizer l (variables_from x.job.held.now.counts x.job.held.now.numbers) (operand_count_from x.job.held.now.counts)) s.damped e)) c.polish_settings.ensures)
+    (optimizer l (variables_from x.job.held.now.counts x.job.held.now.numbers) (operand_count_from x.job.held.now.counts)) s.damped e))
+    c.polish_settings.ensures)

@@ -32,7 +32,8 @@ returns-in-1-clause-fact_1 c = λ best.
     let lo : 1 ≤ x.kind = omega arith in
     let hi : x.kind ≤ 2 = omega arith in
     c.pending_damped.ensures.fact_1 (operand_count_from x.job.held.now.counts)
-    ∙ ap (λ (k : DlsConfig). Damped.pending (optimizer k (variables_from x.job.held.now.counts x.job.held.now.numbers) (operand_count_from x.job.held.now.counts))
+    ∙ ap (λ (k : DlsConfig). Damped.pending (optimizer k (variables_from x.job.held.now.counts x.job.held.now.numbers)
+    (operand_count_from x.job.held.now.counts))
     (damped_from x.h.damped x.run.now)) c.dls_config.ensures
     ∙ damped-or-trial x.kind (settings_from x.job.held.now.counts x.job.held.now.numbers) _ (state_from x.h x.run.now best) lo hi
 
