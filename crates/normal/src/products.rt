@@ -6,7 +6,7 @@ ghost use Rattle.normal.specs.Products.{normal_product, gradient_of, norm_of};
 ghost use Rattle.normal.specs.Scratch.{gradient_in, Equations};
 ghost use Rattle.normal.specs.Loops.{with_product, with_product_row, with_products, with_gradient};
 
-use crate::layout::{GRADIENT, PRODUCT, jacobian_place, place};
+use crate::layout::{GRADIENT, PRODUCT, SCRATCH, Unknowns, jacobian_place, place};
 use roots::sqrt;
 
 // The product of columns i and j, over m operands.
@@ -40,11 +40,10 @@ fn column_gradient<'a>(jacobian: &'a [f64; 96], residuals: &'a [f64; 12], m: usi
 }
 
 // The product of columns i and j, which is also that of j and i.
-fn write_product(scratch: &mut [f64], jacobian: &[f64; 96], m: usize, i: usize, j: usize)
-    requires fact_1 { scratch_length ≤ length scratch.old }
-    requires fact_2 { m ≤ most_operands }
-    requires fact_3 { i < most_variables }
-    requires fact_4 { j < most_variables }
+fn write_product(scratch: &mut [f64; SCRATCH], jacobian: &[f64; 96], m: usize, i: usize, j: usize)
+    requires fact_1 { m ≤ most_operands }
+    requires fact_2 { i < most_variables }
+    requires fact_3 { j < most_variables }
     ensures { scratch.new ≡ with_product m (jacobian_at jacobian.now) i j scratch.old }
 {
     let sum = column_product(jacobian, m, i, j);
@@ -53,10 +52,9 @@ fn write_product(scratch: &mut [f64], jacobian: &[f64; 96], m: usize, i: usize, 
 }
 
 // Row i up to the diagonal.
-fn product_row(scratch: &mut [f64], jacobian: &[f64; 96], m: usize, i: usize)
-    requires fact_1 { scratch_length ≤ length scratch.old }
-    requires fact_2 { m ≤ most_operands }
-    requires fact_3 { i < most_variables }
+fn product_row(scratch: &mut [f64; SCRATCH], jacobian: &[f64; 96], m: usize, i: usize)
+    requires fact_1 { m ≤ most_operands }
+    requires fact_2 { i < most_variables }
     ensures { scratch.new ≡ with_product_row m (jacobian_at jacobian.now) i (suc i) scratch.old }
 {
     for j in 0..i + 1 {
@@ -64,47 +62,57 @@ fn product_row(scratch: &mut [f64], jacobian: &[f64; 96], m: usize, i: usize)
     }
 }
 
-fn product(scratch: &mut [f64], jacobian: &[f64; 96], m: usize, p: usize)
-    requires fact_1 { scratch_length ≤ length scratch.old }
-    requires fact_2 { m ≤ most_operands }
-    requires fact_3 { p ≤ most_variables }
-    ensures { scratch.new ≡ with_products m (jacobian_at jacobian.now) p scratch.old }
+fn product(scratch: &mut [f64; SCRATCH], jacobian: &[f64; 96], m: usize, p: Unknowns)
+    requires { m ≤ most_operands }
+    ensures { scratch.new ≡ with_products m (jacobian_at jacobian.now) p.count scratch.old }
 {
-    for i in 0..p {
+    for i in 0..p.count {
         product_row(scratch, jacobian, m, i);
     }
 }
 
 fn gradient<'a>(
-    scratch: &mut [f64],
+    scratch: &mut [f64; SCRATCH],
     jacobian: &'a [f64; 96],
     residuals: &'a [f64; 12],
     m: usize,
-    p: usize,
+    p: Unknowns,
 )
-    requires fact_1 { scratch_length ≤ length scratch.old }
-    requires fact_2 { m ≤ most_operands }
-    requires fact_3 { p ≤ most_variables }
+    requires { m ≤ most_operands }
     ensures { scratch.new
-        ≡ with_gradient m (jacobian_at jacobian.now) (residual_at residuals.now) p scratch.old }
+        ≡ with_gradient m (jacobian_at jacobian.now) (residual_at residuals.now) p.count scratch.old }
 {
-    for i in 0..p {
+    for i in 0..p.count {
         scratch[GRADIENT + i] = column_gradient(jacobian, residuals, m, i);
     }
 }
 
 // The norm of the gradient.
-fn gradient_norm(scratch: &[f64], p: usize) -> f64
-    requires fact_1 { scratch_length ≤ length scratch.now }
-    requires fact_2 { p ≤ most_variables }
-    ensures { result ≡ norm_of p (gradient_in scratch.now) }
+fn gradient_norm(scratch: &[f64; SCRATCH], p: Unknowns) -> f64
+    ensures { result ≡ norm_of p.count (gradient_in scratch.now) }
 {
     let mut sum = 0.0;
-    for k in 0..p {
+    for k in 0..p.count {
         let g = scratch[GRADIENT + k];
         sum = sum + g * g;
     }
     sqrt(sum)
+}
+
+// The normal equations, in the part of scratch that a turn uses.
+fn equations_part<'a>(
+    scratch: &mut [f64; SCRATCH],
+    jacobian: &'a [f64; 96],
+    residuals: &'a [f64; 12],
+    m: usize,
+    p: Unknowns,
+) -> f64
+    requires { m ≤ most_operands }
+    ensures { Equations m p.count (jacobian_at jacobian.now) (residual_at residuals.now) scratch.old scratch.new result }
+{
+    product(scratch, jacobian, m, p);
+    gradient(scratch, jacobian, residuals, m, p);
+    gradient_norm(scratch, p)
 }
 
 // Writes the product matrix and the gradient, and answers the gradient's norm.
@@ -120,7 +128,8 @@ pub fn normal_equations<'a>(
     requires fact_3 { p ≤ most_variables }
     ensures { Equations m p (jacobian_at jacobian.now) (residual_at residuals.now) scratch.old scratch.new result }
 {
-    product(scratch, jacobian, m, p);
-    gradient(scratch, jacobian, residuals, m, p);
-    gradient_norm(scratch, p)
+    match scratch.first_chunk_mut::<SCRATCH>() {
+        Some(part) => equations_part(part, jacobian, residuals, m, Unknowns { count: p }),
+        None => 0.0,
+    }
 }
