@@ -20,7 +20,7 @@ pub const GRADIENT: usize = 108;
 // The solution of the damped system.
 pub const STEP: usize = 116;
 
-// How many unknowns a system has.
+// How many unknowns a system has. A number by value and no struct with scratch in it: what a call can write, it has to say that it kept.
 #[derive(Clone, Copy)]
 pub(crate) struct Unknowns {
     pub(crate) count: usize,

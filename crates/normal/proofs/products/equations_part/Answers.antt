@@ -11,7 +11,7 @@ returns c =
     let g = c in
     let q = g in
     let x = q.args in
-    equations x.m x.p.count (jacobian_at x.jacobian.now) (residual_at x.residuals.now) x.scratch.now g.gradient.new.scratch _ (search rules)
+    equations x.jacobian.m x.p.count (jacobian_at x.jacobian.flat.now) (residual_at x.residuals.now) x.scratch.now g.gradient.new.scratch _ (search rules)
     (search rules)
-    (g.gradient.ensures ∙ ap (with_gradient x.m (jacobian_at x.jacobian.now) (residual_at x.residuals.now) x.p.count) q.product.ensures)
+    (g.gradient.ensures ∙ ap (with_gradient x.jacobian.m (jacobian_at x.jacobian.flat.now) (residual_at x.residuals.now) x.p.count) q.product.ensures)
     c.gradient_norm.ensures
