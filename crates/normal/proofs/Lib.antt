@@ -12,3 +12,4 @@ pub mod Stages
 pub mod Solving
 pub mod Attempts
 pub mod Kept
+pub mod Whole

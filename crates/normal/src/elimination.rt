@@ -7,19 +7,17 @@ ghost use Rattle.normal.specs.Elimination.{pivot_row};
 ghost use Rattle.normal.specs.Scratch.{system_in, Solving};
 ghost use Rattle.normal.specs.Loops.{parts_exchanged, pivot_brought, part_subtracted, row_reduced, rows_reduced, unknown_in, solved_upward, Eliminated};
 
-use crate::layout::{STEP, system_place};
+use crate::layout::{SCRATCH, STEP, Unknowns, system_place};
 use floats::abs;
 
 // The row with the largest magnitude in column c, on or below the diagonal; the upper one on ties.
-fn pivot_row(scratch: &[f64], p: usize, c: usize) -> usize
-    requires fact_1 { scratch_length ≤ length scratch.now }
-    requires fact_2 { c < p }
-    requires fact_3 { p ≤ most_variables }
-    ensures { result ≡ pivot_row (system_in scratch.now) c (p - suc c) }
+fn pivot_row(scratch: &[f64; SCRATCH], p: Unknowns, c: usize) -> usize
+    requires { c < p.count }
+    ensures { result ≡ pivot_row (system_in scratch.now) c (p.count - suc c) }
 {
     let mut best = c;
     let mut most = abs(scratch[system_place(c, c)]);
-    for r in c + 1..p {
+    for r in c + 1..p.count {
         let size = abs(scratch[system_place(r, c)]);
         if size > most {
             best = r;
@@ -41,19 +39,17 @@ fn exchange(scratch: &mut [f64], a: usize, b: usize, n: usize)
 }
 
 // Brings the pivot of column c to the diagonal, and answers it.
-fn bring_pivot(scratch: &mut [f64], p: usize, c: usize) -> f64
-    requires fact_1 { scratch_length ≤ length scratch.old }
-    requires fact_2 { c < p }
-    requires fact_3 { p ≤ most_variables }
+fn bring_pivot(scratch: &mut [f64; SCRATCH], p: Unknowns, c: usize) -> f64
+    requires { c < p.count }
     ensures fact_1 { result ≡ get_or scratch.new (system_place c c) nan }
-    ensures fact_2 { scratch.new ≡ pivot_brought p c scratch.old }
+    ensures fact_2 { scratch.new ≡ pivot_brought p.count c scratch.old }
 {
     let best = pivot_row(scratch, p, c);
     let here = system_place(c, c);
     if best == c {
         return scratch[here];
     }
-    exchange(scratch, here, system_place(best, c), p + 1 - c);
+    exchange(scratch, here, system_place(best, c), p.count + 1 - c);
     scratch[here]
 }
 
@@ -69,42 +65,36 @@ fn subtract(scratch: &mut [f64], a: usize, b: usize, n: usize, factor: f64)
 }
 
 // Subtracts row c from row r.
-fn reduce_row(scratch: &mut [f64], p: usize, c: usize, r: usize, pivot: f64)
-    requires fact_1 { scratch_length ≤ length scratch.old }
-    requires fact_2 { c < r }
-    requires fact_3 { r < p }
-    requires fact_4 { p ≤ most_variables }
-    ensures { scratch.new ≡ row_reduced p c pivot r scratch.old }
+fn reduce_row(scratch: &mut [f64; SCRATCH], p: Unknowns, c: usize, r: usize, pivot: f64)
+    requires fact_1 { c < r }
+    requires fact_2 { r < p.count }
+    ensures { scratch.new ≡ row_reduced p.count c pivot r scratch.old }
 {
     let factor = scratch[system_place(r, c)] / pivot;
     subtract(
         scratch,
         system_place(c, c + 1),
         system_place(r, c + 1),
-        p - c,
+        p.count - c,
         factor,
     );
 }
 
 // Subtracts row c from each row below it.
-fn reduce_below(scratch: &mut [f64], p: usize, c: usize, pivot: f64)
-    requires fact_1 { scratch_length ≤ length scratch.old }
-    requires fact_2 { c < p }
-    requires fact_3 { p ≤ most_variables }
-    ensures { scratch.new ≡ rows_reduced p c pivot (p - suc c) scratch.old }
+fn reduce_below(scratch: &mut [f64; SCRATCH], p: Unknowns, c: usize, pivot: f64)
+    requires { c < p.count }
+    ensures { scratch.new ≡ rows_reduced p.count c pivot (p.count - suc c) scratch.old }
 {
-    for r in c + 1..p {
+    for r in c + 1..p.count {
         reduce_row(scratch, p, c, r, pivot);
     }
 }
 
 // Column by column; a zero pivot means no solution.
-fn eliminate(scratch: &mut [f64], p: usize) -> bool
-    requires fact_1 { scratch_length ≤ length scratch.old }
-    requires fact_2 { p ≤ most_variables }
-    ensures { Eliminated p scratch.old scratch.new result }
+fn eliminate(scratch: &mut [f64; SCRATCH], p: Unknowns) -> bool
+    ensures { Eliminated p.count scratch.old scratch.new result }
 {
-    for c in 0..p {
+    for c in 0..p.count {
         let pivot = bring_pivot(scratch, p, c);
         if pivot == 0.0 {
             return false;
@@ -115,28 +105,35 @@ fn eliminate(scratch: &mut [f64], p: usize) -> bool
 }
 
 // Unknown i, where those behind it are known.
-fn unknown(scratch: &[f64], p: usize, i: usize) -> f64
-    requires fact_1 { scratch_length ≤ length scratch.now }
-    requires fact_2 { i < p }
-    requires fact_3 { p ≤ most_variables }
-    ensures { result ≡ unknown_in p scratch.now i }
+fn unknown(scratch: &[f64; SCRATCH], p: Unknowns, i: usize) -> f64
+    requires { i < p.count }
+    ensures { result ≡ unknown_in p.count scratch.now i }
 {
-    let mut rest = scratch[system_place(i, p)];
-    for k in i + 1..p {
+    let mut rest = scratch[system_place(i, p.count)];
+    for k in i + 1..p.count {
         rest = rest - scratch[system_place(i, k)] * scratch[STEP + k];
     }
     rest / scratch[system_place(i, i)]
 }
 
 // All unknowns, from the last.
-fn solve_upward(scratch: &mut [f64], p: usize)
-    requires fact_1 { scratch_length ≤ length scratch.old }
-    requires fact_2 { p ≤ most_variables }
-    ensures { scratch.new ≡ solved_upward p scratch.old }
+fn solve_upward(scratch: &mut [f64; SCRATCH], p: Unknowns)
+    ensures { scratch.new ≡ solved_upward p.count scratch.old }
 {
-    for i in (0..p).rev() {
+    for i in (0..p.count).rev() {
         scratch[STEP + i] = unknown(scratch, p, i);
     }
+}
+
+// Solves the system that stands in its part, and answers whether it has a solution.
+pub(crate) fn solve_part(scratch: &mut [f64; SCRATCH], p: Unknowns) -> bool
+    ensures { Solving p.count scratch.old scratch.new result }
+{
+    if !eliminate(scratch, p) {
+        return false;
+    }
+    solve_upward(scratch, p);
+    true
 }
 
 // Solves the system that stands in scratch, and answers whether it has a solution, which then stands there too, as the step.
@@ -146,9 +143,8 @@ pub fn solve(scratch: &mut [f64], p: usize) -> bool
     requires fact_2 { p ≤ most_variables }
     ensures { Solving p scratch.old scratch.new result }
 {
-    if !eliminate(scratch, p) {
-        return false;
+    match scratch.first_chunk_mut::<SCRATCH>() {
+        Some(part) => solve_part(part, Unknowns { count: p }),
+        None => false,
     }
-    solve_upward(scratch, p);
-    true
 }

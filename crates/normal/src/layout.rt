@@ -20,6 +20,13 @@ pub const GRADIENT: usize = 108;
 // The solution of the damped system.
 pub const STEP: usize = 116;
 
+// How many unknowns a system has. A number by value and no struct with scratch in it: what a call can write, it has to say that it kept.
+#[derive(Clone, Copy)]
+pub(crate) struct Unknowns {
+    pub(crate) count: usize,
+    pub(crate) ghost few: { count ≤ most_variables },
+}
+
 // Where row i of the triangle begins: behind rows of 1, 2, .., i entries.
 fn row_start(i: usize) -> usize
     requires { i < most_variables }

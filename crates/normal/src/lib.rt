@@ -1,7 +1,7 @@
 // The arithmetic of one damped iteration, bit for bit (out of dls.rs), with document 01's stand-ins for nalgebra: a column of the
 // Jacobian, J^T J, J^T r and the norm, the damped system and its solution, the damping. Matrices are worked in lent scratch.
-// Scratch and the count p travel as a slice and a number, and not in a struct: a method would reach each number of the innermost loops
-// through the struct and the slice, and callers lend more than the 128, of which every contract says that they stay.
+// Callers lend a slice of 128 numbers or more, and what lies behind the 128 stays. Within the crate scratch is the array of those 128, and
+// p and m stand in types that bound them (`Unknowns`, `Jacobian`), so that no inner contract says how long or how many.
 // Stands on `floats`; called by `dls`. It knows no job, no surface and no row.
 #![tactic(auto)]
 

@@ -9,19 +9,17 @@ ghost use Rattle.normal.specs.Scratch.{product_in, gradient_in, Attempt};
 ghost use Rattle.normal.specs.Loops.{with_system_row, with_system};
 
 use crate::damping::{Damping, damped_diagonal};
-use crate::elimination::solve;
-use crate::layout::{GRADIENT, PRODUCT, STEP, place, system_place};
+use crate::elimination::solve_part;
+use crate::layout::{GRADIENT, PRODUCT, SCRATCH, STEP, Unknowns, place, system_place};
 use floats::is_finite;
 
 // Row i and column j of the damped system; column p is the right side.
-fn system_entry(scratch: &[f64], p: usize, damping: f64, i: usize, j: usize) -> f64
-    requires fact_1 { scratch_length ≤ length scratch.now }
-    requires fact_2 { i < p }
-    requires fact_3 { j ≤ p }
-    requires fact_4 { p ≤ most_variables }
-    ensures { result ≡ damped_system p damping (product_in scratch.now) (gradient_in scratch.now) i j }
+fn system_entry(scratch: &[f64; SCRATCH], p: Unknowns, damping: f64, i: usize, j: usize) -> f64
+    requires fact_1 { i < p.count }
+    requires fact_2 { j ≤ p.count }
+    ensures { result ≡ damped_system p.count damping (product_in scratch.now) (gradient_in scratch.now) i j }
 {
-    if j == p {
+    if j == p.count {
         return -scratch[GRADIENT + i];
     }
     let h = scratch[PRODUCT + place(i, j)];
@@ -31,37 +29,39 @@ fn system_entry(scratch: &[f64], p: usize, damping: f64, i: usize, j: usize) -> 
     h
 }
 
-fn system_row(scratch: &mut [f64], p: usize, damping: f64, i: usize)
-    requires fact_1 { scratch_length ≤ length scratch.old }
-    requires fact_2 { i < p }
-    requires fact_3 { p ≤ most_variables }
-    ensures { scratch.new ≡ with_system_row p damping i scratch.old }
+fn system_row(scratch: &mut [f64; SCRATCH], p: Unknowns, damping: f64, i: usize)
+    requires { i < p.count }
+    ensures { scratch.new ≡ with_system_row p.count damping i scratch.old }
 {
     let first = system_place(i, 0);
-    for j in 0..p + 1 {
+    for j in 0..p.count + 1 {
         scratch[first + j] = system_entry(scratch, p, damping, i, j);
     }
 }
 
 // Lays out the damped system.
 // dls.rs: `a_mat`, and `-g_vec` as its last column
-fn system(scratch: &mut [f64], p: usize, damping: f64)
-    requires fact_1 { scratch_length ≤ length scratch.old }
-    requires fact_2 { p ≤ most_variables }
-    ensures { scratch.new ≡ with_system p damping p scratch.old }
+fn system(scratch: &mut [f64; SCRATCH], p: Unknowns, damping: f64)
+    ensures { scratch.new ≡ with_system p.count damping p.count scratch.old }
 {
-    for i in 0..p {
+    for i in 0..p.count {
         system_row(scratch, p, damping, i);
     }
 }
 
 // dls.rs: `dx.iter().all(|&v| v.is_finite())`
-fn all_finite(scratch: &[f64], p: usize) -> bool
-    requires fact_1 { scratch_length ≤ length scratch.now }
-    requires fact_2 { p ≤ most_variables }
-    ensures { result ≡ all_below (λ (k : ℕ). finite_of (get_or scratch.now (step_at + k) nan)) p }
+fn all_finite(scratch: &[f64; SCRATCH], p: Unknowns) -> bool
+    ensures { result ≡ all_below (λ (k : ℕ). finite_of (get_or scratch.now (step_at + k) nan)) p.count }
 {
-    scratch[STEP..STEP + p].iter().all(|x| is_finite(*x))
+    scratch[STEP..STEP + p.count].iter().all(|x| is_finite(*x))
+}
+
+// The attempt, in the part of scratch that a turn uses.
+fn attempt_part(scratch: &mut [f64; SCRATCH], p: Unknowns, damping: f64) -> bool
+    ensures { Attempt p.count damping scratch.old scratch.new result }
+{
+    system(scratch, p, damping);
+    solve_part(scratch, p) && all_finite(scratch, p)
 }
 
 // Solves the damped system of the product matrix and the gradient that stand in scratch, and answers whether there is a step,
@@ -72,6 +72,8 @@ pub fn attempt_step(scratch: &mut [f64], p: usize, damping: Damping) -> bool
     requires fact_2 { p ≤ most_variables }
     ensures { Attempt p damping.value scratch.old scratch.new result }
 {
-    system(scratch, p, damping.value);
-    solve(scratch, p) && all_finite(scratch, p)
+    match scratch.first_chunk_mut::<SCRATCH>() {
+        Some(part) => attempt_part(part, Unknowns { count: p }, damping.value),
+        None => false,
+    }
 }

@@ -16,19 +16,19 @@ returns-then-best-c c =
     let x = c.args in
     let l = x.scratch.now in record {
       fact_1 = ap (λ (n : ℕ). get_or l n nan) c.system_place-here.ensures;
-      fact_2 = brought-kept x.p x.c l (sym c.pivot_row-best.ensures ∙ c.if-best-c.true);
+      fact_2 = brought-kept x.p.count x.c l (sym c.pivot_row-best.ensures ∙ c.if-best-c.true);
     }
 
 pub system_place-requires : goal.system_place-requires
 system_place-requires c =
     let x = c.args in
-    let within = pivot-within (system_in x.scratch.now) x.c (x.p - suc x.c) in
+    let within = pivot-within (system_in x.scratch.now) x.c (x.p.count - suc x.c) in
     omega (arith, c.pivot_row-best.ensures)
 
 pub exchange-requires : goal.exchange-requires
 exchange-requires c =
     let x = c.args in
-    let within = pivot-within (system_in x.scratch.now) x.c (x.p - suc x.c) in
+    let within = pivot-within (system_in x.scratch.now) x.c (x.p.count - suc x.c) in
     omega (arith, c.pivot_row-best.ensures)
 
 pub returns : goal.returns
@@ -39,6 +39,6 @@ returns c =
     let here = s.system_place-here.ensures in record {
       fact_1 = ap (λ (n : ℕ). get_or c.exchange.new.scratch n nan) here;
       fact_2 = c.exchange.ensures
-          ∙ (λ t. parts_exchanged (here t) ((s.system_place.ensures ∙ ap (λ (n : ℕ). system_place n x.c) r) t) (x.p + 1 - x.c) x.scratch.now)
-          ∙ brought-moved x.p x.c x.scratch.now (λ t. s.if-best-c.false (r ∙ t));
+          ∙ (λ t. parts_exchanged (here t) ((s.system_place.ensures ∙ ap (λ (n : ℕ). system_place n x.c) r) t) (x.p.count + 1 - x.c) x.scratch.now)
+          ∙ brought-moved x.p.count x.c x.scratch.now (λ t. s.if-best-c.false (r ∙ t));
     }

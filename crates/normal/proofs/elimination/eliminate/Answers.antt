@@ -13,7 +13,7 @@ returns-then-pivot c =
     let b = c.bring_pivot-pivot in
     let l = c in
     let x = l.args in
-    stage-stop x.p l.loop-c.c x.scratch.now l.loop-c.scratch b.new.scratch b.result l.loop-c.invariant (omega arith) (search rules) (search rules)
+    stage-stop x.p.count l.loop-c.c x.scratch.now l.loop-c.scratch b.new.scratch b.result l.loop-c.invariant (omega arith) (search rules) (search rules)
     b.ensures.fact_2 b.ensures.fact_1 c.if-pivot.true
 
 pub loop-c-preserved : goal.loop-c-preserved
@@ -21,12 +21,12 @@ loop-c-preserved c =
     let b = c.bring_pivot-pivot in
     let l = c in
     let x = l.args in
-    stage-more x.p l.loop-c.c x.scratch.now l.loop-c.scratch b.new.scratch b.result l.loop-c.invariant (omega arith) (search rules)
+    stage-more x.p.count l.loop-c.c x.scratch.now l.loop-c.scratch b.new.scratch b.result l.loop-c.invariant (omega arith) (search rules)
     (search rules) b.ensures.fact_2 b.ensures.fact_1 _ c.if-pivot.false c.reduce_below.ensures
 
 pub returns : goal.returns
 returns c =
     let l = c in
     let x = l.args in
-    let e : l.loop-c.c ≡ x.p = omega arith in
-    stage-all x.p x.scratch.now l.loop-c.scratch (rw e at l.loop-c.invariant)
+    let e : l.loop-c.c ≡ x.p.count = omega arith in
+    stage-all x.p.count x.scratch.now l.loop-c.scratch (rw e at l.loop-c.invariant)

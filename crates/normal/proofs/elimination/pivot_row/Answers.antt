@@ -48,5 +48,5 @@ loop-r-preserved c =
 
 pub returns : goal.returns
 returns c =
-    let e : c.loop-r.r ≡ c.args.p = omega arith in
+    let e : c.loop-r.r ≡ c.args.p.count = omega arith in
     rw e at c.loop-r.invariant.2

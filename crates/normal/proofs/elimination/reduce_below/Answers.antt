@@ -22,17 +22,17 @@ more p c r pivot l h =
 pub loop-r-init : goal.loop-r-init
 loop-r-init c =
     let x = c.args in
-    none x.p x.c x.pivot x.scratch.now
+    none x.p.count x.c x.pivot x.scratch.now
 
 pub loop-r-preserved : goal.loop-r-preserved
 loop-r-preserved c =
     let l = c in
     let x = l.args in
     c.reduce_row.ensures
-    ∙ ap (row_reduced x.p x.c x.pivot l.loop-r.r) l.loop-r.invariant
-    ∙ more x.p x.c l.loop-r.r x.pivot x.scratch.now (omega arith)
+    ∙ ap (row_reduced x.p.count x.c x.pivot l.loop-r.r) l.loop-r.invariant
+    ∙ more x.p.count x.c l.loop-r.r x.pivot x.scratch.now (omega arith)
 
 pub returns : goal.returns
 returns c =
-    let e : c.loop-r.r ≡ c.args.p = omega arith in
+    let e : c.loop-r.r ≡ c.args.p.count = omega arith in
     rw e at c.loop-r.invariant

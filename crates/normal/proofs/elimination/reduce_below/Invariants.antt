@@ -5,4 +5,4 @@ use Rattle.normal.specs.Loops.{rows_reduced}
 use Rattle.normal.proofs.elimination.reduce_below.Given as goal
 
 abbrev pub invariant-loop-r : goal.invariant-loop-r
-invariant-loop-r l = l.scratch ≡ rows_reduced l.p l.c l.pivot (l.r - suc l.c) l.initial.scratch
+invariant-loop-r l = l.scratch ≡ rows_reduced l.p.count l.c l.pivot (l.r - suc l.c) l.initial.scratch

@@ -13,5 +13,5 @@ returns c =
     let a = c.system_place-2.ensures in
     let b = c.system_place-3.ensures in
     let f = c.system_place.ensures in
-    c.subtract.ensures ∙ (λ i. part_subtracted (a i) (b i) (x.p - x.c) (div binary64 (get_or x.scratch.now (f i) nan) x.pivot)
+    c.subtract.ensures ∙ (λ i. part_subtracted (a i) (b i) (x.p.count - x.c) (div binary64 (get_or x.scratch.now (f i) nan) x.pivot)
     x.scratch.now)

@@ -1,15 +1,9 @@
--- `normal::elimination::solve` meets its contract: the two calls one after another; the first one's answer decides. Assumes nothing.
-use Rattle.normal.proofs.Solving.{solve-none, solve-some}
-use Rattle.std.proofs.Common.{rules}
+-- `normal::elimination::solve` meets its contract: it solves in the front of scratch. Assumes nothing.
+use Rattle.normal.proofs.Whole.{solving-whole}
 use Rattle.normal.proofs.elimination.solve.Goals as goal
 
-pub returns-then-not-eliminate : goal.returns-then-not-eliminate
-returns-then-not-eliminate c =
-    let x = c.args in
-    solve-none x.p x.scratch.now c.eliminate.new.scratch (rw c.if-not-eliminate.true at c.eliminate.ensures)
-
-pub returns : goal.returns
-returns c =
-    let x = c.args in
-    solve-some x.p x.scratch.now c.eliminate.new.scratch c.solve_upward.new.scratch (search rules) (search rules)
-    (rw c.if-not-eliminate.false at c.eliminate.ensures) c.solve_upward.ensures
+pub returns-in-Some : goal.returns-in-Some
+returns-in-Some c =
+    let e = c.solve_part.ensures in
+    solving-whole c.args.scratch.now c.in-Some.part.now c.solve_part.new.scratch c.requires.fact_1 c.in-Some.ensures.cases.same e.long c.args.p
+    c.requires.fact_2 c.solve_part.result e

@@ -12,10 +12,10 @@ pub loop-i-preserved : goal.loop-i-preserved
 loop-i-preserved c =
     let l = c in
     let x = l.args in
-    upward-turn x.p (l.loop-i.i - 1) l.loop-i.i x.scratch.now l.loop-i.scratch _ (omega arith)
+    upward-turn x.p.count (l.loop-i.i - 1) l.loop-i.i x.scratch.now l.loop-i.scratch _ (omega arith)
     (omega arith) (search rules) (search rules) l.loop-i.invariant c.unknown.ensures
 
 pub returns : goal.returns
 returns c =
     let x = c.args in
-    upward-all x.p c.loop-i.i x.scratch.now c.loop-i.scratch (omega arith) c.loop-i.invariant
+    upward-all x.p.count c.loop-i.i x.scratch.now c.loop-i.scratch (omega arith) c.loop-i.invariant

@@ -8,4 +8,4 @@ use Rattle.normal.specs.Scratch.{system_in}
 use Rattle.normal.proofs.elimination.solve_upward.Given as goal
 
 abbrev pub invariant-loop-i : goal.invariant-loop-i
-invariant-loop-i l = l.scratch ≡ sets l.initial.scratch (step_at + l.i) (unknowns l.p (system_in l.initial.scratch) (l.p - l.i))
+invariant-loop-i l = l.scratch ≡ sets l.initial.scratch (step_at + l.i) (unknowns l.p.count (system_in l.initial.scratch) (l.p.count - l.i))

@@ -8,4 +8,4 @@ use Rattle.normal.specs.Loops.{part_of}
 use Rattle.normal.proofs.elimination.unknown.Given as goal
 
 abbrev pub invariant-loop-k : goal.invariant-loop-k
-invariant-loop-k l = l.rest ≡ right_side l.p (system_in l.scratch) l.i (part_of l.scratch (step_at + suc l.i) (l.p - suc l.i)) (l.k - suc l.i)
+invariant-loop-k l = l.rest ≡ right_side l.fn.p.count (system_in l.scratch) l.i (part_of l.scratch (step_at + suc l.i) (l.fn.p.count - suc l.i)) (l.k - suc l.i)

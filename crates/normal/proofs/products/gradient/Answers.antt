@@ -15,5 +15,5 @@ loop-i-preserved c = part_step _ _ _ _ _ _ _ c.loop-i.invariant refl c.column_gr
 
 pub returns : goal.returns
 returns c =
-    let e : c.loop-i.i ≡ c.args.p = omega arith in
+    let e : c.loop-i.i ≡ c.args.p.count = omega arith in
     rw e at c.loop-i.invariant

@@ -5,4 +5,4 @@ use Rattle.normal.specs.Loops.{with_gradient}
 use Rattle.normal.proofs.products.gradient.Given as goal
 
 abbrev pub invariant-loop-i : goal.invariant-loop-i
-invariant-loop-i l = l.scratch ≡ with_gradient l.m (jacobian_at l.jacobian) (residual_at l.residuals) l.i l.initial.scratch
+invariant-loop-i l = l.scratch ≡ with_gradient l.jacobian.m (jacobian_at l.jacobian.flat.now) (residual_at l.residuals) l.i l.initial.scratch

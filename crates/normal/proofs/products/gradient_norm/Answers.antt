@@ -17,5 +17,5 @@ loop-k-preserved c = sum_step _ _ _ _ c.loop-k.invariant refl
 pub returns : goal.returns
 unfolding norm_of
 returns c =
-    let e : c.loop-k.k ≡ c.args.p = omega arith in
+    let e : c.loop-k.k ≡ c.args.p.count = omega arith in
     c.sqrt.ensures ∙ ap sqrt_of (rw e at c.loop-k.invariant)

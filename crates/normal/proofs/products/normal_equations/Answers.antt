@@ -1,17 +1,11 @@
--- `normal::products::normal_equations` meets its contract: what the two loops leave, and the norm of what stands there. Assumes nothing.
-use mathlib.Core.Path.{ap, ◌∙◌}
+-- `normal::products::normal_equations` meets its contract: it writes the front of scratch. Assumes nothing.
 use Rattle.normal.specs.Jacobian.{jacobian_at, residual_at}
-use Rattle.normal.specs.Loops.{with_gradient}
-use Rattle.normal.proofs.Filled.{equations}
-use Rattle.std.proofs.Common.{rules}
+use Rattle.normal.proofs.Whole.{equations-whole}
 use Rattle.normal.proofs.products.normal_equations.Goals as goal
 
-pub returns : goal.returns
-returns c =
-    let g = c in
-    let q = g in
-    let x = q.args in
-    equations x.m x.p (jacobian_at x.jacobian.now) (residual_at x.residuals.now) x.scratch.now g.gradient.new.scratch _ (search rules)
-    (search rules)
-    (g.gradient.ensures ∙ ap (with_gradient x.m (jacobian_at x.jacobian.now) (residual_at x.residuals.now) x.p) q.product.ensures)
-    c.gradient_norm.ensures
+pub returns-in-Some : goal.returns-in-Some
+returns-in-Some c =
+    let x = c.args in
+    let e = c.equations_part.ensures in
+    equations-whole x.scratch.now c.in-Some.part.now c.equations_part.new.scratch c.requires.fact_1 c.in-Some.ensures.cases.same e.long x.p
+    c.requires.fact_3 x.m (jacobian_at x.jacobian.now) (residual_at x.residuals.now) c.equations_part.result e

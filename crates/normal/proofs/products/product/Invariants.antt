@@ -5,4 +5,4 @@ use Rattle.normal.specs.Loops.{with_products}
 use Rattle.normal.proofs.products.product.Given as goal
 
 abbrev pub invariant-loop-i : goal.invariant-loop-i
-invariant-loop-i l = l.scratch ≡ with_products l.m (jacobian_at l.jacobian) l.i l.initial.scratch
+invariant-loop-i l = l.scratch ≡ with_products l.jacobian.m (jacobian_at l.jacobian.flat.now) l.i l.initial.scratch

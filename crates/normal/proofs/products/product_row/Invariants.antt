@@ -5,4 +5,4 @@ use Rattle.normal.specs.Loops.{with_product_row}
 use Rattle.normal.proofs.products.product_row.Given as goal
 
 abbrev pub invariant-loop-j : goal.invariant-loop-j
-invariant-loop-j l = l.scratch ≡ with_product_row l.m (jacobian_at l.jacobian) l.i l.j l.initial.scratch
+invariant-loop-j l = l.scratch ≡ with_product_row l.jacobian.m (jacobian_at l.jacobian.flat.now) l.i l.j l.initial.scratch

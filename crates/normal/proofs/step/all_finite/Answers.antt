@@ -18,10 +18,10 @@ pub returns : goal.returns
 returns c =
     let x = c.args in
     let l = x.scratch.now in
-    let room : x.p ≤ length (drop step_at l) = rw length-drop (omega arith) in
-    let count : step_at + x.p - step_at ≡ x.p = omega arith in
+    let room : x.p.count ≤ length (drop step_at l) = rw length-drop (omega arith) in
+    let count : step_at + x.p.count - step_at ≡ x.p.count = omega arith in
     all_from_yields_List finite_of _ _ _ c.all.ensures.ran (YieldsList-from_slice _ c.iter.ensures.rest) (λ x b q k. search (rules, tests))
     ∙ ap (λ (n : ℕ). list_all finite_of (take n (drop step_at l))) count
-    ∙ sym (all-listed finite_of (drop step_at l) nan x.p room)
-    ∙ all_same (λ (k : ℕ). finite_of (get_or (drop step_at l) k nan)) (λ (k : ℕ). finite_of (get_or l (step_at + k) nan)) x.p
+    ∙ sym (all-listed finite_of (drop step_at l) nan x.p.count room)
+    ∙ all_same (λ (k : ℕ). finite_of (get_or (drop step_at l) k nan)) (λ (k : ℕ). finite_of (get_or l (step_at + k) nan)) x.p.count
     (λ k b. ap finite_of (get_or-drop step_at l k nan))

@@ -1,17 +1,9 @@
--- `normal::step::attempt_step` meets its contract: the three calls one after another; the solver's answer decides. Assumes nothing.
-use Rattle.normal.proofs.Attempts.{attempt-none, attempt-some}
-use Rattle.std.proofs.Common.{rules}
+-- `normal::step::attempt_step` meets its contract: it attempts in the front of scratch. Assumes nothing.
+use Rattle.normal.proofs.Whole.{attempt-whole}
 use Rattle.normal.proofs.step.attempt_step.Goals as goal
 
-pub returns-else-solve : goal.returns-else-solve
-returns-else-solve c =
-    let x = c.args in
-    rw c.if-solve.false
-    (attempt-none x.p x.damping.value x.scratch.now c.system.new.scratch c.solve.new.scratch (search rules) (search rules) c.system.ensures
-    (rw c.if-solve.false at c.solve.ensures))
-
-pub returns-then-solve : goal.returns-then-solve
-returns-then-solve c =
-    let x = c.args in
-    attempt-some x.p x.damping.value x.scratch.now c.system.new.scratch c.solve.new.scratch (search rules) (search rules) c.system.ensures
-    c.all_finite.result (rw c.if-solve.true at c.solve.ensures) c.all_finite.ensures
+pub returns-in-Some : goal.returns-in-Some
+returns-in-Some c =
+    let e = c.attempt_part.ensures in
+    attempt-whole c.args.scratch.now c.in-Some.part.now c.attempt_part.new.scratch c.requires.fact_1 c.in-Some.ensures.cases.same e.long c.args.p
+    c.requires.fact_2 c.args.damping.value c.attempt_part.result e

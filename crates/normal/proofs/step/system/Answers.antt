@@ -18,5 +18,5 @@ loop-i-preserved c =
 
 pub returns : goal.returns
 returns c =
-    let e : c.loop-i.i ≡ c.args.p = omega arith in
+    let e : c.loop-i.i ≡ c.args.p.count = omega arith in
     rw e at c.loop-i.invariant

@@ -16,11 +16,11 @@ pub loop-j-preserved : goal.loop-j-preserved
 loop-j-preserved c =
     let l = c in
     let x = l.args in
-    row-turn x.scratch.now l.loop-j.scratch x.p x.i l.loop-j.j _ x.damping _ (search rules)
+    row-turn x.scratch.now l.loop-j.scratch x.p.count x.i l.loop-j.j _ x.damping _ (search rules)
     (omega arith) (search rules) l.system_place-first.ensures l.loop-j.invariant c.system_entry.ensures
 
 pub returns : goal.returns
 unfolding with_system_row
 returns c =
-    let e : c.loop-j.j ≡ c.args.p + 1 = omega arith in
+    let e : c.loop-j.j ≡ c.args.p.count + 1 = omega arith in
     rw e at c.loop-j.invariant

@@ -1,11 +1,11 @@
--- `normal::products::column_product` meets its contract: the product so far is that of the operands passed. Assumes nothing.
+-- `normal::products::Jacobian::column_product` meets its contract: the product so far is that of the operands passed. Assumes nothing.
 use mathlib.Core.Path.{◌≡◌}
 use native.Mathlib.Omega.{arith}
 use lib.Ieee.{binary64, mul}
 use Rattle.normal.specs.Products.{sum_of, normal_product}
 use Rattle.normal.proofs.Sums.{column-entry, sum_step}
 use Rattle.std.proofs.Common.{rules}
-use Rattle.normal.proofs.products.column_product.Goals as goal
+use Rattle.normal.proofs.products.Jacobian.column_product.Goals as goal
 
 pub loop-k-init : goal.loop-k-init
 unfolding sum_of
@@ -15,9 +15,9 @@ pub loop-k-preserved : goal.loop-k-preserved
 loop-k-preserved c =
     let x = c.args in
     sum_step _ _ _ _ c.loop-k.invariant
-    (λ n. mul binary64 (column-entry x.jacobian.now _ c.loop-k.k x.i c.jacobian_place-a.ensures n)
-    (column-entry x.jacobian.now _ c.loop-k.k x.j c.jacobian_place-b.ensures n))
+    (λ n. mul binary64 (column-entry x.self.flat.now _ c.loop-k.k x.i c.jacobian_place-a.ensures n)
+    (column-entry x.self.flat.now _ c.loop-k.k x.j c.jacobian_place-b.ensures n))
 
 pub returns : goal.returns
 unfolding normal_product
-returns c = let e : c.loop-k.k ≡ c.args.m = omega arith in rw e at c.loop-k.invariant
+returns c = let e : c.loop-k.k ≡ c.args.self.m = omega arith in rw e at c.loop-k.invariant
