@@ -9,4 +9,5 @@ use Rattle.normal.proofs.step.system_row.Given as goal
 
 abbrev pub invariant-loop-j : goal.invariant-loop-j
 invariant-loop-j l = l.scratch
-    ≡ sets l.initial.scratch (system_place l.i 0) (tab (damped_system l.p.count l.damping (product_in l.initial.scratch) (gradient_in l.initial.scratch) l.i) l.j)
+    ≡ sets l.initial.scratch (system_place l.i 0)
+    (tab (damped_system l.p.count l.damping (product_in l.initial.scratch) (gradient_in l.initial.scratch) l.i) l.j)
