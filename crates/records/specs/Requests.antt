@@ -1,6 +1,6 @@
 -- A job as it is asked for, in numbers alone. "A job is of one kind and gives that kind's settings alone; a setting left out is kept as the default of the
 -- Rust's config". Definitions only.
-use Rattle.std.specs.Prelude.{ℕ, ◌%◌, ◌/◌, Bool, not, cond, ◌&&◌, eqb, ltb}
+use Rattle.std.specs.Prelude.{ℕ, ◌%◌, ◌/◌, Bool, not, cond, ◌&&◌, eqb, ltb, Option}
 use Rattle.std.specs.Bool.{then_some}
 use Rattle.jobs.specs.declared.types.DlsRequest.{DlsRequest}
 use Rattle.jobs.specs.declared.types.JobRequest.{JobRequest}
@@ -26,11 +26,15 @@ dls_request s given = record {
   finite_difference_relative_step = then_some (is_given given 16) s.finite_difference_relative_step;
 }
 
+-- the seed, which both kinds with draws have
+abbrev pub given_seed : SettingsRecord → (given : ℕ) → Option ℕ
+given_seed s given = then_some (is_given given 1024) s.seed
+
 abbrev pub multi_start_request : SettingsRecord → (given : ℕ) → MultiStartRequest
 multi_start_request s given = record {
   local_dls_config = dls_request s given;
   num_trials = then_some (is_given given 32) s.num_trials;
-  seed = then_some (is_given given 1024) s.seed;
+  seed = given_seed s given;
 }
 
 abbrev pub annealing_request : SettingsRecord → (given : ℕ) → SimulatedAnnealingRequest
@@ -39,7 +43,7 @@ annealing_request s given = record {
   cooling_rate = then_some (is_given given 128) s.cooling_rate;
   steps_per_temperature = then_some (is_given given 256) s.steps_per_temperature;
   max_cooling_cycles = then_some (is_given given 512) s.max_cooling_cycles;
-  seed = then_some (is_given given 1024) s.seed;
+  seed = given_seed s given;
 }
 
 unfoldable pub method_request : (kind : ℕ) → SettingsRecord → (given : ℕ) → MethodRequest

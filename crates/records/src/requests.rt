@@ -1,6 +1,6 @@
 // A job as it is asked for, in numbers alone: what a caller in C has, who knows no enum.
 ghost use Rattle.std.specs.Prelude.{◌≡◌, ◌<◌};
-ghost use Rattle.records.specs.Requests.{is_given, dls_request, multi_start_request, annealing_request};
+ghost use Rattle.records.specs.Requests.{is_given, given_seed, dls_request, multi_start_request, annealing_request};
 ghost use Rattle.records.specs.Requests.{method_request, request_of, is_request};
 
 use crate::types::RequestRecord;
@@ -32,13 +32,20 @@ fn dls_request(s: SettingsRecord, given: u64) -> DlsRequest
     }
 }
 
+// The seed, which both kinds with draws have.
+fn given_seed(s: SettingsRecord, given: u64) -> Option<u64>
+    ensures { result ≡ given_seed s given }
+{
+    is_given(given, 1024).then_some(s.seed)
+}
+
 fn multi_start_request(s: SettingsRecord, given: u64) -> MultiStartRequest
     ensures { result ≡ multi_start_request s given }
 {
     MultiStartRequest {
         local_dls_config: dls_request(s, given),
         num_trials: is_given(given, 32).then_some(s.num_trials),
-        seed: is_given(given, 1024).then_some(s.seed),
+        seed: given_seed(s, given),
     }
 }
 
@@ -50,7 +57,7 @@ fn annealing_request(s: SettingsRecord, given: u64) -> SimulatedAnnealingRequest
         cooling_rate: is_given(given, 128).then_some(s.cooling_rate),
         steps_per_temperature: is_given(given, 256).then_some(s.steps_per_temperature),
         max_cooling_cycles: is_given(given, 512).then_some(s.max_cooling_cycles),
-        seed: is_given(given, 1024).then_some(s.seed),
+        seed: given_seed(s, given),
     }
 }
 
