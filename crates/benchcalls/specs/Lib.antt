@@ -1,3 +1,4 @@
+pub mod AdmissionLaws
 pub mod Placed
 pub mod Play
 pub mod PlayLaws
