@@ -54,10 +54,15 @@ fn examine_row(tally: &mut Tally, case: &Case) {
 fn examine_entry(count: &mut Count, case: &Case, entry: &Entry) {
     for i in 0..64 {
         if entry.uses.holds(&case.row, i) {
-            for v in 0..5 {
-                let changed = entry.change.of(&case.row, i, v);
-                count.add(verdict::is_right(case, changed, entry.change));
-            }
+            examine_place(count, case, entry, i);
         }
+    }
+}
+
+// There are five values at most.
+fn examine_place(count: &mut Count, case: &Case, entry: &Entry, i: usize) {
+    for v in 0..5 {
+        let changed = entry.change.of(&case.row, i, v);
+        count.add(verdict::is_right(case, changed, entry.change));
     }
 }
