@@ -6,4 +6,5 @@ mod checks;
 mod rounds;
 mod types;
 
+pub use rounds::moved;
 pub use types::Round;

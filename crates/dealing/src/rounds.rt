@@ -16,6 +16,23 @@ fn place_after(place: usize) -> usize
     (place % 4 + 1) % 4
 }
 
+// After the turn at the place to try, which answered this number.
+pub fn moved(round: Round, number: u32) -> Round
+    ensures { result ≡ moved_of round number }
+{
+    if number > 0 || round.dealt >= round.limit {
+        return round.passed();
+    }
+    let next = place_after(round.at);
+    Round {
+        at: next,
+        next,
+        missed: 0,
+        dealt: round.dealt + 1,
+        ..round
+    }
+}
+
 impl Round {
     // Before the first place is tried. A dealing that is refused has no round.
     pub fn begun(bench: &Bench, turns: u16, room: usize) -> Result<Round, Refusal>
@@ -35,17 +52,7 @@ impl Round {
     pub fn moved(self, answer: Result<(), Refusal>) -> Round
         ensures { result ≡ moved_of self (answered answer) }
     {
-        if answer.is_err() || self.dealt >= self.limit {
-            return self.passed();
-        }
-        let next = place_after(self.at);
-        Round {
-            at: next,
-            next,
-            missed: 0,
-            dealt: self.dealt + 1,
-            ..self
-        }
+        moved(self, refusals::answered(answer))
     }
 
     // The place had no job to serve; after four such in a row no job is left.

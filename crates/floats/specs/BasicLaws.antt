@@ -1,6 +1,6 @@
 -- What the tests that the code makes say of the functions of `Basic.antt`. Assumes nothing.
 use Rattle.std.specs.Prelude.{◌≡◌, refl, ℕ, suc, ◌*◌, ◌<◌, Bool, true, false, not, ◌&&◌, ◌||◌, ℤ, pos, T, ltb, eqb, Float}
-use Rattle.std.proofs.Common.{sym, ap, ◌∙◌, mul-pos, zero-lt-suc, arith, ltb→lt, lt→ltb, eqb→eq}
+use Rattle.std.proofs.Common.{sym, ap, ◌∙◌, mul-pos, zero-lt-suc, arith, true≢false, ltb→lt, lt→ltb, eqb→eq}
 use Rattle.std.specs.Bool.{beq}
 use Rattle.std.proofs.lemmas.Bool.{false≢true}
 use Rattle.std.proofs.Math.Dec.{eqb_refl}
@@ -8,6 +8,7 @@ use Rattle.std.specs.Float.{nan, inf, fin}
 use Rattle.std.specs.Float.Ieee.{up, down, lt, eq, ne, is_nan}
 use Rattle.std.specs.Float.Ieee.Fits.{up_pos, and_l, eq→eqb}
 use Rattle.std.specs.Float.Ieee.Bits.{is_true}
+use Rattle.floats.specs.Basic.{finite_of}
 
 pub is-so : (b : Bool) → b ≡ true → T b
 is-so true e = tt
@@ -56,6 +57,20 @@ pub above_zero : (m : ℕ) (e : ℤ) → lt (fin false 0 (pos 0)) (fin false (su
 unfolding lt
 above_zero m e =
     is_true (ltb (0 * down e) (suc m * up e * 1)) (lt→ltb (0 * down e) (suc m * up e * 1) (above (suc m * up e) (down e) (mul-pos (zero-lt-suc m) (up_pos e))))
+
+pub finite-yes : (x : Float) → lt x (inf false) ≡ true → lt (inf true) x ≡ finite_of x
+unfolding lt finite_of
+finite-yes nan h = refl
+finite-yes (inf true) h = refl
+finite-yes (inf false) h = absurd (false≢true h)
+finite-yes (fin s m e) h = refl
+
+pub finite-no : (x : Float) → lt x (inf false) ≡ false → lt x (inf false) ≡ finite_of x
+unfolding lt finite_of
+finite-no nan h = refl
+finite-no (inf true) h = absurd (true≢false h)
+finite-no (inf false) h = refl
+finite-no (fin s m e) h = absurd (true≢false h)
 
 pub differs : (x : Float) → is_nan x ≡ ne x x
 unfolding is_nan ne

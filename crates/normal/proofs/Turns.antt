@@ -26,8 +26,9 @@ swapped [] i j h k = absurd (omega (arith, h))
 swapped (d ∷ ys) i j h k = λ t. set (set (d ∷ ys) i (get_or_default (d ∷ ys) j d nan k t)) j (get_or_default (d ∷ ys) i d nan h t)
 
 module _ (l : List Float) (a b n k : ℕ) (apart : a + n ≤ b) (below : k < n) where
-  pub exchange-turn : (p : List Float) → p ≡ parts_exchanged a b k l → b + k < length p → swap p (a + k) (b + k) ≡ parts_exchanged a b (k + 1) l
-  exchange-turn p e room =
+  pub exchange-turn : (p : List Float) → p ≡ parts_exchanged a b k l → set (set p (a + k) (get_or p (b + k) nan)) (b + k) (get_or p (a + k) nan)
+      ≡ parts_exchanged a b (k + 1) l
+  exchange-turn p e =
       let f : ℕ → Float = λ (j : ℕ). get_or l (b + j) nan in
       let g : ℕ → Float = λ (j : ℕ). get_or l (a + j) nan in
       let q : List Float = sets l a (tab f k) in
@@ -41,8 +42,11 @@ module _ (l : List Float) (a b n k : ℕ) (apart : a + n ≤ b) (below : k < n) 
       ap (λ (x : List Float). set x (a + k) (get_or p (b + k) nan)) e
       ∙ set-sets (tab g k) q b (a + k) (get_or p (b + k) nan) (inl (omega arith))
       ∙ ap (λ (x : List Float). sets x b (tab g k)) (part_step f l q a k (a + k) (get_or p (b + k) nan) refl refl lower) in
-      swapped p (a + k) (b + k) (omega arith) room
-      ∙ part_step g (sets l a (tab f (k + 1))) (set p (a + k) (get_or p (b + k) nan)) b k (b + k) (get_or p (a + k) nan) first refl upper
+      part_step g (sets l a (tab f (k + 1))) (set p (a + k) (get_or p (b + k) nan)) b k (b + k) (get_or p (a + k) nan) first refl upper
+
+  -- the same by std's `swap`
+  pub swap-turn : (p : List Float) → p ≡ parts_exchanged a b k l → b + k < length p → swap p (a + k) (b + k) ≡ parts_exchanged a b (k + 1) l
+  swap-turn p e room = swapped p (a + k) (b + k) (omega arith) room ∙ exchange-turn p e
 
   pub subtract-turn : (factor : Float) (p : List Float) → p ≡ part_subtracted a b k factor l
       → set p (b + k) (sub binary64 (get_or p (b + k) nan) (mul binary64 factor (get_or p (a + k) nan))) ≡ part_subtracted a b (k + 1) factor l

@@ -2,7 +2,7 @@
 use mathlib.Core.Path.{◌≡◌, ◌∙◌}
 use native.Mathlib.Omega.{arith}
 use Rattle.lists.specs.Tab.{tab}
-use Rattle.normal.proofs.Turns.{exchange-turn}
+use Rattle.normal.proofs.Turns.{swap-turn}
 use Rattle.std.proofs.Common.{rules}
 use Rattle.normal.proofs.elimination.exchange.Goals as goal
 
@@ -14,7 +14,7 @@ pub loop-k-preserved : goal.loop-k-preserved
 loop-k-preserved c =
     let x = c.args in
     c.swap.ensures.after
-    ∙ exchange-turn x.scratch.now x.a x.b x.n c.loop-k.k (search rules) (omega arith) c.loop-k.scratch c.loop-k.invariant (omega arith)
+    ∙ swap-turn x.scratch.now x.a x.b x.n c.loop-k.k (search rules) (omega arith) c.loop-k.scratch c.loop-k.invariant (omega arith)
 
 pub returns : goal.returns
 returns c =
