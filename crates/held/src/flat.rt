@@ -25,7 +25,10 @@ pub fn copy(flat: &[f64], to: &mut [f64])
     ensures fact_1 { standing to.new ≡ standing flat.now }
     ensures fact_2 { Behind to.old to.new }
 {
-    to[..64].copy_from_slice(&flat[..64]);
+    // Not `copy_from_slice`, which is compiled to memmove: an archive for C would need one more name from outside.
+    for i in 0..64 {
+        to[i] = flat[i];
+    }
 }
 
 // One surface of those that stand in flat numbers replaced.
