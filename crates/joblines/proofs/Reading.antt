@@ -3,8 +3,17 @@ use Rattle.std.proofs.Common.{◌≡◌, ℕ, suc, ◌+◌, ◌-◌, ◌<◌, �
 use Rattle.text.specs.declared.reader.Wrong.{Wrong}
 use Rattle.text.specs.declared.fields.Field.{Field}
 use Rattle.text.specs.Fields.{field_of}
-use Rattle.text.specs.Reader.{then, came}
+use Rattle.text.specs.Reader.{then, came, left_at}
 use Rattle.joblines.specs.Entries.{Form, read_after, put_from}
+
+-- a read that ends at an entry that is out of form leaves the reader before that, as the entry's own did
+pub left
+    : {A B : Type 0} {w : Wrong} (to : ℕ) {entry : Result (Field A) Wrong} {whole : Result (Field B) Wrong}
+    → came {A = A} (Err w) to ≡ entry
+    → to ≡ left_at entry
+    → Err w ≡ whole
+    → to ≡ left_at whole
+left to e h k = h ∙ ap left_at (sym e) ∙ ap left_at k
 
 -- what one entry gives to the list
 module _ {A B : Type 0} (entry : Form B) (put : B → List A → List A) (l : List A) (line : List ℕ) (at : ℕ) where

@@ -1,5 +1,7 @@
 -- A line read field by field. Definitions only.
-use Rattle.std.specs.Prelude.{◌≡◌, Bool, cond, List, [], ◌∷◌, ℕ, zero, suc, eqb, Float, Option, Some, None, option_map, Result, Ok, Err}
+use Rattle.std.specs.Prelude.{◌≡◌, Bool, cond, List, [], ◌∷◌, length, replicate, ℕ, zero, suc, eqb, Float, Option, Some, None, option_map, Result, Ok, Err}
+use Rattle.std.specs.Float.Ieee.{of_bits}
+use Rattle.std.specs.Float.{binary64}
 use Rattle.text.specs.declared.reader.Reader.{Reader}
 use Rattle.text.specs.declared.reader.Why.{Why}
 use Rattle.text.specs.declared.reader.Why.TheVariants.{TooMany, NoNumber, NoHex, Another}
@@ -42,15 +44,15 @@ unfoldable pub past_floats : (n : ℕ) → List ℕ → ℕ → Result (Field (U
 past_floats zero line at = Ok (field_of at tt)
 past_floats (suc n) line at = then (float_from line at) (λ x. past_floats n line x.to)
 
--- a row over whose first number a float is put, where one in form stands, and over the others `more`
-abbrev pub put_over : (old : Float) → (row : List Float) → (more : ℕ → List Float) → Result (Field Float) Wrong → List Float
-put_over old row more (Ok x) = x.value ∷ more x.to
-put_over old row more (Err w) = old ∷ row
+-- a row over whose first number a float is put, and over the others `more`; where none in form stands, +0.0 over all of them
+abbrev pub put_over : (row : List Float) → (more : ℕ → List Float) → Result (Field Float) Wrong → List Float
+put_over row more (Ok x) = x.value ∷ more x.to
+put_over row more (Err w) = replicate (suc (length row)) (of_bits binary64 0)
 
--- a row with the floats from `at` on, up to the first that is out of form
+-- a row with the floats from `at` on; from the first that is out of form on, +0.0
 unfoldable pub floats_over : List ℕ → ℕ → List Float → List Float
 floats_over line at [] = []
-floats_over line at (old ∷ row) = put_over old row (λ to. floats_over line to row) (float_from line at)
+floats_over line at (old ∷ row) = put_over row (λ to. floats_over line to row) (float_from line at)
 
 -- whether the next word is this one
 abbrev pub begins_with : List ℕ → ℕ → List ℕ → Bool
@@ -82,7 +84,13 @@ abbrev pub giving : {A B : Type 0} → A → Result B Wrong → Result A Wrong
 giving x (Ok y) = Ok x
 giving x (Err w) = Err w
 
--- a read from where a reader stands: it answers what the line has there, and is left where that ends; after one out of form nothing more is read
+-- where a read leaves a reader: behind the field; after one out of form the reader stays before it
+abbrev pub left_at : {A : Type 0} → Result (Field A) Wrong → ℕ
+left_at (Ok f) = f.to
+left_at (Err w) = w.at
+
+-- a read from where a reader stands: it answers what the line has there, and leaves the reader behind it, or before what is out of form
 pub record Reads {A : Type 0} (from : List ℕ → ℕ → Result (Field A) Wrong) (r : Reader) (result : Result A Wrong) (n : Reader) : Type 0 where
   pub value : came result n.at ≡ from r.line.now r.at
+  pub left : n.at ≡ left_at (from r.line.now r.at)
   pub same : n.line ≡ r.line

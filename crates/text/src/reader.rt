@@ -1,5 +1,5 @@
-// A line read field by field. Each read answers the field's value, or where the line is out of form and why; what asks for a
-// line's fields one after the other ends at the first that is, by `?`.
+// A line read field by field. Each read answers the field's value, or where the line is out of form and why, and then the reader
+// stays there; what asks for a line's fields one after the other ends at the first that is, by `?`.
 ghost use Rattle.std.specs.Prelude.{◌≡◌, ◌≤◌, cond, length, IfOk};
 ghost use Rattle.text.specs.declared.reader.Why.TheVariants.{Kind};
 ghost use Rattle.text.specs.Fields.{text_of};
@@ -101,6 +101,7 @@ impl<'a> Reader<'a> {
         if is_between(x, low, high) {
             return Ok(x);
         }
+        self.at = out_of_form.at;
         Err(out_of_form)
     }
 
@@ -118,13 +119,19 @@ impl<'a> Reader<'a> {
         self.pass(field, Why::NoHex)
     }
 
-    // The next floats, as many as `row` has room for.
+    // The next floats, as many as `row` has room for. From the first that is out of form on, the row is +0.0.
     pub fn floats(&mut self, row: &mut [f64]) -> Result<(), Wrong>
         ensures value { Reads (past_floats (length row.old)) self.old result self.new }
         ensures row_after { row.new ≡ floats_over self.old.line.now self.old.at row.old }
     {
-        for x in row {
-            *x = self.float()?;
+        for i in 0..row.len() {
+            match self.float() {
+                Ok(x) => row[i] = x,
+                Err(wrong) => {
+                    row[i..].fill(0.0);
+                    return Err(wrong);
+                }
+            }
         }
         Ok(())
     }

@@ -1,8 +1,9 @@
 -- `joblines::entries::read_entries` meets its contract. Assumes nothing.
-use Rattle.std.proofs.Common.{◌≡◌, length, refl, ◌∙◌, arith}
+use Rattle.std.proofs.Common.{◌≡◌, length, refl, ap, ◌∙◌, arith}
 use Rattle.std.proofs.lemmas.Grind.{common_steps}
 use Rattle.joblines.specs.Entries.{stored_at}
-use Rattle.joblines.proofs.Reading.{laid, not-laid, begin, more, stopped, ended}
+use Rattle.text.specs.Reader.{left_at}
+use Rattle.joblines.proofs.Reading.{left, laid, not-laid, begin, more, stopped, ended}
 use Rattle.joblines.proofs.entries.read_entries.Goals as goal
 use Rattle.joblines.proofs.entries.read_entries.Goals.{then-i-kept, else-i-kept}
 
@@ -29,7 +30,9 @@ returns-in_err-entry g c =
     let none = not-laid g.T.Entry.from (stored_at (length c.args.kept.now) l.i) l.kept c.args.reader.now.line.now l.reader.at c.read.new.reader.at
     (rw l.invariant.same at read.value) in
     let end = stopped _ _ _ _ l.invariant.reading {w = c.in_err-entry.field-0.0} c.loop-i-test.true none in
-    record { value = grind (arith, common_steps, end); same = read.same ∙ l.invariant.same }
+    record { value = grind (arith, common_steps, end); left = left c.read.new.reader.at read.value read.left end; same = read.same ∙ l.invariant.same }
 
 pub returns : goal.returns
-returns g c = record { value = ended _ _ _ _ c.loop-i.invariant.reading c.loop-i-test.false; same = c.loop-i.invariant.same }
+returns g c =
+    let end = ended _ _ _ _ c.loop-i.invariant.reading c.loop-i-test.false in
+    record { value = end; left = ap left_at end; same = c.loop-i.invariant.same }

@@ -1,8 +1,9 @@
 -- `joblines::followers::read_listed` meets its contract. Assumes nothing.
-use Rattle.std.proofs.Common.{refl, ◌∙◌, arith}
+use Rattle.std.proofs.Common.{refl, ap, ◌∙◌, arith}
 use Rattle.std.proofs.lemmas.Grind.{common_steps}
 use Rattle.joblines.specs.Followers.{follower_from, with_follower, followers_listed}
-use Rattle.joblines.proofs.Reading.{laid, not-laid, begin, more, stopped, ended}
+use Rattle.text.specs.Reader.{left_at}
+use Rattle.joblines.proofs.Reading.{left, laid, not-laid, begin, more, stopped, ended}
 use Rattle.joblines.proofs.followers.read_listed.Goals as goal
 
 pub loop-init : goal.loop-init
@@ -24,7 +25,13 @@ returns-in_err-p c =
     let none = not-laid (follower_from c.args.count) with_follower l.variables c.args.reader.now.line.now l.reader.at c.read_follower.new.reader.at
     (rw l.invariant.same at read.value) in
     let end = stopped _ _ _ _ l.invariant.reading {w = c.in_err-p.field-0.0} c.loop-test.true none in
-    record { value = grind (arith, common_steps, end); same = read.same ∙ l.invariant.same }
+    record {
+      value = grind (arith, common_steps, end);
+      left = left c.read_follower.new.reader.at read.value read.left end;
+      same = read.same ∙ l.invariant.same;
+    }
 
 pub returns : goal.returns
-returns c = record { value = ended _ _ _ _ c.loop.invariant.reading c.loop-test.false; same = c.loop.invariant.same }
+returns c =
+    let end = ended _ _ _ _ c.loop.invariant.reading c.loop-test.false in
+    record { value = end; left = ap left_at end; same = c.loop.invariant.same }

@@ -1,9 +1,9 @@
 -- `joblines::lens::read_row` meets its contract. Assumes nothing.
-use Rattle.std.proofs.Common.{refl, ◌∙◌, arith}
+use Rattle.std.proofs.Common.{refl, ap, ◌∙◌, arith}
 use Rattle.std.proofs.lemmas.Grind.{common_steps}
-use Rattle.text.specs.Reader.{float_from}
+use Rattle.text.specs.Reader.{float_from, left_at}
 use Rattle.joblines.specs.Lens.{index_stored, row_from}
-use Rattle.joblines.proofs.Reading.{laid, not-laid, begin, more, stopped, ended}
+use Rattle.joblines.proofs.Reading.{left, laid, not-laid, begin, more, stopped, ended}
 use Rattle.joblines.proofs.lens.read_row.Goals as goal
 
 pub loop-w-init : goal.loop-w-init
@@ -25,7 +25,9 @@ returns-in_err-x c =
     let none = not-laid float_from (index_stored c.args.i l.w) l.indices c.args.reader.now.line.now l.reader.at c.float.new.self.at
     (rw l.invariant.same at read.value) in
     let end = stopped _ _ _ _ l.invariant.reading {w = c.in_err-x.field-0.0} c.loop-w-test.true none in
-    record { value = grind (arith, common_steps, end); same = read.same ∙ l.invariant.same }
+    record { value = grind (arith, common_steps, end); left = left c.float.new.self.at read.value read.left end; same = read.same ∙ l.invariant.same }
 
 pub returns : goal.returns
-returns c = record { value = ended _ _ _ _ c.loop-w.invariant.reading c.loop-w-test.false; same = c.loop-w.invariant.same }
+returns c =
+    let end = ended _ _ _ _ c.loop-w.invariant.reading c.loop-w-test.false in
+    record { value = end; left = ap left_at end; same = c.loop-w.invariant.same }
