@@ -1,5 +1,5 @@
 // The job of a held row, entry by entry.
-ghost use Rattle.std.specs.Prelude.{◌≡◌, List, ◌<◌, Float, length};
+ghost use Rattle.std.specs.Prelude.{◌≡◌, List, ◌<◌, ◌≤◌, Float, length};
 ghost use Rattle.variables.specs.Active.{variable_at};
 ghost use Rattle.merit.specs.OperandTable.{operand_at};
 ghost use Rattle.jobs.specs.Entries.{variable_known, operand_known};
@@ -21,14 +21,20 @@ impl HeldJob {
         ensures numbers { result.numbers.now ≡ self.now.numbers }
         ensures long { (length self.now.counts ≡ 73) × (length self.now.numbers ≡ 195) }
     {
-        LentJob {
-            counts: &self.counts,
-            numbers: &self.numbers,
-        }
+        LentJob::over(&self.counts, &self.numbers)
     }
 }
 
 impl<'a> LentJob<'a> {
+    // Any two arrays, as long as a row's or longer.
+    fn over(counts: &'a [u64; 73], numbers: &'a [f64]) -> LentJob<'a>
+        requires { 195 ≤ length numbers.now }
+        ensures counts { result.counts.now ≡ counts.now }
+        ensures numbers { result.numbers.now ≡ numbers.now }
+    {
+        LentJob { counts, numbers }
+    }
+
     pub fn surface_count(self) -> usize
         ensures { result ≡ surface_count_from self.entry.counts.now }
     {
