@@ -28,7 +28,7 @@ pub(crate) fn started(
     run: &mut HeldRun,
     best: &mut HeldBest,
 ) -> WalkHead
-    ensures fact_1 { ForAnnealerBy config (variables_of job.entry.held.now) (λ a. (e : MeritEvaluation) → e.total_merit ≡ merit →
+    ensures fact_1 { ForAnnealerBy config (variables_of job.entry.held) (λ a. (e : MeritEvaluation) → e.total_merit ≡ merit →
         walk_from result run.new best.new ≡ Run.started a (standing run.old.surfaces) e) }
     ensures fact_2 { WalkAlone run.old best.old run.new best.new }
 {
@@ -60,7 +60,7 @@ fn accepted(
     run: &mut HeldRun,
     best: &mut HeldBest,
 ) -> WalkHead
-    ensures fact_1 { ForAnnealer (variables_of job.entry.held.now) (λ a.
+    ensures fact_1 { ForAnnealer (variables_of job.entry.held) (λ a.
         walk_from result run.new best.new ≡ Run.accepted a run.old.candidate merit (walk_from w run.old best.old)) }
     ensures fact_2 { WalkAlone run.old best.old run.new best.new }
 {
@@ -90,7 +90,7 @@ pub(crate) fn judged(
     run: &mut HeldRun,
     best: &mut HeldBest,
 ) -> WalkHead
-    ensures fact_1 { ForAnnealer (variables_of job.entry.held.now) (λ a. (e : MeritEvaluation) → e.total_merit ≡ merit →
+    ensures fact_1 { ForAnnealer (variables_of job.entry.held) (λ a. (e : MeritEvaluation) → e.total_merit ≡ merit →
         walk_from result run.new best.new ≡ Run.judged a run.old.candidate e (walk_from w run.old best.old)) }
     ensures fact_2 { WalkAlone run.old best.old run.new best.new }
 {

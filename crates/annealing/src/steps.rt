@@ -24,7 +24,7 @@ pub(crate) fn at_step(
     run: &mut HeldRun,
     best: &mut HeldBest,
 ) -> RowHead
-    ensures { ForAnnealer (variables_of job.entry.held.now) (λ a.
+    ensures { ForAnnealer (variables_of job.entry.held) (λ a.
         state_from result run.new best.new ≡ at_step a initial_merit (walk_from w run.old best.old) c k) }
 {
     let drawn = draws::trial_params(w.rng, job, run.params);

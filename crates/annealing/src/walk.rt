@@ -25,7 +25,7 @@ fn next_cycle(
     run: &mut HeldRun,
     best: &mut HeldBest,
 ) -> RowHead
-    ensures { ForAnnealerBy config (variables_of job.entry.held.now) (λ a. (k : ℕ) →
+    ensures { ForAnnealerBy config (variables_of job.entry.held) (λ a. (k : ℕ) →
         state_from result run.new best.new ≡ resume_steps a false initial_merit (walk_from w run.old best.old) c k) }
 {
     let cool = WalkHead {
@@ -46,7 +46,7 @@ pub fn advance_walk_first(
     run: &mut HeldRun,
     best: &mut HeldBest,
 ) -> RowHead
-    ensures { ForAnnealerBy config (variables_of job.entry.held.now)
+    ensures { ForAnnealerBy config (variables_of job.entry.held)
         (λ a. (h : RowHead) (e : MeritEvaluation) → e.total_merit ≡ merit →
         state_from result run.new best.new ≡ advance_at a walk_first (state_from h run.old best.old) e) }
 {
@@ -68,7 +68,7 @@ pub fn advance_walk(
     run: &mut HeldRun,
     best: &mut HeldBest,
 ) -> RowHead
-    ensures { ForAnnealerBy config (variables_of job.entry.held.now) (λ a. (e : MeritEvaluation) → e.total_merit ≡ merit →
+    ensures { ForAnnealerBy config (variables_of job.entry.held) (λ a. (e : MeritEvaluation) → e.total_merit ≡ merit →
         state_from result run.new best.new ≡ advance_at a walk (state_from h run.old best.old) e) }
 {
     let w = WalkHead {

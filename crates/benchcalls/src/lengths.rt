@@ -47,7 +47,7 @@ pub(crate) fn row_long(row: &HeldRow)
     ensures { Long row.now }
 {
     head_long(&row.head);
-    row.job.lengths();
+    row.job.lent();
     run_long(&row.run);
     best_long(&row.best);
 }

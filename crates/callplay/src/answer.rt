@@ -50,7 +50,7 @@ fn put_fetched(output: &mut Output, bench: &Bench, place: usize) {
         return;
     }
     answers::put_outcome(output, found);
-    let job = &bench.rows[place % 4].job;
+    let job = bench.rows[place % 4].job.lent();
     let surfaces = job.surface_count();
     let operands = job.operand_count();
     answers::put_lens(output, found, surfaces, operands);

@@ -65,12 +65,12 @@ impl Change {
             Change::Crossed => cross(&mut r.job.numbers, place(places::VARIABLE_NUMBERS, 3, i)),
             Change::Sign => follow(&mut r.job.counts, i, past(3, v), 0),
             Change::Plus => {
-                let surface = past(row.job.surface_count() as u64, v);
+                let surface = past(row.job.lent().surface_count() as u64, v);
                 follow(&mut r.job.counts, i, 1, surface);
             }
             Change::Minus => follow(&mut r.job.counts, i, 2, 0),
             Change::NoFollower => {
-                let surface = past(row.job.surface_count() as u64, v);
+                let surface = past(row.job.lent().surface_count() as u64, v);
                 follow(&mut r.job.counts, i, 0, surface);
             }
             Change::Taken => leave_taken(&mut r, v),

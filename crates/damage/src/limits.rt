@@ -1,5 +1,7 @@
 // Whole numbers: the least value of an entry that is damage, with all that are greater.
-use held::{HeldJob, HeldRow};
+ghost use Rattle.std.specs.Prelude.{◌≤◌};
+
+use held::{HeldRow, LentJob};
 use runs::{methods, phases};
 
 #[derive(Clone, Copy)]
@@ -22,7 +24,7 @@ pub(crate) enum Limit {
 impl Limit {
     pub(crate) fn least(self, row: &HeldRow) -> u64 {
         let kind = row.head.kind();
-        let job = &row.job;
+        let job = row.job.lent();
         match self {
             Limit::Is(least) => least,
             Limit::Surfaces => job.surface_count() as u64,
@@ -58,13 +60,15 @@ fn one_more(x: u64) -> u64 {
 }
 
 // How many of the variables that there are are enabled.
-fn enabled(job: &HeldJob) -> u64 {
+fn enabled(job: LentJob) -> u64
+    ensures { result ≤ 8 }
+{
     let count = job.variable_count().min(8);
     (0..count).filter(|i| job.variable_at(*i).enabled).count() as u64
 }
 
 // The job's bound on turns (01): of a damped run, multi-start, annealing.
-fn turns(job: &HeldJob, kind: u64) -> u64 {
+fn turns(job: LentJob, kind: u64) -> u64 {
     let a_step = enabled(job).wrapping_mul(2).wrapping_add(10);
     let damped = one_more(job.max_iterations().wrapping_mul(a_step));
     match kind {

@@ -1,5 +1,5 @@
 // Where a row has an entry in use.
-use held::{HeldJob, HeldRow};
+use held::{HeldRow, LentJob};
 use merit::OperandType;
 use runs::{methods, phases};
 use variables::VariableType;
@@ -33,7 +33,7 @@ pub(crate) enum Uses {
 impl Uses {
     // Whether the row has the entry at place i, and it bears on the job there.
     pub(crate) fn holds(self, row: &HeldRow, i: usize) -> bool {
-        let job = &row.job;
+        let job = row.job.lent();
         let kind = row.head.kind();
         let phase = row.head.phase();
         match self {
@@ -67,7 +67,7 @@ fn has_best(kind: u64, phase: u64, trial: u64) -> bool {
 }
 
 // What variable i varies, of which there are eight at most.
-fn variable(job: &HeldJob, i: usize) -> VariableType {
+fn variable(job: LentJob, i: usize) -> VariableType {
     job.variable_at(i % 8).var_type
 }
 
@@ -84,7 +84,7 @@ fn is_length(varied: VariableType) -> bool {
 }
 
 // The kind of operand i, of which there are twelve at most.
-fn operand(job: &HeldJob, i: usize) -> OperandType {
+fn operand(job: LentJob, i: usize) -> OperandType {
     job.operand_at(i % 12).operand_type
 }
 

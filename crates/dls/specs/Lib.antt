@@ -1,2 +1,3 @@
 pub mod DampedSteps
 pub mod Found
+pub mod RunWith

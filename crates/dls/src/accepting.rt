@@ -56,8 +56,8 @@ pub(crate) fn resume_iterations(h: Head, limit: u64, run: &mut HeldRun) -> Head
 // The candidate's surfaces, parameters and merit become the current ones, and the damping is eased.
 // dls.rs: `current_prescription = test_presc` and on
 fn moved(h: Head, merit: f64, job: CountedJob, found: &[f64; 12], run: &mut HeldRun) -> Head
-    ensures { ForFound job.entry.held.now found.now (λ e. e.total_merit ≡ merit → (config : DlsConfig) (m : ℕ) →
-        let o = optimizer config (variables_of job.entry.held.now) m in
+    ensures { ForFound job.entry.held found.now (λ e. e.total_merit ≡ merit → (config : DlsConfig) (m : ℕ) →
+        let o = optimizer config (variables_of job.entry.held) m in
         let before = damped_from h run.old in
         damped_from result run.new ≡ with_current before (moved o run.old.candidate e (current_of before))) }
 {
@@ -86,9 +86,9 @@ fn advance_accepted(
     found: &[f64; 12],
     run: &mut HeldRun,
 ) -> Head
-    requires { 0 < num_active (variables_of job.held.now) }
-    ensures { ForFound job.entry.held.now found.now (λ e. e.total_merit ≡ merit → (m : ℕ) →
-        let o = optimizer config (variables_of job.entry.held.now) m in
+    requires { 0 < num_active (variables_of job.held) }
+    ensures { ForFound job.entry.held found.now (λ e. e.total_merit ≡ merit → (m : ℕ) →
+        let o = optimizer config (variables_of job.entry.held) m in
         damped_from result run.new ≡ resume_after o (accepted o run.old.candidate e (current_of (damped_from h run.old)))) }
 {
     let gain = rel_improvement(merit, h.total_merit);
@@ -109,9 +109,9 @@ pub(crate) fn advance_candidate(
     scratch: &mut [f64],
 ) -> Head
     requires fact_1 { scratch_length ≤ length scratch.old }
-    requires fact_2 { 0 < num_active (variables_of job.held.now) }
-    ensures fact_1 { ForFound job.entry.held.now found.now (λ e.
-        let o = optimizer config (variables_of job.entry.held.now) (operand_count_of job.entry.held.now) in
+    requires fact_2 { 0 < num_active (variables_of job.held) }
+    ensures fact_1 { ForFound job.entry.held found.now (λ e.
+        let o = optimizer config (variables_of job.entry.held) (operand_count_of job.entry.held) in
         damped_from result run.new ≡ advance_at o Damped.candidate (damped_from h run.old) e) }
     ensures fact_2 { ScratchKept scratch.old scratch.new }
 {

@@ -36,8 +36,8 @@ fn stepped(params: [f64; 8], p: usize, scratch: &[f64]) -> [f64; 8]
 #[tactic(auto, using(crate::proofs::Few::few))]
 fn candidate_params(p: usize, job: VariedJob, params: [f64; 8], scratch: &[f64]) -> [f64; 8]
     requires fact_1 { scratch_length ≤ length scratch.now }
-    requires fact_2 { p ≡ num_active (variables_of job.held.now) }
-    ensures { result ≡ candidate_in (variables_of job.entry.held.now) params scratch.now }
+    requires fact_2 { p ≡ num_active (variables_of job.held) }
+    ensures { result ≡ candidate_in (variables_of job.entry.held) params scratch.now }
 {
     let moved = stepped(params, p, scratch);
     clamp_values(job, moved)
@@ -56,8 +56,8 @@ fn resume_attempts(
     scratch: &mut [f64],
 ) -> Head
     requires fact_1 { scratch_length ≤ length scratch.old }
-    requires fact_2 { p ≡ num_active (variables_of job.held.now) }
-    ensures { AttemptsMade (variables_of job.entry.held.now) (damped_from h run.old) damping first scratch.old scratch.new
+    requires fact_2 { p ≡ num_active (variables_of job.held) }
+    ensures { AttemptsMade (variables_of job.entry.held) (damped_from h run.old) damping first scratch.old scratch.new
         (damped_from result run.new) }
 {
     let mut now = damping;
@@ -90,7 +90,7 @@ pub(crate) fn resume_stationary(
     scratch: &mut [f64],
 ) -> Head
     requires { scratch_length ≤ length scratch.old }
-    ensures fact_1 { (let o = optimizer config (variables_of job.entry.held.now) (operand_count_of job.entry.held.now) in
+    ensures fact_1 { (let o = optimizer config (variables_of job.entry.held) (operand_count_of job.entry.held) in
         let before = current_of (damped_from h run.old) in
         damped_from result run.new ≡ resume_stationary o (is_stationary o run.old.jacobian before) run.old.jacobian before) }
     ensures fact_2 { ScratchKept scratch.old scratch.new }
@@ -116,7 +116,7 @@ pub(crate) fn resume_rejected(
 ) -> Head
     requires { scratch_length ≤ length scratch.old }
     ensures fact_1 { ((config : DlsConfig) →
-        let o = optimizer config (variables_of job.entry.held.now) (operand_count_of job.entry.held.now) in
+        let o = optimizer config (variables_of job.entry.held) (operand_count_of job.entry.held) in
         damped_from result run.new
         ≡ resume_attempts o (10 - h.attempt) run.old.jacobian (raised (current_of (damped_from h run.old))) h.attempt) }
     ensures fact_2 { ScratchKept scratch.old scratch.new }

@@ -42,25 +42,26 @@ pub(crate) fn lay_moved<F: Fn(f64, f64, VariableDef) -> f64>(
     h: Head,
     config: DlsConfig,
     job: VariedJob,
-    run: &HeldRun,
+    surfaces: &[f64; 64],
+    params: &[f64; 8],
     flat: &mut [f64],
 )
     requires fact_1 { h.column < most_variables }
     requires fact_2 { 64 ≤ length flat.old }
     requires fact_3 { F.IsAlwaysCallable side }
-    ensures fact_1 { let v = variables_of job.entry.held.now in
-        (x : Float) × F.post side (get_or run.now.params h.column nan) config.finite_difference_relative_step (active_at v h.column) x
-        × (standing flat.new ≡ applied v (set run.now.params h.column x) (standing run.now.surfaces)) }
+    ensures fact_1 { let v = variables_of job.entry.held in
+        (x : Float) × F.post side (get_or params.now h.column nan) config.finite_difference_relative_step (active_at v h.column) x
+        × (standing flat.new ≡ applied v (set params.now h.column x) (standing surfaces.now)) }
     ensures fact_2 { Behind flat.old flat.new }
 {
     let q = h.column as usize;
-    let mut moved = run.params;
+    let mut moved = *params;
     moved[q] = side(
-        run.params[q],
+        params[q],
         config.finite_difference_relative_step,
         job.held.active_at(q),
     );
-    lay_applied(job, moved, &run.surfaces, flat);
+    lay_applied(job, moved, surfaces, flat);
 }
 
 // What lies between the parameter moved up and moved down.
@@ -68,7 +69,7 @@ pub(crate) fn lay_moved<F: Fn(f64, f64, VariableDef) -> f64>(
 fn between(h: Head, config: DlsConfig, job: VariedJob, run: &HeldRun) -> f64
     requires { h.column < most_variables }
     ensures { (m : ℕ) →
-        let o = optimizer config (variables_of job.entry.held.now) m in
+        let o = optimizer config (variables_of job.entry.held) m in
         result ≡ denom o (current_of (damped_from h run.now)) h.column }
 {
     let q = h.column as usize;
@@ -90,7 +91,7 @@ pub(crate) fn with_differences(
     run: &mut HeldRun,
 )
     requires { h.column < most_variables }
-    ensures { let o = optimizer config (variables_of job.entry.held.now) (operand_count_of job.entry.held.now) in
+    ensures { let o = optimizer config (variables_of job.entry.held) (operand_count_of job.entry.held) in
         let before = damped_from h run.old in
         damped_from h run.new ≡ with_jacobian before (with_differences o (current_of before) h.column run.old.jacobian run.old.plus_residuals minus) }
 {

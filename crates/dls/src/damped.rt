@@ -5,6 +5,8 @@ ghost use Rattle.variables.specs.Active.{num_active};
 ghost use Rattle.runs.specs.DampedRow as Damped;
 ghost use Rattle.runs.specs.DampedRow.{pending, advance, advance_at};
 ghost use Rattle.dls.specs.DampedSteps.{optimizer, ScratchKept};
+ghost use Rattle.dls.specs.RunWith.{run_with};
+ghost use Rattle.held.specs.declared.types.HeldRun.{HeldRun};
 ghost use Rattle.held.specs.JobFrom.{standing};
 ghost use Rattle.held.specs.RowFrom.{damped_from};
 ghost use Rattle.held.specs.Standing.{Behind};
@@ -22,18 +24,27 @@ use runs::phases;
 
 // The surfaces whose merit comes next, laid where it is worked out.
 #[tactic(auto, using(crate::proofs::Few::few))]
-pub fn pending_damped(h: Head, config: DlsConfig, job: VariedJob, run: &HeldRun, flat: &mut [f64])
-    requires fact_1 { h.column < num_active (variables_of job.held.now) }
+pub fn pending_damped(
+    h: Head,
+    config: DlsConfig,
+    job: VariedJob,
+    surfaces: &[f64; 64],
+    params: &[f64; 8],
+    candidate: &[f64; 8],
+    flat: &mut [f64],
+)
+    requires fact_1 { h.column < num_active (variables_of job.held) }
     requires fact_2 { 64 ≤ length flat.old }
-    ensures fact_1 { ((m : ℕ) →
-        standing flat.new ≡ pending (optimizer config (variables_of job.entry.held.now) m) (damped_from h run.now)) }
+    ensures fact_1 { ((m : ℕ) (run : HeldRun) →
+        let before = damped_from h (run_with surfaces.now params.now candidate.now run) in
+        standing flat.new ≡ pending (optimizer config (variables_of job.entry.held) m) before) }
     ensures fact_2 { Behind flat.old flat.new }
 {
     match h.phase {
-        phases::PLUS => lay_moved(moved_up, h, config, job, run, flat),
-        phases::MINUS => lay_moved(moved_down, h, config, job, run, flat),
-        phases::CANDIDATE => lay_applied(job, run.candidate, &run.surfaces, flat),
-        _ => copy(&run.surfaces, flat),
+        phases::PLUS => lay_moved(moved_up, h, config, job, surfaces, params, flat),
+        phases::MINUS => lay_moved(moved_down, h, config, job, surfaces, params, flat),
+        phases::CANDIDATE => lay_applied(job, *candidate, surfaces, flat),
+        _ => copy(surfaces, flat),
     }
 }
 
@@ -46,9 +57,9 @@ fn advance_first(
     found: &[f64; 12],
     run: &mut HeldRun,
 ) -> Head
-    requires { 0 < num_active (variables_of job.held.now) }
-    ensures { ForFound job.entry.held.now found.now (λ e. (m : ℕ) →
-        let o = optimizer config (variables_of job.entry.held.now) m in
+    requires { 0 < num_active (variables_of job.held) }
+    ensures { ForFound job.entry.held found.now (λ e. (m : ℕ) →
+        let o = optimizer config (variables_of job.entry.held) m in
         damped_from result run.new ≡ advance_at o Damped.first (damped_from h run.old) e) }
 {
     run.params = extract_values(VariedJob { held: job.held }, &run.surfaces);
@@ -76,9 +87,9 @@ fn advance_minus(
     scratch: &mut [f64],
 ) -> Head
     requires fact_1 { scratch_length ≤ length scratch.old }
-    requires fact_2 { h.column < num_active (variables_of job.held.now) }
-    ensures fact_1 { ForFound job.entry.held.now found.now (λ e.
-        let o = optimizer config (variables_of job.entry.held.now) (operand_count_of job.entry.held.now) in
+    requires fact_2 { h.column < num_active (variables_of job.held) }
+    ensures fact_1 { ForFound job.entry.held found.now (λ e.
+        let o = optimizer config (variables_of job.entry.held) (operand_count_of job.entry.held) in
         damped_from result run.new ≡ advance_at o Damped.minus (damped_from h run.old) e) }
     ensures fact_2 { ScratchKept scratch.old scratch.new }
 {
@@ -103,9 +114,9 @@ pub fn advance_damped(
     scratch: &mut [f64],
 ) -> Head
     requires fact_1 { scratch_length ≤ length scratch.old }
-    requires fact_2 { h.column < num_active (variables_of job.held.now) }
-    ensures fact_1 { ForFound job.entry.held.now found.now (λ e.
-        let o = optimizer config (variables_of job.entry.held.now) (operand_count_of job.entry.held.now) in
+    requires fact_2 { h.column < num_active (variables_of job.held) }
+    ensures fact_1 { ForFound job.entry.held found.now (λ e.
+        let o = optimizer config (variables_of job.entry.held) (operand_count_of job.entry.held) in
         damped_from result run.new ≡ advance o (damped_from h run.old) e) }
     ensures fact_2 { ScratchKept scratch.old scratch.new }
 {

@@ -51,8 +51,8 @@ impl Rule for Nearby {
 // A draw for each, used by a rule; what stands after them is kept.
 #[tactic(auto, unfolding(lists::specs::Tab::tab, xorshift::specs::Xorshift::step_times, variables::specs::Active::enabled_of))]
 fn draw_each<R: Rule>(generator: u64, job: VariedJob, start: [f64; 8]) -> Drawn
-    ensures { (result.params ≡ drawn_values R.rule (variables_of job.entry.held.now) start generator)
-        × (result.generator ≡ step_times (num_active (variables_of job.entry.held.now)) generator) }
+    ensures { (result.params ≡ drawn_values R.rule (variables_of job.entry.held) start generator)
+        × (result.generator ≡ step_times (num_active (variables_of job.entry.held)) generator) }
 {
     let count = job.held.variable_count();
     let mut x = start;
@@ -76,8 +76,8 @@ fn draw_each<R: Rule>(generator: u64, job: VariedJob, start: [f64; 8]) -> Drawn
 // For a trial of multi-start: any value within the bounds, and +0.0 after them.
 #[tactic(auto, unfolding(lists::specs::Tab::tab, runs::specs::MultiStartRun::random_params, runs::specs::MultiStartRun::after_draws))]
 pub fn random_params(generator: u64, job: VariedJob) -> Drawn
-    ensures { (result.params ≡ random_params (variables_of job.entry.held.now) generator)
-        × (result.generator ≡ after_draws (variables_of job.entry.held.now) generator) }
+    ensures { (result.params ≡ random_params (variables_of job.entry.held) generator)
+        × (result.generator ≡ after_draws (variables_of job.entry.held) generator) }
 {
     draw_each::<Anywhere>(generator, job, [0.0; 8])
 }
@@ -85,8 +85,8 @@ pub fn random_params(generator: u64, job: VariedJob) -> Drawn
 // For a step of annealing: each param moved, and what stands after them kept.
 #[tactic(auto, unfolding(runs::specs::AnnealingRun::trial_params))]
 pub fn trial_params(generator: u64, job: VariedJob, params: [f64; 8]) -> Drawn
-    ensures { TriedBy (variables_of job.entry.held.now) params generator result.params
-        × (result.generator ≡ step_times (num_active (variables_of job.entry.held.now)) generator) }
+    ensures { TriedBy (variables_of job.entry.held) params generator result.params
+        × (result.generator ≡ step_times (num_active (variables_of job.entry.held)) generator) }
 {
     draw_each::<Nearby>(generator, job, params)
 }

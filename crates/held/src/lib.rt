@@ -13,6 +13,6 @@ mod values;
 mod varied;
 
 pub use flat::{copy, stand};
-pub use types::{BestHead, Head, HeldBest, HeldHead, HeldJob, HeldRow, HeldRun, RowHead};
+pub use types::{BestHead, Head, HeldBest, HeldHead, HeldJob, HeldRow, HeldRun, LentJob, RowHead};
 pub use values::{apply_values, clamp_values, extract_values, lay_applied};
 pub use varied::{CountedJob, VariedJob};

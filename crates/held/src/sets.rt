@@ -3,14 +3,14 @@ ghost use Rattle.std.specs.Prelude.{◌≡◌, ◌≤◌};
 ghost use Rattle.variables.specs.Active.{num_active, active_at};
 ghost use Rattle.held.specs.JobFrom.{variable_count_from, variables_from};
 
-use crate::types::HeldJob;
+use crate::types::LentJob;
 use variables::{Follower, VariableDef, VariableType};
 
-impl HeldJob {
+impl LentJob<'_> {
     // How many are enabled.
-    pub fn num_active(&self) -> usize
-        requires { variable_count_from self.now.counts ≤ 8 }
-        ensures { result ≡ num_active (variables_from self.now.counts self.now.numbers) }
+    pub fn num_active(self) -> usize
+        requires { variable_count_from self.counts.now ≤ 8 }
+        ensures { result ≡ num_active (variables_from self.entry.counts.now self.entry.numbers.now) }
     {
         let count = self.variable_count();
         let mut p: usize = 0;
@@ -24,9 +24,9 @@ impl HeldJob {
     }
 
     // The enabled variable with q enabled ones before it.
-    pub fn active_at(&self, q: usize) -> VariableDef
-        requires { variable_count_from self.now.counts ≤ 8 }
-        ensures { result ≡ active_at (variables_from self.now.counts self.now.numbers) q }
+    pub fn active_at(self, q: usize) -> VariableDef
+        requires { variable_count_from self.counts.now ≤ 8 }
+        ensures { result ≡ active_at (variables_from self.entry.counts.now self.entry.numbers.now) q }
     {
         let count = self.variable_count();
         let mut p: usize = 0;

@@ -1,11 +1,20 @@
 // A row as the bench holds it: arrays of numbers and nothing else, in four parts that a call lends whole. `specs/RowFrom.antt` reads it as a row.
+ghost use Rattle.std.specs.Prelude.{◌≤◌, length};
 
-// The job of it: it goes by reference wherever the row's code needs it, and nothing writes it after admission.
+// The job of it: nothing writes it after admission.
 #[repr(C)]
 #[derive(Clone, Copy)]
 pub struct HeldJob {
     pub counts: [u64; 73],
     pub numbers: [f64; 195],
+}
+
+// A held job as it is lent wherever the row's code needs it: its two arrays, in a row or anywhere else. What stands past 195 numbers is not looked at.
+#[derive(Clone, Copy)]
+pub struct LentJob<'a> {
+    pub counts: &'a [u64; 73],
+    pub numbers: &'a [f64],
+    pub ghost long: { 195 ≤ length numbers.now },
 }
 
 // What tells where the row's run is: the words and scalars of its kind, turns, phase and heads. `places.rt` says where an entry stands.

@@ -26,7 +26,7 @@ fn value_of(flat: &[f64], kind: VariableType) -> f64
 // The values of the enabled variables, and +0.0 after them.
 pub fn extract_values(job: VariedJob, flat: &[f64]) -> [f64; 8]
     requires { 64 ≤ length flat.now }
-    ensures { result ≡ extracted (variables_of job.entry.held.now) (standing flat.now) }
+    ensures { result ≡ extracted (variables_of job.entry.held) (standing flat.now) }
 {
     let count = job.held.variable_count();
     let mut x = [0.0; 8];
@@ -43,7 +43,7 @@ pub fn extract_values(job: VariedJob, flat: &[f64]) -> [f64; 8]
 
 // Each value clamped to its variable's bounds, a NaN let through; what stands after them is kept.
 pub fn clamp_values(job: VariedJob, values: [f64; 8]) -> [f64; 8]
-    ensures { result ≡ clamped_values (variables_of job.entry.held.now) values }
+    ensures { result ≡ clamped_values (variables_of job.entry.held) values }
 {
     let count = job.held.variable_count();
     let mut x = values;
@@ -97,7 +97,7 @@ fn apply_variable(d: VariableDef, value: f64, flat: &mut [f64])
 // The surfaces that stand in flat numbers with each value applied, in rising order of the variables.
 pub fn apply_values(job: VariedJob, values: [f64; 8], flat: &mut [f64])
     requires { 64 ≤ length flat.old }
-    ensures fact_1 { standing flat.new ≡ applied (variables_of job.entry.held.now) values (standing flat.old) }
+    ensures fact_1 { standing flat.new ≡ applied (variables_of job.entry.held) values (standing flat.old) }
     ensures fact_2 { Behind flat.old flat.new }
 {
     let count = job.held.variable_count();
@@ -115,7 +115,7 @@ pub fn apply_values(job: VariedJob, values: [f64; 8], flat: &mut [f64])
 pub fn lay_applied(job: VariedJob, values: [f64; 8], surfaces: &[f64], flat: &mut [f64])
     requires fact_1 { 64 ≤ length surfaces.now }
     requires fact_2 { 64 ≤ length flat.old }
-    ensures fact_1 { standing flat.new ≡ applied (variables_of job.entry.held.now) values (standing surfaces.now) }
+    ensures fact_1 { standing flat.new ≡ applied (variables_of job.entry.held) values (standing surfaces.now) }
     ensures fact_2 { Behind flat.old flat.new }
 {
     copy(surfaces, flat);

@@ -9,7 +9,7 @@ ghost use Rattle.kinds.specs.Phases.{StateInPhase};
 ghost use Rattle.kinds.specs.Limits.{CountsWithin};
 ghost use Rattle.held.specs.JobFrom.{settings_from};
 
-use held::HeldJob;
+use held::LentJob;
 use runs::{methods, phases};
 
 #[tactic(auto, unfolding(jobs::specs::Records::method))]
@@ -66,11 +66,11 @@ pub(crate) struct CounterLimits {
 }
 
 #[tactic(auto, unfolding(jobs::specs::Records::method))]
-pub(crate) fn counter_limits(kind: u64, job: &HeldJob) -> CounterLimits
-    ensures iteration { (numbers : List Float) → result.iteration ≡ iteration_limit (method kind (settings_from job.now.counts numbers)) }
-    ensures trial { (numbers : List Float) → result.trial ≡ trial_limit (method kind (settings_from job.now.counts numbers)) }
-    ensures cycle { (numbers : List Float) → result.cycle ≡ cycle_limit (method kind (settings_from job.now.counts numbers)) }
-    ensures step { (numbers : List Float) → result.step ≡ step_limit (method kind (settings_from job.now.counts numbers)) }
+pub(crate) fn counter_limits(kind: u64, job: LentJob) -> CounterLimits
+    ensures iteration { (numbers : List Float) → result.iteration ≡ iteration_limit (method kind (settings_from job.entry.counts.now numbers)) }
+    ensures trial { (numbers : List Float) → result.trial ≡ trial_limit (method kind (settings_from job.entry.counts.now numbers)) }
+    ensures cycle { (numbers : List Float) → result.cycle ≡ cycle_limit (method kind (settings_from job.entry.counts.now numbers)) }
+    ensures step { (numbers : List Float) → result.step ≡ step_limit (method kind (settings_from job.entry.counts.now numbers)) }
 {
     match kind {
         methods::DAMPED => CounterLimits {
@@ -96,9 +96,9 @@ pub(crate) fn counter_limits(kind: u64, job: &HeldJob) -> CounterLimits
 
 // The most merits that the job's run works out, with p variables enabled.
 #[tactic(auto, unfolding(jobs::specs::Records::method, runs::specs::Rows::bound_by))]
-pub(crate) fn bound(kind: u64, job: &HeldJob, p: u64) -> u64
-    requires { ((numbers : List Float) → CountsWithin (method kind (settings_from job.now.counts numbers))) × (p ≤ 8) }
-    ensures { (numbers : List Float) → result ≡ bound_by (method kind (settings_from job.now.counts numbers)) p }
+pub(crate) fn bound(kind: u64, job: LentJob, p: u64) -> u64
+    requires { ((numbers : List Float) → CountsWithin (method kind (settings_from job.counts.now numbers))) × (p ≤ 8) }
+    ensures { (numbers : List Float) → result ≡ bound_by (method kind (settings_from job.entry.counts.now numbers)) p }
 {
     match kind {
         methods::DAMPED => kinds::damped_bound(job.max_iterations(), p),

@@ -24,12 +24,12 @@ use runs::phases;
 // global.rs: `trial_presc`
 #[tactic(auto, unfolding(runs::specs::MultiStartRun::trial_presc))]
 fn trial_surfaces(generator: u64, job: VariedJob, surfaces: &mut [f64; 64]) -> u64
-    ensures { ForOptimizer (variables_of job.entry.held.now)
-        (λ o. standing surfaces.new ≡ trial_presc o (standing job.entry.held.now.numbers) generator)
-        × (result ≡ after_draws (variables_of job.entry.held.now) generator) }
+    ensures { ForOptimizer (variables_of job.entry.held)
+        (λ o. standing surfaces.new ≡ trial_presc o (standing job.entry.held.numbers.now) generator)
+        × (result ≡ after_draws (variables_of job.entry.held) generator) }
 {
     let drawn = draws::random_params(generator, job);
-    held::lay_applied(job, drawn.params, &job.held.numbers, surfaces);
+    held::lay_applied(job, drawn.params, job.held.numbers, surfaces);
     drawn.generator
 }
 
@@ -59,10 +59,10 @@ fn resume_trials(
     job: VariedJob,
     run: &mut HeldRun,
 ) -> RowHead
-    ensures { ForOptimizer (variables_of job.entry.held.now) (λ o. (kept : HeldBest) →
-        let trials = num_trials_from job.entry.held.now.counts in
+    ensures { ForOptimizer (variables_of job.entry.held) (λ o. (kept : HeldBest) →
+        let trials = num_trials_from job.entry.held.counts.now in
         state_from result run.new kept
-        ≡ resume_trials o (standing job.entry.held.now.numbers) trials (ltb trial trials) (result_from best kept) generator trial) }
+        ≡ resume_trials o (standing job.entry.held.numbers.now) trials (ltb trial trials) (result_from best kept) generator trial) }
 {
     if trial < job.held.num_trials() {
         let next = trial_surfaces(generator, job, &mut run.surfaces);
@@ -81,10 +81,10 @@ fn resume_trials(
 // After a merit has taken the trial's damped part to where it stands: it goes on there, or the trial is over.
 #[tactic(auto, unfolding(runs::specs::MultiStartRow::resume_damped))]
 fn resume_damped(h: RowHead, job: VariedJob, run: &mut HeldRun, best: &mut HeldBest) -> RowHead
-    ensures { ForOptimizer (variables_of job.entry.held.now) (λ o. (old : DampedState) →
+    ensures { ForOptimizer (variables_of job.entry.held) (λ o. (old : DampedState) →
         let before = state_from h run.old best.old in
         state_from result run.new best.new
-        ≡ resume_damped o (standing job.entry.held.now.numbers) (num_trials_from job.entry.held.now.counts) (Damped.is_finished before.damped)
+        ≡ resume_damped o (standing job.entry.held.numbers.now) (num_trials_from job.entry.held.counts.now) (Damped.is_finished before.damped)
         (with_damped before old) before.damped) }
 {
     if kinds::damped_over(h.damped.phase) {
@@ -105,12 +105,12 @@ pub fn advance_trials(
     scratch: &mut [f64],
 ) -> RowHead
     requires fact_1 { scratch_length ≤ length scratch.old }
-    requires fact_2 { h.damped.column < num_active (variables_of job.held.now) }
-    ensures fact_1 { ForFound job.entry.held.now found.now (λ e.
-        let o = optimizer (dls_config (settings_of job.entry.held.now)) (variables_of job.entry.held.now)
-        (operand_count_of job.entry.held.now) in
+    requires fact_2 { h.damped.column < num_active (variables_of job.held) }
+    ensures fact_1 { ForFound job.entry.held found.now (λ e.
+        let o = optimizer (dls_config (settings_of job.entry.held)) (variables_of job.entry.held)
+        (operand_count_of job.entry.held) in
         state_from result run.new best.new
-        ≡ advance o (standing job.entry.held.now.numbers) (num_trials_from job.entry.held.now.counts) (state_from h run.old best.old) e) }
+        ≡ advance o (standing job.entry.held.numbers.now) (num_trials_from job.entry.held.counts.now) (state_from h run.old best.old) e) }
     ensures fact_2 { ScratchKept scratch.old scratch.new }
 {
     let damped = dls::advance_damped(h.damped, job.held.dls_config(), job, found, run, scratch);

@@ -17,7 +17,7 @@ fn with_pending(hash: u64, bench: &Bench, place: usize) -> Result<u64, Refusal>
 {
     let row = &bench.rows[place];
     let pending = rowturns::pending_of(row)?;
-    let h = answers::with_surfaces(hash, pending.surfaces, row.job.surface_count());
+    let h = answers::with_surfaces(hash, pending.surfaces, row.job.lent().surface_count());
     Ok(answers::with_float(h, pending.merit))
 }
 

@@ -5,7 +5,7 @@ ghost use Rattle.held.specs.RowFrom.{row_from};
 ghost use Rattle.bench.specs.Calls.{is_listed, taken_damaged};
 ghost use Rattle.rows.specs.Calls.{fetch_row_number, fetched_of_row};
 
-use crate::numbers::fetch_refusal;
+use crate::numbers::{fetch_refusal, row_damaged};
 use crate::results::result_of;
 use held::HeldRow;
 use refusals::Refusal;
@@ -31,5 +31,5 @@ pub fn is_listed(row: &HeldRow) -> bool
 pub fn is_damaged(row: &HeldRow) -> bool
     ensures { result ≡ taken_damaged (row_from row.now) }
 {
-    row.head.kind() != 0 && helddamage::is_damaged(row)
+    row.head.kind() != 0 && row_damaged(row)
 }

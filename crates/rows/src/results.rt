@@ -59,7 +59,8 @@ fn polished(h: RowHead, row: &HeldRow) -> OptimizationResult
 {
     let mut result = damped_result(h.damped, &row.run);
     result.initial_merit = h.best.initial_merit;
-    let steps = row.job.max_cooling_cycles() * row.job.steps_per_temperature();
+    let job = row.job.lent();
+    let steps = job.max_cooling_cycles() * job.steps_per_temperature();
     result.iterations = steps + h.damped.iteration;
     result
 }

@@ -21,7 +21,7 @@ pub fn turn_row(row: &mut HeldRow, scratch: &mut [f64]) -> Result<(), Refusal>
     let next = turns::turned(
         row.head.numbers(),
         kind,
-        &row.job,
+        row.job.lent(),
         &mut row.run,
         &mut row.best,
         scratch,

@@ -29,9 +29,9 @@ fn advance_part(
     scratch: &mut [f64],
 ) -> RowHead
     requires fact_1 { scratch_length ≤ length scratch.old }
-    requires fact_2 { h.damped.column < num_active (variables_of job.held.now) }
-    ensures fact_1 { ForFound job.entry.held.now found.now (λ e. (best : HeldBest) →
-        let o = optimizer config (variables_of job.entry.held.now) (operand_count_of job.entry.held.now) in
+    requires fact_2 { h.damped.column < num_active (variables_of job.held) }
+    ensures fact_1 { ForFound job.entry.held found.now (λ e. (best : HeldBest) →
+        let o = optimizer config (variables_of job.entry.held) (operand_count_of job.entry.held) in
         let before = state_from h run.old best in
         state_from result run.new best ≡ with_damped before (Damped.advance o before.damped e)) }
     ensures fact_2 { ScratchKept scratch.old scratch.new }
@@ -49,10 +49,10 @@ fn advance_annealing(
     scratch: &mut [f64],
 ) -> RowHead
     requires fact_1 { scratch_length ≤ length scratch.old }
-    requires fact_2 { h.damped.column < num_active (variables_of job.held.now) }
-    ensures fact_1 { ForFound job.entry.held.now found.now (λ e.
-        let a = annealer_of (job_of job.entry.held.now 3)
-        (annealing_config (settings_of job.entry.held.now)) in
+    requires fact_2 { h.damped.column < num_active (variables_of job.held) }
+    ensures fact_1 { ForFound job.entry.held found.now (λ e.
+        let a = annealer_of (job_of job.entry.held 3)
+        (annealing_config (settings_of job.entry.held)) in
         state_from result run.new best.new ≡ Annealing.advance a (state_from h run.old best.old) e) }
     ensures fact_2 { ScratchKept scratch.old scratch.new }
 {
@@ -92,9 +92,9 @@ pub(crate) fn advance_run(
     scratch: &mut [f64],
 ) -> RowHead
     requires fact_1 { scratch_length ≤ length scratch.old }
-    requires fact_2 { h.damped.column < num_active (variables_of job.held.now) }
-    ensures fact_1 { ForFound job.entry.held.now found.now (λ e.
-        let j = job_of job.entry.held.now kind in
+    requires fact_2 { h.damped.column < num_active (variables_of job.held) }
+    ensures fact_1 { ForFound job.entry.held found.now (λ e.
+        let j = job_of job.entry.held kind in
         state_from result run.new best.new ≡ advance_by j.method j (state_from h run.old best.old) e) }
     ensures fact_2 { ScratchKept scratch.old scratch.new }
 {

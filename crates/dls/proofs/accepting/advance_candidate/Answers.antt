@@ -16,7 +16,7 @@ pub returns-then-is_reduction-clause-fact_1 : goal.returns-then-is_reduction-cla
 returns-then-is_reduction-clause-fact_1 c = λ k lens w.
     let m = merit-held _ _ _ c.merit_of-merit.ensures k lens w in
     candidate-taken _ _ _ (tested _ c.is_reduction.ensures m) c.if-is_reduction.true
-    (c.advance_accepted.ensures k lens w (sym m) (operand_count_from c.args.job.held.now.counts))
+    (c.advance_accepted.ensures k lens w (sym m) (operand_count_from c.args.job.held.counts.now))
 
 pub returns-clause-fact_1 : goal.returns-clause-fact_1
 returns-clause-fact_1 c = λ k lens w.

@@ -8,7 +8,7 @@ use Rattle.dls.proofs.attempts.resume_attempts.Goals as goal
 pub loop-k-preserved : goal.loop-k-preserved
 loop-k-preserved c =
     let a = c.attempt_step in
-    let n = active-le (variables_from c.args.job.held.now.counts c.args.job.held.now.numbers) in (
+    let n = active-le (variables_from c.args.job.held.counts.now c.args.job.held.numbers.now) in (
       c.loop-k.invariant.0,
       trying-on c.loop-k.invariant.1 c.requires.fact_2 (omega arith) a.ensures (omega (arith, n)) c.if-not-attempt_step.true c.raise-now.ensures,
     )

@@ -7,5 +7,5 @@ use Rattle.dls.proofs.attempts.resume_attempts.Given as goal
 
 abbrev pub invariant-loop-k : goal.invariant-loop-k
 invariant-loop-k l = (l.run ≡ l.initial.run)
-    × Trying (variables_from l.job.held.now.counts l.job.held.now.numbers) (damped_from l.h l.initial.run) l.initial.scratch l.initial.now l.fn.first
+    × Trying (variables_from l.job.held.counts.now l.job.held.numbers.now) (damped_from l.h l.initial.run) l.initial.scratch l.initial.now l.fn.first
     l.scratch l.now l.k

@@ -14,7 +14,7 @@ returns c = λ k lens w m.
     let x = c.args in
     let r = c.residuals_of-run in
     let e : record { values = x.found.now; residuals = r.result; total_merit = c.merit_of-merit.result }
-    ≡ (evaluate_of (held_job x.job.held.now.counts x.job.held.now.numbers k) lens) = λ i.
+    ≡ (evaluate_of (held_job x.job.held.counts.now x.job.held.numbers.now k) lens) = λ i.
     record {
       values = w i;
       residuals = residuals-held _ _ _ r.ensures k lens w i;

@@ -12,16 +12,16 @@ pub loop-i-preserved : goal.loop-i-preserved
 loop-i-preserved g c =
     let x = c.args in
     let e = ap (λ (d : VariableDef). d.enabled) c.variable_at-d.ensures in
-    let h : c.loop-i.i < variable_count_from x.job.held.now.counts = omega (arith, c.loop-i-test.true, c.loop-i.invariant.1) in
+    let h : c.loop-i.i < variable_count_from x.job.held.counts.now = omega (arith, c.loop-i-test.true, c.loop-i.invariant.1) in
     elim c.if-d.branch [
       | then-d w ↦ (
-        draw-more {v = variables_of x.job.held.now} c.loop-i.invariant.0 _ _ _ _ _ (search rules) x.job.varied h (sym e ∙ w.if-d.true) w.drawn-draw.ensures
+        draw-more {v = variables_of x.job.held} c.loop-i.invariant.0 _ _ _ _ _ (search rules) x.job.varied h (sym e ∙ w.if-d.true) w.drawn-draw.ensures
             (w.value.ensures ∙ ap (g.R.Rule.rule w.drawn-draw.result.unit (get_or x.start c.loop-i.q nan)) c.variable_at-d.ensures) w.x-is w.rng-is w.q-is,
         c.loop-i.invariant.1,
         omega (arith, c.loop-i.invariant.2, w.q-is),
       )
       | else-d w ↦ (
-        draw-past {v = variables_of x.job.held.now} c.loop-i.invariant.0 _ _ _ h (sym e ∙ w.if-d.false) w.x-is w.rng-is w.q-is,
+        draw-past {v = variables_of x.job.held} c.loop-i.invariant.0 _ _ _ h (sym e ∙ w.if-d.false) w.x-is w.rng-is w.q-is,
         c.loop-i.invariant.1,
         omega (arith, c.loop-i.invariant.2, w.q-is),
       )
@@ -30,7 +30,7 @@ loop-i-preserved g c =
 pub returns : goal.returns
 returns g c =
     let x = c.args in
-    let h : variable_count_from x.job.held.now.counts ≤ c.loop-i.i = omega (arith, c.loop-i-test.false, c.loop-i.invariant.1) in (
-      drawn-params {v = variables_of x.job.held.now} c.loop-i.invariant.0 (λ (k : ℕ). get_or x.start k nan) (search rules) x.job.varied h (λ k h. refl),
-      drawn-generator {v = variables_of x.job.held.now} c.loop-i.invariant.0 h,
+    let h : variable_count_from x.job.held.counts.now ≤ c.loop-i.i = omega (arith, c.loop-i-test.false, c.loop-i.invariant.1) in (
+      drawn-params {v = variables_of x.job.held} c.loop-i.invariant.0 (λ (k : ℕ). get_or x.start k nan) (search rules) x.job.varied h (λ k h. refl),
+      drawn-generator {v = variables_of x.job.held} c.loop-i.invariant.0 h,
     )

@@ -8,6 +8,6 @@ use Rattle.draws.proofs.Drawing.{Drawing}
 use Rattle.draws.proofs.params.draw_each.Given as goal
 
 abbrev pub invariant-loop-i : goal.invariant-loop-i
-invariant-loop-i g l = Drawing (variables_of l.job.held.now)
+invariant-loop-i g l = Drawing (variables_of l.job.held)
     (λ (d : VariableDef) (k : ℕ) (unit : Float). g.R.Rule.rule unit (get_or l.start k nan) d) l.initial.rng l.initial.x l.x l.rng l.q l.i
-    × (l.count ≡ variable_count_from l.job.held.now.counts) × (l.q ≤ l.i)
+    × (l.count ≡ variable_count_from l.job.held.counts.now) × (l.q ≤ l.i)

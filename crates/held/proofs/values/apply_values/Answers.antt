@@ -27,7 +27,7 @@ loop-i-preserved c =
     let l = c.loop-i in
     let is = c.variable_at-d.ensures in
     let e = ap (λ (d : VariableDef). d.enabled) is in
-    let h : l.i < variable_count_from x.job.held.now.counts = omega (arith, c.loop-i-test.true, l.invariant.1) in
+    let h : l.i < variable_count_from x.job.held.counts.now = omega (arith, c.loop-i-test.true, l.invariant.1) in
     let stored : VariableDef → List OpticalSurface =
     λ d. stored_in (standing l.flat) d (apply_clamp (get_or x.values l.q nan) d.min_value d.max_value) in
     elim c.if-d.branch [
@@ -51,6 +51,6 @@ unfolding applied
 returns-clause-fact_1 c =
     let x = c.args in
     let l = c.loop-i in
-    let v = variables_from x.job.held.now.counts x.job.held.now.numbers in
-    let e : l.i ≡ variable_count_from x.job.held.now.counts = omega (arith, l.invariant.0.passed, l.invariant.1) in
+    let v = variables_from x.job.held.counts.now x.job.held.numbers.now in
+    let e : l.i ≡ variable_count_from x.job.held.counts.now = omega (arith, l.invariant.0.passed, l.invariant.1) in
     l.invariant.0.stored ∙ ap (applied_to v x.values (standing x.flat.now)) (rw e at l.invariant.0.counted)

@@ -7,5 +7,5 @@ use Rattle.held.specs.Standing.{Behind}
 use Rattle.held.proofs.values.apply_values.Given as goal
 
 abbrev pub invariant-loop-i : goal.invariant-loop-i
-invariant-loop-i l = Applying (variables_from l.job.held.now.counts l.job.held.now.numbers) l.values (standing l.initial.flat) (standing l.flat) l.q l.i
-    × (l.count ≡ variable_count_from l.job.held.now.counts) × Behind l.initial.flat l.flat × (l.q ≤ l.i)
+invariant-loop-i l = Applying (variables_from l.job.held.counts.now l.job.held.numbers.now) l.values (standing l.initial.flat) (standing l.flat) l.q l.i
+    × (l.count ≡ variable_count_from l.job.held.counts.now) × Behind l.initial.flat l.flat × (l.q ≤ l.i)

@@ -22,9 +22,9 @@ loop-i-init c = (record { passed = omega arith; counted = refl; stored = refl },
 pub loop-i-preserved : goal.loop-i-preserved
 loop-i-preserved c =
     let x = c.args in
-    let v = variables_from x.job.held.now.counts x.job.held.now.numbers in
+    let v = variables_from x.job.held.counts.now x.job.held.numbers.now in
     let e = ap (λ (d : VariableDef). d.enabled) c.variable_at-d.ensures in
-    let h : c.loop-i.i < variable_count_from x.job.held.now.counts =
+    let h : c.loop-i.i < variable_count_from x.job.held.counts.now =
     omega (arith, c.loop-i-test.true, c.loop-i.invariant.1) in
     let y = ap (λ (d : VariableDef). clamp_of (get_or c.args.values c.loop-i.q nan)
     d.min_value d.max_value) c.variable_at-d.ensures in

@@ -10,6 +10,6 @@ use Rattle.floats.specs.Basic.{clamp_of}
 use Rattle.held.proofs.values.clamp_values.Given as goal
 
 abbrev pub invariant-loop-i : goal.invariant-loop-i
-invariant-loop-i l = Filling (variables_from l.job.held.now.counts l.job.held.now.numbers)
+invariant-loop-i l = Filling (variables_from l.job.held.counts.now l.job.held.numbers.now)
     (λ (d : VariableDef) (k : ℕ). clamp_of (get_or l.values k nan) d.min_value d.max_value) l.initial.x l.x l.q l.i
-    × (l.count ≡ variable_count_from l.job.held.now.counts) × (l.q ≤ l.i)
+    × (l.count ≡ variable_count_from l.job.held.counts.now) × (l.q ≤ l.i)

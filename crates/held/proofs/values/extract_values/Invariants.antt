@@ -9,6 +9,6 @@ use Rattle.held.specs.JobFrom.{standing}
 use Rattle.held.proofs.values.extract_values.Given as goal
 
 abbrev pub invariant-loop-i : goal.invariant-loop-i
-invariant-loop-i l = Filling (variables_from l.job.held.now.counts l.job.held.now.numbers) (λ (d : VariableDef) (k : ℕ). value_of (standing l.flat) d.var_type)
+invariant-loop-i l = Filling (variables_from l.job.held.counts.now l.job.held.numbers.now) (λ (d : VariableDef) (k : ℕ). value_of (standing l.flat) d.var_type)
     l.initial.x l.x l.q l.i
-    × (l.count ≡ variable_count_from l.job.held.now.counts) × (l.q ≤ l.i)
+    × (l.count ≡ variable_count_from l.job.held.counts.now) × (l.q ≤ l.i)

@@ -8,5 +8,5 @@ use Rattle.helddamage.proofs.checks.lens_taken.Goals as goal
 pub indices_taken-requires : goal.indices_taken-requires
 indices_taken-requires c =
     let e = ap length c.indices.ensures ∙ indices-long
-    c.args.job.now.numbers in
+    c.args.job.numbers.now in
     (omega (arith, c.slot_count.ensures), omega (arith, e, c.surface_count-count.ensures))

@@ -19,7 +19,7 @@ loop-n-init c = (c.operand_count-many.ensures, refl)
 pub loop-n-preserved : goal.loop-n-preserved
 loop-n-preserved c =
     let x = c.args in
-    let f = operands_from x.job.now.counts x.job.now.numbers in
+    let f = operands_from x.job.counts.now x.job.numbers.now in
     let v = get_or x.values.now c.loop-n.n nan in
     let is = c.operand_at-o.ensures in (
       c.loop-n.invariant.0,
@@ -31,6 +31,6 @@ pub returns : goal.returns
 unfolding merit_over
 returns c =
     let x = c.args in
-    let f = operands_from x.job.now.counts x.job.now.numbers in
-    let m : c.loop-n.n ≡ operand_count_from x.job.now.counts = omega (arith, c.loop-n.invariant.0) in
+    let f = operands_from x.job.counts.now x.job.numbers.now in
+    let m : c.loop-n.n ≡ operand_count_from x.job.counts.now = omega (arith, c.loop-n.invariant.0) in
     c.counted_total.ensures ∙ ap counted_total (c.loop-n.invariant.1 ∙ ap (terms_over f x.values.now) m)

@@ -5,4 +5,4 @@ use Rattle.heldmerit.specs.Over.{terms_over}
 use Rattle.heldmerit.proofs.evaluation.merit_of.Given as goal
 
 abbrev pub invariant-loop-n : goal.invariant-loop-n
-invariant-loop-n l = (l.many ≡ operand_count_from l.job.counts) × (l.total ≡ terms_over (operands_from l.job.counts l.job.numbers) l.values l.n)
+invariant-loop-n l = (l.many ≡ operand_count_from l.job.counts.now) × (l.total ≡ terms_over (operands_from l.job.counts.now l.job.numbers.now) l.values l.n)

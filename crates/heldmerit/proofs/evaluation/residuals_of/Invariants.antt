@@ -7,5 +7,5 @@ use Rattle.heldmerit.proofs.Over.{Standing}
 use Rattle.heldmerit.proofs.evaluation.residuals_of.Given as goal
 
 abbrev pub invariant-loop-n : goal.invariant-loop-n
-invariant-loop-n l = (l.many ≡ operand_count_from l.job.counts)
-    × Standing (residual_over (operands_from l.job.counts l.job.numbers) l.values) l.n l.residuals × RootKnown l.known
+invariant-loop-n l = (l.many ≡ operand_count_from l.job.counts.now)
+    × Standing (residual_over (operands_from l.job.counts.now l.job.numbers.now) l.values) l.n l.residuals × RootKnown l.known

@@ -12,8 +12,8 @@ use Rattle.heldmerit.proofs.Over.{Standing}
 use Rattle.heldmerit.proofs.evaluation.values_of.Given as goal
 
 abbrev pub invariant-loop-n : goal.invariant-loop-n
-invariant-loop-n l = Standing (value_at (flat_surface l.flat) (slot_index (indices_from l.job.numbers)) (pupil_from l.job.numbers)
-    (surface_count_from l.job.counts) (operands_from l.job.counts l.job.numbers)) l.n l.values
-    × (l.many ≡ operand_count_from l.job.counts) × (l.count ≡ surface_count_from l.job.counts)
+invariant-loop-n l = Standing (value_at (flat_surface l.flat) (slot_index (indices_from l.job.numbers.now)) (pupil_from l.job.numbers.now)
+    (surface_count_from l.job.counts.now) (operands_from l.job.counts.now l.job.numbers.now)) l.n l.values
+    × (l.many ≡ operand_count_from l.job.counts.now) × (l.count ≡ surface_count_from l.job.counts.now)
     × ((w : ℕ) → w < 4 → get_or l.slots w None
-    ≡ paraxial_of (flat_surface l.flat) (slot_index (indices_from l.job.numbers) w) (pupil_from l.job.numbers) (surface_count_from l.job.counts))
+    ≡ paraxial_of (flat_surface l.flat) (slot_index (indices_from l.job.numbers.now) w) (pupil_from l.job.numbers.now) (surface_count_from l.job.counts.now))

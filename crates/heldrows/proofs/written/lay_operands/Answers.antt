@@ -29,20 +29,20 @@ loop-n-preserved c =
           (λ (k : ℕ). operand_counts (get_or c.args.records
           k no_operand_record)) l.n (operand_kind_at l.n) (operand_kind_at (l.n + 1)) l.job.counts
           (take (operand_kind_at 0) c.args.job.now.counts)
-          l.invariant.2 (omega arith) (omega (arith, l.invariant.0, c.lengths.ensures.0)),
+          l.invariant.2 (omega arith) (omega (arith, l.invariant.0, c.lent.ensures.long.0)),
       ap (take (limit_at (l.n + 1))) e.1
           ∙ turn_more
           (λ (k : ℕ). operand_numbers (get_or c.args.records
           k no_operand_record)) l.n (limit_at l.n) (limit_at (l.n + 1)) l.job.numbers
           (take (limit_at 0) c.args.job.now.numbers) l.invariant.3
-          (omega arith) (omega (arith, l.invariant.1, c.lengths.ensures.1)),
+          (omega arith) (omega (arith, l.invariant.1, c.lent.ensures.long.1)),
     )
 
 pub returns : goal.returns
 returns c =
     let e : c.loop-n.n ≡ 12 = omega arith in (
-      sym (take_all 73 c.loop-n.job.counts (omega (arith, c.loop-n.invariant.0, c.lengths.ensures.0)))
+      sym (take_all 73 c.loop-n.job.counts (omega (arith, c.loop-n.invariant.0, c.lent.ensures.long.0)))
           ∙ rw e at c.loop-n.invariant.2,
-      sym (take_all 195 c.loop-n.job.numbers (omega (arith, c.loop-n.invariant.1, c.lengths.ensures.1)))
+      sym (take_all 195 c.loop-n.job.numbers (omega (arith, c.loop-n.invariant.1, c.lent.ensures.long.1)))
           ∙ rw e at c.loop-n.invariant.3,
     )

@@ -29,12 +29,12 @@ loop-i-preserved c =
           (λ (k : ℕ). variable_counts (get_or c.args.records
           k no_variable_record)) l.i (variable_kind_at l.i) (variable_kind_at (l.i + 1)) l.job.counts
           (take (variable_kind_at 0) c.args.job.now.counts)
-          l.invariant.2 (omega arith) (omega (arith, l.invariant.0, c.lengths.ensures.0)),
+          l.invariant.2 (omega arith) (omega (arith, l.invariant.0, c.lent.ensures.long.0)),
       ap (take (min_value_at (l.i + 1))) e.1 ∙ turn_more
           (λ (k : ℕ). variable_numbers (get_or c.args.records
           k no_variable_record)) l.i (min_value_at l.i) (min_value_at (l.i + 1)) l.job.numbers
           (take (min_value_at 0) c.args.job.now.numbers)
-          l.invariant.3 (omega arith) (omega (arith, l.invariant.1, c.lengths.ensures.1)),
+          l.invariant.3 (omega arith) (omega (arith, l.invariant.1, c.lent.ensures.long.1)),
     )
 
 pub returns : goal.returns

@@ -7,4 +7,4 @@ use Rattle.rows.proofs.fetch.is_damaged.Goals as goal
 pub returns-then-kind-ne0 : goal.returns-then-kind-ne0
 returns-then-kind-ne0 c =
     let h = c.args.row.now in
-    rw (ne_eqb (kind_from h.head.words) 0 (λ z. c.if-kind-ne0.true (c.kind.ensures ∙ z))) c.is_damaged.ensures
+    rw (ne_eqb (kind_from h.head.words) 0 (λ z. c.if-kind-ne0.true (c.kind.ensures ∙ z))) c.row_damaged.ensures

@@ -1,21 +1,23 @@
 -- `rows::results::polished` meets its contract. Assumes nothing.
 use Prim.Native.Nat.{◌≤◌}
+use mathlib.Core.Path.{ap, ◌∙◌}
 use native.Mathlib.Nat.{mul-le-mul}
 use native.Mathlib.Omega.{arith}
+use Rattle.held.specs.JobFrom.{steps_per_temperature_from, max_cooling_cycles_from}
 use Rattle.rows.proofs.results.polished.Goals as goal
 
 pub overflow_mul-steps : goal.overflow_mul-steps
 overflow_mul-steps c =
     let pre = c.requires in
-    let cycles : c.max_cooling_cycles.result ≤ 1000 = omega (arith, c.max_cooling_cycles.ensures, pre.0) in
-    let steps : c.steps_per_temperature.result ≤ 1000 = omega (arith, c.steps_per_temperature.ensures, pre.1) in
+    let cycles : c.max_cooling_cycles.result ≤ 1000 = omega (arith, c.max_cooling_cycles.ensures ∙ ap max_cooling_cycles_from c.lent-job.ensures.counts, pre.0) in
+    let steps : c.steps_per_temperature.result ≤ 1000 = omega (arith, c.steps_per_temperature.ensures ∙ ap steps_per_temperature_from c.lent-job.ensures.counts, pre.1) in
     omega (arith, mul-le-mul cycles steps)
 
 pub overflow_add-result : goal.overflow_add-result
 overflow_add-result c =
     let pre = c.requires in
-    let cycles : c.max_cooling_cycles.result ≤ 1000 = omega (arith, c.max_cooling_cycles.ensures, pre.0) in
-    let steps : c.steps_per_temperature.result ≤ 1000 = omega (arith, c.steps_per_temperature.ensures, pre.1) in
+    let cycles : c.max_cooling_cycles.result ≤ 1000 = omega (arith, c.max_cooling_cycles.ensures ∙ ap max_cooling_cycles_from c.lent-job.ensures.counts, pre.0) in
+    let steps : c.steps_per_temperature.result ≤ 1000 = omega (arith, c.steps_per_temperature.ensures ∙ ap steps_per_temperature_from c.lent-job.ensures.counts, pre.1) in
     omega (arith, mul-le-mul cycles steps, pre.2)
 
 pub returns : goal.returns
@@ -25,4 +27,5 @@ returns c =
       c.damped_result-result.ensures,
       c.max_cooling_cycles.ensures,
       c.steps_per_temperature.ensures,
+      c.lent-job.ensures.counts,
     )

@@ -12,5 +12,5 @@ returns c = λ kind.
     let laid =
     rw c.surface_count.ensures at
     c.lay_flat.ensures in
-    merit-held _ _ _ c.merit_of.ensures kind x.lens (c.values_of-found.ensures kind x.lens (drop (4 * surface_count_from x.job.now.counts)
+    merit-held _ _ _ c.merit_of.ensures kind x.lens (c.values_of-found.ensures kind x.lens (drop (4 * surface_count_from x.job.counts.now)
     (replicate 64 zero64)) laid)

@@ -1,11 +1,12 @@
 -- `rowturns::pending::pending_of` meets its contract. Assumes nothing.
-use mathlib.Core.Path.{◌≡◌, ap, ◌∙◌}
+use mathlib.Core.Path.{◌≡◌, ◌∙◌}
+use mathlib.Core.List.{List}
 use Prim.Native.Nat.{ℕ}
+use lib.Ieee.{Float}
 use native.Mathlib.Omega.{arith}
 use Rattle.normal.specs.Layout.{scratch_length}
 use Rattle.jobs.specs.declared.types.Job.{Job}
 use Rattle.jobs.specs.Passed.{passed}
-use Rattle.runs.specs.Run.{Surfaces}
 use Rattle.runs.specs.Rows.{job_of_row, pending_by, pending_surfaces}
 use Rattle.runs.specs.JobMerit.{evaluate_of}
 use Rattle.held.specs.JobFrom.{held_job}
@@ -37,7 +38,8 @@ pub pending_surfaces-requires : goal.pending_surfaces-requires
 pending_surfaces-requires c =
     let r = row_from c.args.row.now in
     let t = turnable _ scratch_length r c.in_ok-turn_refusal.ensures (omega arith) in
-    record { fact_1 = rw c.numbers.ensures (column-below r t.sound); fact_2 = search rules }
+    let e = c.lent-job.ensures in
+    record { fact_1 = rw (c.numbers.ensures, e.counts, e.numbers) (column-below r t.sound); fact_2 = search rules }
 
 pub stand-surfaces-requires : goal.stand-surfaces-requires
 stand-surfaces-requires c = omega (arith, c.pending_surfaces.ensures.fact_2.long)
@@ -47,16 +49,20 @@ merit_at-requires c =
     let r = row_from c.args.row.now in
     let t = turnable _ scratch_length r c.in_ok-turn_refusal.ensures (omega arith) in
     let n = (passed (job_of_row r) (job-taken r t.sound)).counted in
-    record { fact_1 = n.surfaces; fact_2 = n.operands; fact_3 = operands-known (job_of_row r) (job-taken r t.sound) }
+    let e = c.lent-job.ensures in
+    rw (e.counts, e.numbers) (record { fact_1 = n.surfaces; fact_2 = n.operands; fact_3 = operands-known (job_of_row r) (job-taken r t.sound) })
 
 pub returns : goal.returns
 unfolding pending_of pending_surfaces
 returns c =
     let h = c.args.row.now in
     let r = row_from h in
-    let job : ℕ → Job = λ kind. held_job h.job.counts h.job.numbers kind in
+    let e = c.lent-job.ensures in
+    let job : (counts : List ℕ) (numbers : List Float) (kind : ℕ) → Job = held_job in
     let pending : c.stand-surfaces.result ≡ pending_surfaces r =
-    c.stand-surfaces.ensures ∙ c.pending_surfaces.ensures.fact_1 h.best
-    ∙ (λ i. pending_by (job (c.kind-kind.ensures i)).method (job (c.kind-kind.ensures i)) (state_from (c.numbers.ensures i) h.run h.best)) in
-    let merit = c.merit_at.ensures (kind_from h.head.words) ∙ ap (λ (s : Surfaces). (evaluate_of (job_of_row r) s).total_merit) pending in
+    c.stand-surfaces.ensures ∙ c.pending_surfaces.ensures.fact_1 h.run h.best
+    ∙ (λ i. pending_by (job (e.counts i) (e.numbers i) (c.kind-kind.ensures i)).method (job (e.counts i) (e.numbers i) (c.kind-kind.ensures i))
+    (state_from (c.numbers.ensures i) h.run h.best)) in
+    let merit = c.merit_at.ensures (kind_from h.head.words)
+    ∙ (λ i. (evaluate_of (job (e.counts i) (e.numbers i) (kind_from h.head.words)) (pending i)).total_merit) in
     value-given (turn_row_number scratch_length r) (next_of r) _ c.in_ok-turn_refusal.ensures (λ i. record { surfaces = pending i; merit = merit i })

@@ -41,11 +41,12 @@ pub turned-next-requires : goal.turned-next-requires
 turned-next-requires c =
     let x = c.args in
     let r = row_from x.row.now in
+    let e = c.lent.ensures in
     let t = turnable _ (length x.scratch.now) r c.in_ok-turn_refusal.ensures (omega arith) in
     record {
       fact_1 = t.long;
-      fact_2 = ap (λ (k : ℕ). job_taken (held_job x.row.now.job.counts x.row.now.job.numbers k)) c.kind-kind.ensures ∙ job-taken r t.sound;
-      fact_3 = rw c.numbers.ensures (column-below r t.sound);
+      fact_2 = (λ i. job_taken (held_job (e.counts i) (e.numbers i) (c.kind-kind.ensures i))) ∙ job-taken r t.sound;
+      fact_3 = rw (c.numbers.ensures, e.counts, e.numbers) (column-below r t.sound);
     }
 
 pub zero_first-requires : goal.zero_first-requires
@@ -68,7 +69,7 @@ returns c =
           (ap (λ (s : State). row_of j c.kind-kind.result (c.turns-turns.result + 1) s) t.fact_1
           ∙ (λ i. row_of j (c.kind-kind.ensures i)
           ((ap (λ (m : ℕ). m + 1) c.turns-turns.ensures ∙ add-one (turns_from h.head.words)) i)
-          (turned_by (held_job h.job.counts h.job.numbers (c.kind-kind.ensures i)) (state_from (c.numbers.ensures i) h.run h.best)))
+          (turned_by (held_job (c.lent.ensures.counts i) (c.lent.ensures.numbers i) (c.kind-kind.ensures i)) (state_from (c.numbers.ensures i) h.run h.best)))
           ∙ made_by _ n e (Turn.turned r) r (omega arith)),
       c.zero_first.ensures ∙ (λ i. replicate scratch_length zero64 ++ t.fact_2.rest i) ∙ made_by _ n e (cleared l) l (omega arith),
     )

@@ -43,9 +43,9 @@ unfolding Annealing.advance_at
 returns-in_default-clause-fact_1 c = λ k lens w.
     let x = c.args in
     let s = state_from x.h x.run.now x.best.now in
-    let e = evaluate_of (held_job x.job.held.now.counts x.job.held.now.numbers k) lens in
+    let e = evaluate_of (held_job x.job.held.counts.now x.job.held.numbers.now k) lens in
     in-phase _ s e (polish-phase x.h.damped.phase (λ e. omega arith) (λ e. omega arith))
     (c.advance_part.ensures.fact_1 k lens w x.best.now
     ∙ ap (λ (l : DlsConfig). with_damped s (Damped.advance
-    (optimizer l (variables_from x.job.held.now.counts x.job.held.now.numbers) (operand_count_from x.job.held.now.counts)) s.damped e))
+    (optimizer l (variables_from x.job.held.counts.now x.job.held.numbers.now) (operand_count_from x.job.held.counts.now)) s.damped e))
     c.polish_settings.ensures)

@@ -23,21 +23,21 @@ unfolding advance_by
 returns-in-1-clause-fact_1 c = λ k lens w.
     let x = c.args in
     let s = state_from x.h x.run.now x.best.now in
-    let e = evaluate_of (held_job x.job.held.now.counts x.job.held.now.numbers k) lens in
-    by_method _ s e (is-damped x.kind (settings_from x.job.held.now.counts x.job.held.now.numbers) c.in-1.is)
+    let e = evaluate_of (held_job x.job.held.counts.now x.job.held.numbers.now k) lens in
+    by_method _ s e (is-damped x.kind (settings_from x.job.held.counts.now x.job.held.numbers.now) c.in-1.is)
     (c.advance_part.ensures.fact_1 k lens w x.best.now
     ∙ ap (λ (l : DlsConfig). with_damped s (Damped.advance
-    (optimizer l (variables_from x.job.held.now.counts x.job.held.now.numbers) (operand_count_from x.job.held.now.counts)) s.damped e)) c.dls_config.ensures)
+    (optimizer l (variables_from x.job.held.counts.now x.job.held.numbers.now) (operand_count_from x.job.held.counts.now)) s.damped e)) c.dls_config.ensures)
 
 pub returns-in-2-clause-fact_1 : goal.returns-in-2-clause-fact_1
 unfolding advance_by
 returns-in-2-clause-fact_1 c = λ k lens w.
     let x = c.args in
-    by_method _ _ _ (is-multi-start x.kind (settings_from x.job.held.now.counts x.job.held.now.numbers) c.in-2.is) (c.advance_trials.ensures.fact_1 k lens w)
+    by_method _ _ _ (is-multi-start x.kind (settings_from x.job.held.counts.now x.job.held.numbers.now) c.in-2.is) (c.advance_trials.ensures.fact_1 k lens w)
 
 pub returns-in_default-clause-fact_1 : goal.returns-in_default-clause-fact_1
 unfolding advance_by
 returns-in_default-clause-fact_1 c = λ k lens w.
     let x = c.args in
-    by_method _ _ _ (is-annealing x.kind (settings_from x.job.held.now.counts x.job.held.now.numbers) (λ e. omega arith) (λ e. omega arith))
+    by_method _ _ _ (is-annealing x.kind (settings_from x.job.held.counts.now x.job.held.numbers.now) (λ e. omega arith) (λ e. omega arith))
     (c.advance_annealing.ensures.fact_1 k lens w)

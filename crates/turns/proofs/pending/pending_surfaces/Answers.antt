@@ -11,6 +11,7 @@ use Prim.Native.Nat.{ℕ, ◌≤◌}
 use Rattle.runs.specs.JobRun.{annealer_of, optimizer_of}
 use Rattle.runs.specs.Rows.{pending_by}
 use Rattle.dls.specs.DampedSteps.{optimizer}
+use Rattle.dls.specs.RunWith.{run_with}
 use Rattle.kinds.specs.Methods.{is-damped, is-multi-start, is-annealing}
 use Rattle.held.specs.JobFrom.{operand_count_from, settings_from, variables_from, held_job}
 use Rattle.held.specs.RowFrom.{damped_from, state_from}
@@ -27,21 +28,23 @@ damped-or-trial kind s job st lo hi = elim (eq-or-lt_of_le lo) [
 ]
 
 pub returns-in-1-clause-fact_1 : goal.returns-in-1-clause-fact_1
-returns-in-1-clause-fact_1 c = λ best.
+returns-in-1-clause-fact_1 c = λ run best.
     let x = c.args in
+    let r = run_with x.surfaces.now x.params.now x.candidate.now run in
     let lo : 1 ≤ x.kind = omega arith in
     let hi : x.kind ≤ 2 = omega arith in
-    c.pending_damped.ensures.fact_1 (operand_count_from x.job.held.now.counts)
-    ∙ ap (λ (k : DlsConfig). Damped.pending (optimizer k (variables_from x.job.held.now.counts x.job.held.now.numbers)
-    (operand_count_from x.job.held.now.counts))
-    (damped_from x.h.damped x.run.now)) c.dls_config.ensures
-    ∙ damped-or-trial x.kind (settings_from x.job.held.now.counts x.job.held.now.numbers) _ (state_from x.h x.run.now best) lo hi
+    c.pending_damped.ensures.fact_1 (operand_count_from x.job.held.counts.now) run
+    ∙ ap (λ (k : DlsConfig). Damped.pending (optimizer k (variables_from x.job.held.counts.now x.job.held.numbers.now)
+    (operand_count_from x.job.held.counts.now))
+    (damped_from x.h.damped r)) c.dls_config-config.ensures
+    ∙ damped-or-trial x.kind (settings_from x.job.held.counts.now x.job.held.numbers.now) _ (state_from x.h r best) lo hi
 
 pub returns-in_default-clause-fact_1 : goal.returns-in_default-clause-fact_1
 unfolding pending_by
-returns-in_default-clause-fact_1 c = λ best.
+returns-in_default-clause-fact_1 c = λ run best.
     let x = c.args in
-    let job = held_job x.job.held.now.counts x.job.held.now.numbers x.kind in
-    let settings = settings_from x.job.held.now.counts x.job.held.now.numbers in
-    c.pending_annealing.ensures.fact_1 (annealer_of job (annealing_config settings)) refl best
-    ∙ ap (λ (m : Method). pending_by m job (state_from x.h x.run.now best)) (sym (is-annealing x.kind settings (λ e. omega arith) (λ e. omega arith)))
+    let r = run_with x.surfaces.now x.params.now x.candidate.now run in
+    let job = held_job x.job.held.counts.now x.job.held.numbers.now x.kind in
+    let settings = settings_from x.job.held.counts.now x.job.held.numbers.now in
+    c.pending_annealing.ensures.fact_1 (annealer_of job (annealing_config settings)) refl run best
+    ∙ ap (λ (m : Method). pending_by m job (state_from x.h r best)) (sym (is-annealing x.kind settings (λ e. omega arith) (λ e. omega arith)))

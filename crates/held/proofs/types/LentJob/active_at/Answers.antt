@@ -1,4 +1,4 @@
--- `held::types::HeldJob::active_at` meets its contract: the loop's invariant: p of the variables passed are enabled, and p is at most q. Assumes nothing.
+-- `held::types::LentJob::active_at` meets its contract: the loop's invariant: p of the variables passed are enabled, and p is at most q. Assumes nothing.
 use Prim.Native.Nat.{ℕ, ◌+◌, ◌≤◌}
 use mathlib.Core.Path.{◌≡◌, refl, sym, ap, ◌∙◌}
 use native.Mathlib.Omega.{arith}
@@ -12,8 +12,8 @@ use lib.ListN.{get_or-eq_default}
 use Rattle.floats.specs.Constants.{no_number}
 use Rattle.variables.specs.Active.{no_variable, active, num_active}
 use Rattle.variables.proofs.ActiveLaws.{active-here}
-use Rattle.held.proofs.types.HeldJob.active_at.Goals as goal
-use Rattle.held.proofs.types.HeldJob.active_at.Goals.{then-d+else-p-q, else-d}
+use Rattle.held.proofs.types.LentJob.active_at.Goals as goal
+use Rattle.held.proofs.types.LentJob.active_at.Goals.{then-d+else-p-q, else-d}
 
 higher : (p q p' : ℕ) → p ≤ q → (p ≡ q → ⊥) → p' ≡ p + 1 → p' ≤ q
 higher p q p' h n e = elim (eq-or-lt_of_le h) [
@@ -28,7 +28,7 @@ loop-i-init c = (c.variable_count-count.ensures, refl, omega arith)
 pub returns-then-p-q : goal.returns-then-p-q
 returns-then-p-q c =
     let x = c.args in
-    let v = variables_from x.self.now.counts x.self.now.numbers in
+    let v = variables_from x.self.counts.now x.self.numbers.now in
     let e = ap (λ (d : VariableDef). d.enabled) c.variable_at-d.ensures in
     c.variable_at-d.ensures ∙ sym (active-here v c.loop-i.i x.q (omega (
       arith,
@@ -39,7 +39,7 @@ returns-then-p-q c =
 pub loop-i-preserved : goal.loop-i-preserved
 loop-i-preserved c =
     let x = c.args in
-    let v = variables_from x.self.now.counts x.self.now.numbers in
+    let v = variables_from x.self.counts.now x.self.numbers.now in
     let e = ap (λ (d : VariableDef). d.enabled) c.variable_at-d.ensures in
     elim c.if-d.branch [
       | then-d+else-p-q w ↦ (
@@ -57,7 +57,7 @@ loop-i-preserved c =
 pub returns : goal.returns
 returns c =
     let x = c.args in
-    let v = variables_from x.self.now.counts x.self.now.numbers in
-    let e : c.loop-i.i ≡ variable_count_from x.self.now.counts = omega (arith, c.loop-i.invariant.0) in
+    let v = variables_from x.self.counts.now x.self.numbers.now in
+    let e : c.loop-i.i ≡ variable_count_from x.self.counts.now = omega (arith, c.loop-i.invariant.0) in
     let p : c.loop-i.p ≡ num_active v = rw e at c.loop-i.invariant.1 in
     simp no_number (sym (get_or-eq_default (active v) no_variable {n = x.q} (omega (arith, p, c.loop-i.invariant.2))))
