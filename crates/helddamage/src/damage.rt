@@ -50,13 +50,7 @@ fn counters_sound(words: &[u64; 13], job: LentJob, p: usize) -> bool
 
 // Phase, surfaces and counters; p variables are enabled.
 #[tactic(auto, unfolding(runs::specs::Damage::state_sound))]
-fn state_sound(
-    words: &[u64; 13],
-    job: LentJob,
-    p: usize,
-    surfaces: &[f64],
-    best: &[f64],
-) -> bool
+fn state_sound(words: &[u64; 13], job: LentJob, p: usize, surfaces: &[f64], best: &[f64]) -> bool
     requires { (surface_count_from job.counts.now ≤ 16) × (64 ≤ length surfaces.now) × (64 ≤ length best.now) }
     ensures { (o : Others) → p ≡ num_active (variables_of job.entry)
         → result ≡ state_sound (method (kind_from words.now) (settings_of job.entry)) (job_of job.entry (kind_from words.now))
@@ -69,12 +63,7 @@ fn state_sound(
 
 // Whether the row is damaged, whatever the arrays are that it is not lent.
 #[tactic(auto, unfolding(runs::specs::Damage::damaged, runs::specs::Damage::job_sound, runs::specs::Damage::turns_sound, runs::specs::Rows::is_finished))]
-pub fn is_damaged(
-    words: &[u64; 13],
-    job: LentJob,
-    surfaces: &[f64],
-    best_surfaces: &[f64],
-) -> bool
+pub fn is_damaged(words: &[u64; 13], job: LentJob, surfaces: &[f64], best_surfaces: &[f64]) -> bool
     requires { (64 ≤ length surfaces.now) × (64 ≤ length best_surfaces.now) }
     ensures { (o : Others)
         → result ≡ damaged (row_from (held_with words.now job.entry.counts.now job.entry.numbers.now surfaces.now best_surfaces.now o)) }

@@ -28,11 +28,11 @@ returns-in_err-turn_refusal c =
     let p = err_from_is_err_and c.from_residual.result c.from_residual.ensures.1 in
     rw (p.1, p.2) (value-refused _ (turn_row_number scratch_length r) (next_of r) c.in_err-turn_refusal.ensures)
 
-pub invariant_of-job : goal.invariant_of-job
-invariant_of-job c =
+pub invariant_of-pending_surfaces : goal.invariant_of-pending_surfaces
+invariant_of-pending_surfaces c =
     let r = row_from c.args.row.now in
     let t = turnable _ scratch_length r c.in_ok-turn_refusal.ensures (omega arith) in
-    record { varied = (passed (job_of_row r) (job-taken r t.sound)).counted.variables }
+    rw c.lent-job.ensures.counts (record { varied = (passed (job_of_row r) (job-taken r t.sound)).counted.variables })
 
 pub pending_surfaces-requires : goal.pending_surfaces-requires
 pending_surfaces-requires c =
