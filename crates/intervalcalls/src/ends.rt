@@ -11,7 +11,6 @@ pub(crate) fn exact(x: f64) -> Interval
 }
 
 // The first is kept on ties.
-#[tactic(auto, unfolding(intervals::specs::Interval::lesser))]
 fn lesser_of(a: f64, b: f64) -> f64
     ensures { result ≡ lesser a b }
 {
