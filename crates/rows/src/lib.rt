@@ -11,5 +11,5 @@ mod zeros;
 
 pub use calls::{admit_refusal, admit_row, release_row};
 pub use fetch::{fetch_row, is_damaged, is_listed};
-pub use numbers::turn_refusal;
+pub use numbers::{turn_refusal, turn_refusal_over};
 pub use zeros::{zero_result, zero_row, zero_surfaces};

@@ -1,33 +1,14 @@
--- `rows::numbers::turn_refusal` meets its contract: one after the other. Assumes nothing.
-use native.Mathlib.Omega.{arith}
-use mathlib.Core.Path.{◌≡◌, refl}
-use mathlib.Core.Bool.{false}
-use Rattle.std.proofs.Common.{rules}
-use Rattle.bench.specs.Refusals.{scratch_short}
-use Rattle.std.proofs.lemmas.Result.{err_from_is_err_and}
-use Rattle.runs.specs.Damage.{damaged}
-use Rattle.bench.specs.Calls.{is_vacant}
+-- `rows::numbers::turn_refusal` meets its contract: the arrays that the test is not lent are the row's. Assumes nothing.
+use mathlib.Core.Path.{◌∙◌}
 use Rattle.held.specs.RowFrom.{row_from}
+use Rattle.helddamage.specs.Others.{held_with}
 use Rattle.rows.specs.Calls.{turn_row_number}
-use Rattle.rows.proofs.Refused.{first_two, neither, finished-is, above-zero, thirteen}
+use Rattle.rows.specs.Others.{others_of}
 use Rattle.rows.proofs.numbers.turn_refusal.Goals as goal
 
-pub returns-in_err-usable_refusal : goal.returns-in_err-usable_refusal
-unfolding turn_row_number
-returns-in_err-usable_refusal c =
-    let x = c.args in
-    let r = row_from x.row.now in
-    let q = c.from_residual-in_err-usable_refusal in
-    let p = err_from_is_err_and q.result q.ensures.1 in
-    let long : scratch_short x.room ≡ false = search rules in
-    rw (p.1, p.2, long) (first_two (is_vacant r) (damaged r) _ _ (c.in_err-usable_refusal.ensures) (above-zero _))
-
 pub returns : goal.returns
-unfolding turn_row_number
 returns c =
-    let x = c.args in
-    let r = row_from x.row.now in
-    let h = neither (is_vacant r) (damaged r) _ (c.in_ok-usable_refusal.ensures) (omega arith) in
-    let over = finished-is r c.is_over.ensures c.kind.ensures c.phase.ensures refl in
-    let long : scratch_short x.room ≡ false = search rules in
-    rw (c.unless-2.ensures, long, h.0, h.1, over) (thirteen c.is_over.result)
+    let h = c.args.row.now in
+    let e = c.lent.ensures in
+    c.turn_refusal_over.ensures (others_of h)
+    ∙ (λ i. turn_row_number c.args.room (row_from (held_with h.head.words (e.counts i) (e.numbers i) h.run.surfaces h.best.surfaces (others_of h))))
