@@ -7,7 +7,11 @@ ghost use Rattle.streams.specs.Parts.{index_of, slice};
 fn place_in(part: &[u8], byte: u8) -> Option<usize>
     ensures { result ≡ position (λ x. x == byte) part.now }
 {
-    part.iter().position(|b| *b == byte)
+    part.iter().position(
+        |b: &u8| -> bool
+            ensures { result ≡ (b.now == byte) }
+        { *b == byte },
+    )
 }
 
 // The same, or how long the part is.
