@@ -55,6 +55,7 @@ fn lay_variables(records: [VariableRecord; 8], job: &mut HeldJob)
         × (take (limit_at 0) job.new.numbers ≡ take (min_value_at 0) job.old.numbers ++ in_turn
         (λ (i : ℕ). variable_numbers (get_or records i no_variable_record)) 8) }
 {
+    // For the lengths of its arrays.
     job.lent();
     for (i, record) in records.iter().enumerate() {
         lay_variable(*record, i, job);
@@ -66,6 +67,7 @@ fn lay_operands(records: [OperandRecord; 12], job: &mut HeldJob)
     ensures { (job.new.counts ≡ take (operand_kind_at 0) job.old.counts ++ in_turn (λ (n : ℕ). operand_counts (get_or records n no_operand_record)) 12)
         × (job.new.numbers ≡ take (limit_at 0) job.old.numbers ++ in_turn (λ (n : ℕ). operand_numbers (get_or records n no_operand_record)) 12) }
 {
+    // For the lengths of its arrays.
     job.lent();
     for (n, record) in records.iter().enumerate() {
         lay_operand(*record, n, job);

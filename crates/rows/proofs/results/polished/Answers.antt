@@ -9,15 +9,17 @@ use Rattle.rows.proofs.results.polished.Goals as goal
 pub overflow_mul-steps : goal.overflow_mul-steps
 overflow_mul-steps c =
     let pre = c.requires in
-    let cycles : c.max_cooling_cycles.result ≤ 1000 = omega (arith, c.max_cooling_cycles.ensures ∙ ap max_cooling_cycles_from c.lent-job.ensures.counts, pre.0) in
-    let steps : c.steps_per_temperature.result ≤ 1000 = omega (arith, c.steps_per_temperature.ensures ∙ ap steps_per_temperature_from c.lent-job.ensures.counts, pre.1) in
+    let same = c.lent-job.ensures.counts in
+    let cycles : c.max_cooling_cycles.result ≤ 1000 = omega (arith, c.max_cooling_cycles.ensures ∙ ap max_cooling_cycles_from same, pre.0) in
+    let steps : c.steps_per_temperature.result ≤ 1000 = omega (arith, c.steps_per_temperature.ensures ∙ ap steps_per_temperature_from same, pre.1) in
     omega (arith, mul-le-mul cycles steps)
 
 pub overflow_add-result : goal.overflow_add-result
 overflow_add-result c =
     let pre = c.requires in
-    let cycles : c.max_cooling_cycles.result ≤ 1000 = omega (arith, c.max_cooling_cycles.ensures ∙ ap max_cooling_cycles_from c.lent-job.ensures.counts, pre.0) in
-    let steps : c.steps_per_temperature.result ≤ 1000 = omega (arith, c.steps_per_temperature.ensures ∙ ap steps_per_temperature_from c.lent-job.ensures.counts, pre.1) in
+    let same = c.lent-job.ensures.counts in
+    let cycles : c.max_cooling_cycles.result ≤ 1000 = omega (arith, c.max_cooling_cycles.ensures ∙ ap max_cooling_cycles_from same, pre.0) in
+    let steps : c.steps_per_temperature.result ≤ 1000 = omega (arith, c.steps_per_temperature.ensures ∙ ap steps_per_temperature_from same, pre.1) in
     omega (arith, mul-le-mul cycles steps, pre.2)
 
 pub returns : goal.returns
