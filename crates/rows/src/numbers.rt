@@ -22,7 +22,12 @@ pub(crate) fn row_damaged(row: &HeldRow) -> bool
 }
 
 // 11 and 12, whatever the arrays are that it is not lent.
-fn usable_over(words: &[u64; 13], job: LentJob, surfaces: &[f64; 64], best_surfaces: &[f64; 64]) -> Result<(), Refusal>
+fn usable_over(
+    words: &[u64; 13],
+    job: LentJob,
+    surfaces: &[f64; 64],
+    best_surfaces: &[f64; 64],
+) -> Result<(), Refusal>
     ensures { (o : Others) → answered result
         ≡ usable_number (row_from (held_with words.now job.entry.counts.now job.entry.numbers.now surfaces.now best_surfaces.now o)) }
 {
