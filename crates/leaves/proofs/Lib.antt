@@ -1,0 +1,2 @@
+-- Laws that proofs of several functions cite.
+pub mod Past
