@@ -33,12 +33,7 @@ impl Program for Played {
 
     ghost sums = { λ p o n. n ≡ o };
 
-    fn answer(
-        &mut self,
-        output: &mut Output,
-        line: &[u8],
-        _number: u64,
-    ) -> Result<(), Wrong> {
+    fn answer(&mut self, output: &mut Output, line: &[u8], _number: u64) -> Result<(), Wrong> {
         let call = Call::read(&mut Reader::new(line))?;
         answer::answer(output, &mut self.bench, call);
         Ok(())

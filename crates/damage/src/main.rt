@@ -53,12 +53,7 @@ impl Program for Examined {
     ghost sums = { λ p. Adds [] };
 
     // Nothing is put. A job that is refused is counted, and leaves no rows.
-    fn answer(
-        &mut self,
-        output: &mut Output,
-        line: &[u8],
-        _number: u64,
-    ) -> Result<(), Wrong> {
+    fn answer(&mut self, output: &mut Output, line: &[u8], _number: u64) -> Result<(), Wrong> {
         let request = read_whole(line)?;
         let mut bench = benchcalls::empty_bench();
         match benchcalls::admit(&mut bench, 0, request) {

@@ -29,7 +29,12 @@ one_row k p n =
     let one = suc-mul k p in
     omega (arith, one)
 
-module _ (line : List ℕ) (all : Result (Field (Unit {0})) Wrong) {at : ℕ} where
+pub one_column : (k m : ℕ) → suc k * m ≡ m + k * m
+one_column k m =
+    let one = suc-mul k m in
+    omega (arith, one)
+
+module _ (line : List ℕ) (all : Result (Field (Unit {0})) Wrong) (at : ℕ) where
   -- of m + n floats that are left, m are read; and nothing is left
   pub part : {to : ℕ} (m n : ℕ) → all ≡ past_floats (m + n) line at → came (Ok tt) to ≡ past_floats m line at → all ≡ past_floats n line to
   part m n r e = r ∙ past_sum m n line at ∙ simp (sym e)

@@ -1,5 +1,5 @@
 -- The lines of the program. Definitions only.
-use Rattle.std.specs.Prelude.{◌≡◌, ℕ, ◌+◌, ◌*◌, Bool, cond, List, [], ◌∷◌, Float, Result, Ok, Err}
+use Rattle.std.specs.Prelude.{◌≡◌, ℕ, ◌+◌, ◌*◌, ◌≤◌, cond, List, [], ◌∷◌, ◌++◌, length, Result, Ok, Err}
 use Rattle.std.specs.Float.Ieee.{le}
 use Rattle.text.specs.declared.reader.Reader.{Reader}
 use Rattle.text.specs.declared.reader.Why.TheVariants.{Range}
@@ -8,7 +8,8 @@ use Rattle.text.specs.Fields.{text_of, field_of}
 use Rattle.text.specs.Reader.{wrong, then, number_from, decimal_from, within_from, float_from, past_floats, past_word, giving}
 use Rattle.text.specs.Words.{word_from}
 use Rattle.streams.specs.declared.output.Output.{Output}
-use Rattle.answers.specs.Lines.{whole, Adds}
+use Rattle.streams.specs.Output.{Puts}
+use Rattle.answers.specs.Lines.{whole}
 use Rattle.leaves.specs.declared.Leaves.{Leaves}
 use Rattle.leaves.specs.declared.names.Leaf.{Leaf}
 use Rattle.leaves.specs.declared.names.Leaf.TheVariants.{Exp, Sqrt, Abs, Draw, Jump, Uniform, Clamp}
@@ -74,7 +75,8 @@ normal_rest line at =
     whole line
     (then (within_from 1 12 Range line at) (λ m.
     then (within_from 1 8 Range line m.to) (λ p.
-    past_floats (p.value * m.value + m.value) line p.to)))
+    then (past_floats (p.value * m.value) line p.to) (λ columns.
+    past_floats m.value line columns.to))))
 
 -- behind a name
 abbrev pub named : Result Name Wrong → Rest
@@ -95,6 +97,11 @@ pub record ReadAs {A : Type 0} (rest : Rest) (r : Reader) (result : Result A Wro
 abbrev pub line_texts : List ℕ → List (List ℕ)
 line_texts line = line ∷ (32 ∷ 61 ∷ []) ∷ []
 
+-- texts alone are added to what waits, where that lies in the buffer, as it always does: these first. No line is counted
+pub record Onto (head : List (List ℕ)) (o n : Output) : Type 0 where
+  pub more : List (List ℕ)
+  pub puts : o.waiting.bytes ≤ length o.buffer.now → Puts o (head ++ more) n
+
 -- nothing is kept, and the answer begins with the line
 abbrev pub Answered : Leaves → Output → (line : List ℕ) → (number : ℕ) → Leaves → Output → Type 0
-Answered p o line number q n = (q ≡ p) × Adds (line_texts line) o n
+Answered p o line number q n = (q ≡ p) × Onto (line_texts line) o n

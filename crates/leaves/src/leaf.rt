@@ -1,8 +1,7 @@
 // The leaf lines: a name, and the numbers that the function of that name is asked at.
 ghost use Rattle.std.specs.Prelude.{◌≡◌, [], ◌∷◌, ◌++◌, OnOk, OnErr};
 ghost use Rattle.streams.specs.Output.{Puts};
-ghost use Rattle.answers.specs.Lines.{Adds};
-ghost use Rattle.leaves.specs.Lines.{leaf_rest, one_number, seed_and_count, two_in_hex, seed_and_two, with_bounds, ReadAs, line_texts};
+ghost use Rattle.leaves.specs.Lines.{leaf_rest, one_number, seed_and_count, two_in_hex, seed_and_two, with_bounds, ReadAs, Onto, line_texts};
 ghost use Rattle.leaves.specs.Replies.{reply_texts};
 
 use crate::names::Leaf;
@@ -118,7 +117,7 @@ fn put_reply(output: &mut Output, reply: Reply)
 // Answers a line of that name, from where the name ends.
 pub(crate) fn answer(output: &mut Output, reader: &mut Reader, leaf: Leaf) -> Result<(), Wrong>
     ensures value { result ≡ leaf_rest leaf reader.old.line.now reader.old.at }
-    ensures ok { OnOk result (Adds (line_texts reader.old.line.now) output.old output.new) }
+    ensures ok { OnOk result (Onto (line_texts reader.old.line.now) output.old output.new) }
     ensures err { OnErr result (output.new ≡ output.old) }
 {
     let reply = reply_to(reader, leaf)?;

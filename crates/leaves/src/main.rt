@@ -29,12 +29,7 @@ impl Program for Leaves {
 
     ghost sums = { λ p o n. n ≡ o };
 
-    fn answer(
-        &mut self,
-        output: &mut Output,
-        line: &[u8],
-        _number: u64,
-    ) -> Result<(), Wrong> {
+    fn answer(&mut self, output: &mut Output, line: &[u8], _number: u64) -> Result<(), Wrong> {
         let reader = &mut Reader::new(line);
         match Name::of(reader.word())? {
             Name::Leaf(leaf) => leaf::answer(output, reader, leaf),

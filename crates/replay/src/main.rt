@@ -68,12 +68,7 @@ impl Program for Replay {
 
     ghost sums = { λ p o n. n ≡ o };
 
-    fn answer(
-        &mut self,
-        output: &mut Output,
-        line: &[u8],
-        number: u64,
-    ) -> Result<(), Wrong> {
+    fn answer(&mut self, output: &mut Output, line: &[u8], number: u64) -> Result<(), Wrong> {
         let reader = &mut Reader::new(line);
         let kind = joblines::read_kind(reader, 6)?;
         let job = joblines::read_job(reader)?;

@@ -46,9 +46,9 @@ returns g c =
     λ h good. elim c.loop-test.branch [
       | else-loop-test w ↦ omega (arith, w.loop-test.false)
       | then-loop-test+then-not-is_open w ↦
-        elim w.then-not-is_open.branch [
-          | then-not-is_open-via-then-not-is_open x ↦ absurd (true≢false (sym h ∙ sym w.is_open.ensures ∙ x.if-not-is_open.true))
-          | then-not-is_open-via-else-not-is_open+then-not-output x ↦ absurd (true≢false (sym good ∙ x.if-not-output.true))
-        ]
+          elim w.then-not-is_open.branch [
+            | then-not-is_open-via-then-not-is_open x ↦ absurd (true≢false (sym h ∙ sym w.is_open.ensures ∙ x.if-not-is_open.true))
+            | then-not-is_open-via-else-not-is_open+then-not-output x ↦ absurd (true≢false (sym good ∙ x.if-not-output.true))
+          ]
     ] in
     over _ _ c.sum_up.new.output l.invariant.going ended c.sum_up.ensures
