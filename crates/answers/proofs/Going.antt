@@ -1,5 +1,5 @@
 -- The loop over lines, as far as it has come. Assumes nothing.
-use Rattle.std.proofs.Common.{◌≡◌, ℕ, suc, ◌+◌, ◌-◌, ◌^◌, Bool, true, List, [], ◌∷◌, length, refl, sym, ap, ◌∙◌, add-one}
+use Rattle.std.proofs.Common.{◌≡◌, ℕ, suc, ◌+◌, ◌-◌, ◌^◌, true, List, [], ◌∷◌, length, refl, sym, ap, ◌∙◌, add-one}
 use Rattle.streams.specs.declared.output.Output.{Output}
 use Rattle.streams.specs.Input.{new_input, is_open}
 use Rattle.streams.specs.Output.{new_waiting}

@@ -1,6 +1,6 @@
 -- What answers to lines add, piece by piece. Assumes nothing.
-use Rattle.std.specs.Prelude.{◌≡◌, ℕ, ◌+◌, ◌%◌, ◌^◌, ◌≤◌, Bool, cond, List, [], ◌∷◌, ◌++◌, length, Option, Some, None}
-use Rattle.std.proofs.Common.{ap, sym, append_assoc}
+use Rattle.std.specs.Prelude.{ℕ, ◌+◌, ◌%◌, ◌^◌, Bool, cond, List, [], ◌++◌, Option, Some, None}
+use Rattle.std.proofs.Common.{ap, append_assoc}
 use Rattle.streams.specs.declared.output.Output.{Output}
 use Rattle.streams.specs.Output.{with_refused, Puts}
 use Rattle.streams.specs.OutputLaws.{puts_then, puts_as, nothing_puts}

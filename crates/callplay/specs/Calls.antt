@@ -1,5 +1,5 @@
 -- What a call makes of the bench, and what its answer begins with. Definitions only.
-use Rattle.std.specs.Prelude.{◌≡◌, ℕ, min, List, [], ◌∷◌, replicate, Float, Result, Ok}
+use Rattle.std.specs.Prelude.{◌≡◌, ℕ, min, List, [], ◌∷◌, replicate, Float, Ok}
 use Rattle.std.specs.Float.Ieee.{of_bits}
 use Rattle.std.specs.Float.{binary64}
 use Rattle.bench.specs.declared.types.Bench.{Bench}

@@ -1,5 +1,5 @@
 -- The job lines of the program. Definitions only.
-use Rattle.std.specs.Prelude.{◌≡◌, ℕ, ◌||◌, Bool, true, cond, List, [], ◌∷◌, eqb, Result, Ok}
+use Rattle.std.specs.Prelude.{◌≡◌, ℕ, ◌||◌, Bool, true, cond, List, eqb, Result, Ok}
 use Rattle.text.specs.declared.reader.Wrong.{Wrong}
 use Rattle.text.specs.Fields.{field_of}
 use Rattle.text.specs.Reader.{then, decimal_from}

@@ -1,7 +1,6 @@
 -- `answers::lines::answer_all` meets its contract: so many steps are done, and the loop is over where no further one is. Assumes nothing.
-use Rattle.std.proofs.Common.{◌≡◌, ◌-◌, ◌^◌, Bool, true, sym, ◌∙◌, subst, arith, true≢false}
+use Rattle.std.proofs.Common.{◌≡◌, ◌-◌, ◌^◌, true, sym, ◌∙◌, subst, arith, true≢false}
 use Rattle.streams.specs.declared.input.Found.{Found}
-use Rattle.streams.specs.declared.input.Input.{Input}
 use Rattle.streams.specs.Input.{is_open, WentOn}
 use Rattle.answers.specs.Lines.{FoundAnswered}
 use Rattle.answers.proofs.Going.{begin, further, over}

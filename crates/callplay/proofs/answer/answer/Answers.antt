@@ -1,11 +1,11 @@
 -- `callplay::answer::answer` meets its contract: turns are taken with as much scratch as the line says. Assumes nothing.
-use Rattle.std.proofs.Common.{◌≡◌, ℕ, ◌≤◌, min, List, take, replicate, sym, ap, ◌∙◌, arith, Float}
+use Rattle.std.proofs.Common.{◌≡◌, ℕ, min, List, take, replicate, sym, ap, ◌∙◌, arith, Float}
 use Rattle.std.proofs.lemmas.List.{take-replicate}
 use Rattle.std.specs.Float.Ieee.{of_bits}
 use Rattle.std.specs.Float.{binary64}
 use Rattle.benchcalls.specs.Play.{Play, played_of}
 use Rattle.callplay.specs.declared.call.Call.{Call}
-use Rattle.callplay.specs.Calls.{lent, bench_after}
+use Rattle.callplay.specs.Calls.{bench_after}
 use Rattle.callplay.proofs.answer.answer.Goals as goal
 
 part : (to room n : ℕ) (x : Float) → to ≡ min room n → take to (replicate n x) ≡ replicate (min room n) x

@@ -1,5 +1,5 @@
 -- `callplay::answer::put_fetched` meets its contract: its texts come one after the other. Assumes nothing.
-use Rattle.std.proofs.Common.{ℕ, [], ◌∷◌, Some, nat_lt}
+use Rattle.std.proofs.Common.{[], ◌∷◌, Some, nat_lt}
 use Rattle.answers.specs.LineLaws.{adds_by, adds_more}
 use Rattle.callplay.proofs.answer.put_fetched.Goals as goal
 

@@ -1,5 +1,5 @@
 -- `leaves::matrix::read_right_side` meets its contract: what is left to be read makes the rest. Assumes nothing.
-use Rattle.std.proofs.Common.{◌≡◌, ◌+◌, ◌-◌, ◌*◌}
+use Rattle.std.proofs.Common.{◌≡◌, ◌-◌}
 use Rattle.text.specs.Reader.{past_floats}
 use Rattle.leaves.proofs.matrix.read_right_side.Given as goal
 
