@@ -1,4 +1,6 @@
 pub mod Digest
 pub mod Entries
 pub mod Heads
+pub mod LineLaws
+pub mod Lines
 pub mod Pieces

@@ -1,35 +1,46 @@
 // The lines of the input, answered one after the other by a program.
-ghost use Rattle.std.specs.Prelude.{◌≤◌, length, IfSome};
+ghost use Rattle.std.specs.Prelude.{◌≡◌, ◌≤◌, length, IfSome, OnOk, OnErr};
+ghost use Rattle.streams.specs.declared.output.Output.{Output};
+ghost use Rattle.answers.specs.Lines.{LineForm, Giving, LineAnswered, FoundAnswered, AllAnswered};
 
 use crate::pieces::{put_cut, put_unknown};
 use streams::console::Console;
 use streams::input;
 use streams::input::{Input, Line};
 use streams::output::Output;
-use text::reader::{Reader, Wrong};
+use text::reader::Wrong;
 use text::words;
 
 // What a program does with a line.
 pub trait Program {
-    // Answers a line that is not blank. Of a line that is out of form it says where that is, and puts nothing.
-    fn answer(
-        &mut self,
-        output: &mut Output,
-        reader: &mut Reader,
-        number: u64,
-    ) -> Result<(), Wrong>;
+    // Whether a line is in form, and where it is not and why.
+    ghost form: { LineForm };
+
+    // What the answer to a line in form makes of the program and of the output.
+    ghost gives: { Giving Self };
+
+    // What comes after the answers to all lines.
+    ghost sums: { Self → Output → Output → Type 0 };
+
+    // Answers a line that is not blank. Of a line that is out of form it says where that is, puts nothing and changes nothing.
+    fn answer(&mut self, output: &mut Output, line: &[u8], number: u64) -> Result<(), Wrong>
+        ensures value { result ≡ form line.now }
+        ensures ok { OnOk result (gives self.old output.old line.now number self.new output.new) }
+        ensures err { OnErr result ((self.new ≡ self.old) × (output.new ≡ output.old)) };
 
     // Puts what comes after the answers to all lines.
-    fn sum_up(&self, _output: &mut Output) {}
+    fn sum_up(&self, output: &mut Output)
+        ensures { sums self.now output.old output.new };
 }
 
 // Answers one line. Blanks alone have no answer.
-fn answer_line<P: Program>(program: &mut P, output: &mut Output, line: &[u8], number: u64) {
+fn answer_line<P: Program>(program: &mut P, output: &mut Output, line: &[u8], number: u64)
+    ensures { LineAnswered P.form P.gives program.old output.old line.now number program.new output.new }
+{
     if words::is_end(line, 0) {
         return;
     }
-    let mut reader = Reader::new(line);
-    if let Err(wrong) = program.answer(output, &mut reader, number) {
+    if let Err(wrong) = program.answer(output, line, number) {
         put_unknown(output, line, number, wrong);
     }
 }
@@ -37,6 +48,7 @@ fn answer_line<P: Program>(program: &mut P, output: &mut Output, line: &[u8], nu
 // Answers a line of the input; while none is there, what waits is written.
 fn answer_found<P: Program>(program: &mut P, output: &mut Output, buf: &[u8], line: Option<Line>)
     requires { IfSome line (λ l. (l.from ≤ l.to) × (l.to ≤ length buf.now)) }
+    ensures { FoundAnswered P.form P.gives program.old output.old line buf.now program.new output.new }
 {
     let Some(line) = line else {
         output.flush();
@@ -51,7 +63,9 @@ fn answer_found<P: Program>(program: &mut P, output: &mut Output, buf: &[u8], li
 
 // Answers all lines of the input. A proved loop has to end, and nothing says that the input does: so the steps are counted, up
 // to a number that no run reaches.
-pub fn answer_all<P: Program>(program: &mut P, console: Console) {
+pub fn answer_all<P: Program>(program: &mut P, console: Console)
+    ensures { AllAnswered P.form P.gives P.sums program.old program.new }
+{
     let mut buf = io::large_buffer();
     let mut out = io::large_buffer();
     let mut input = Input::new();

@@ -1,4 +1,8 @@
 // The calls, done on the bench, and what is put of each.
+ghost use Rattle.std.specs.Prelude.{◌≡◌, [], ◌∷◌};
+ghost use Rattle.answers.specs.Lines.{Adds};
+ghost use Rattle.callplay.specs.Calls.{bench_after, first_word};
+
 use crate::call::Call;
 use crate::pieces;
 use bench::Bench;
@@ -7,7 +11,11 @@ use streams::output::Output;
 // As much of scratch as there is here: past that more would change nothing.
 const SCRATCH: usize = 1024;
 
-pub(crate) fn answer(output: &mut Output, bench: &mut Bench, call: Call) {
+#[tactic(auto, unfolding(crate::specs::Calls::bench_after, crate::specs::Calls::first_word))]
+pub(crate) fn answer(output: &mut Output, bench: &mut Bench, call: Call)
+    ensures bench { bench.new ≡ bench_after call bench.old }
+    ensures answer { Adds (first_word call ∷ []) output.old output.new }
+{
     match call {
         Call::Empty => {
             *bench = benchcalls::empty_bench();
@@ -41,7 +49,9 @@ pub(crate) fn answer(output: &mut Output, bench: &mut Bench, call: Call) {
 }
 
 // F number result
-fn put_fetched(output: &mut Output, bench: &Bench, place: usize) {
+fn put_fetched(output: &mut Output, bench: &Bench, place: usize)
+    ensures { Adds ((70 ∷ []) ∷ []) output.old output.new }
+{
     let mut found = rows::zero_result();
     let number = benchcalls::fetch(bench, place, &mut found);
     pieces::put_name(output, b"F", number);
@@ -58,7 +68,9 @@ fn put_fetched(output: &mut Output, bench: &Bench, place: usize) {
 }
 
 // L count {place}, in the order that the call gave
-fn put_finished(output: &mut Output, bench: &Bench) {
+fn put_finished(output: &mut Output, bench: &Bench)
+    ensures { Adds ((76 ∷ []) ∷ []) output.old output.new }
+{
     let finished = benchcalls::finished_places(bench);
     let n = finished.count.min(4);
     answers::put_number(output, b"L", finished.count as u64);

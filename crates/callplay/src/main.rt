@@ -4,6 +4,11 @@
 // Stands on `benchcalls`, `joblines` and `answers`; a program that only tests.
 #![tactic(auto)]
 
+ghost use Rattle.std.specs.Prelude.{◌≡◌};
+ghost use Rattle.text.specs.Reader.{giving};
+ghost use Rattle.callplay.specs.Calls.{Done};
+ghost use Rattle.callplay.specs.Lines.{call_of};
+
 mod answer;
 mod call;
 mod pieces;
@@ -22,16 +27,19 @@ struct Played {
 }
 
 impl Program for Played {
-    fn answer(
-        &mut self,
-        output: &mut Output,
-        reader: &mut Reader,
-        _number: u64,
-    ) -> Result<(), Wrong> {
-        let call = Call::read(reader)?;
+    ghost form = { λ line. giving tt (call_of line) };
+
+    ghost gives = { Done };
+
+    ghost sums = { λ p o n. n ≡ o };
+
+    fn answer(&mut self, output: &mut Output, line: &[u8], _number: u64) -> Result<(), Wrong> {
+        let call = Call::read(&mut Reader::new(line))?;
         answer::answer(output, &mut self.bench, call);
         Ok(())
     }
+
+    fn sum_up(&self, _output: &mut Output) {}
 }
 
 fn main(rt: HostRuntime) {

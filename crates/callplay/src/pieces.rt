@@ -1,14 +1,23 @@
 // Pieces of answers.
+ghost use Rattle.std.specs.Prelude.{[], ◌∷◌, nat_lt};
+ghost use Rattle.streams.specs.Output.{Puts, with_refused};
+ghost use Rattle.answers.specs.Lines.{Adds};
+ghost use Rattle.answers.specs.Pieces.{number_texts};
+
 use streams::output::Output;
 
 // A call's name and its number.
-pub(crate) fn put_name(output: &mut Output, name: &[u8], number: u32) {
+pub(crate) fn put_name(output: &mut Output, name: &[u8], number: u32)
+    ensures { Puts (with_refused (nat_lt 0 number) output.old) (number_texts name.now number) output.new }
+{
     output.count(number > 0);
     answers::put_number(output, name, number as u64);
 }
 
 // name number {more}
-pub(crate) fn put_answer(output: &mut Output, name: &[u8], number: u32, more: &[u64]) {
+pub(crate) fn put_answer(output: &mut Output, name: &[u8], number: u32, more: &[u64])
+    ensures { Adds (name.now ∷ []) output.old output.new }
+{
     put_name(output, name, number);
     for x in more {
         answers::put_number(output, b"", *x);
@@ -16,6 +25,8 @@ pub(crate) fn put_answer(output: &mut Output, name: &[u8], number: u32, more: &[
     end_line(output);
 }
 
-pub(crate) fn end_line(output: &mut Output) {
+pub(crate) fn end_line(output: &mut Output)
+    ensures { Puts output.old ((10 ∷ []) ∷ []) output.new }
+{
     output.put(b"\n");
 }

@@ -5,6 +5,11 @@
 // Stands on `benchcalls`, `joblines`, `answers` and `same`; a program that only tests.
 #![tactic(auto)]
 
+ghost use Rattle.std.specs.Prelude.{◌≡◌, []};
+ghost use Rattle.text.specs.Reader.{giving};
+ghost use Rattle.answers.specs.Lines.{Adds};
+ghost use Rattle.damage.specs.Lines.{request_line, Tried};
+
 mod change;
 mod deals;
 mod entries;
@@ -16,6 +21,7 @@ mod uses;
 mod verdict;
 
 use answers::Program;
+use jobs::JobRequest;
 use streams::console::Console;
 use streams::output::Output;
 use tally::Tally;
@@ -27,18 +33,28 @@ struct Examined {
     tally: Tally,
 }
 
+// J id kind ..
+fn read_whole(line: &[u8]) -> Result<JobRequest, Wrong>
+    ensures { result ≡ request_line line.now }
+{
+    let mut reader = Reader::new(line);
+    let kind = joblines::read_kind(&mut reader, 3)?;
+    let job = joblines::read_job(&mut reader)?;
+    let request = joblines::read_request(&mut reader, kind, job)?;
+    reader.end()?;
+    Ok(request)
+}
+
 impl Program for Examined {
-    // J id kind ..: nothing is put. A job that is refused is counted, and leaves no rows.
-    fn answer(
-        &mut self,
-        output: &mut Output,
-        reader: &mut Reader,
-        _number: u64,
-    ) -> Result<(), Wrong> {
-        let kind = joblines::read_kind(reader, 3)?;
-        let job = joblines::read_job(reader)?;
-        let request = joblines::read_request(reader, kind, job)?;
-        reader.end()?;
+    ghost form = { λ line. giving tt (request_line line) };
+
+    ghost gives = { Tried };
+
+    ghost sums = { λ p. Adds [] };
+
+    // Nothing is put. A job that is refused is counted, and leaves no rows.
+    fn answer(&mut self, output: &mut Output, line: &[u8], _number: u64) -> Result<(), Wrong> {
+        let request = read_whole(line)?;
         let mut bench = benchcalls::empty_bench();
         match benchcalls::admit(&mut bench, 0, request) {
             Ok(()) => examine::examine_job(&mut self.tally, &bench, request),

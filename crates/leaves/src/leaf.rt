@@ -1,4 +1,9 @@
 // The leaf lines: a name, and the numbers that the function of that name is asked at.
+ghost use Rattle.std.specs.Prelude.{◌≡◌, [], ◌∷◌, ◌++◌, OnOk, OnErr};
+ghost use Rattle.streams.specs.Output.{Puts};
+ghost use Rattle.leaves.specs.Lines.{leaf_rest, one_number, seed_and_count, two_in_hex, seed_and_two, with_bounds, ReadAs, Onto, line_texts};
+ghost use Rattle.leaves.specs.Replies.{reply_texts};
+
 use crate::names::Leaf;
 use crate::pieces;
 use streams::output::Output;
@@ -14,7 +19,10 @@ enum Reply {
 }
 
 // The reply to a line of that name, from where the name ends.
-fn reply_to(reader: &mut Reader, leaf: Leaf) -> Result<Reply, Wrong> {
+#[tactic(auto, unfolding(crate::specs::Lines::leaf_rest))]
+fn reply_to(reader: &mut Reader, leaf: Leaf) -> Result<Reply, Wrong>
+    ensures { ReadAs (leaf_rest leaf) reader.old result reader.new }
+{
     match leaf {
         Leaf::Exp => value(reader, |x| floats::exp_stand_in(x)),
         Leaf::Sqrt => value(reader, |x| roots::sqrt(x)),
@@ -29,6 +37,7 @@ fn reply_to(reader: &mut Reader, leaf: Leaf) -> Result<Reply, Wrong> {
 // E x, SQRT x, ABS x
 fn value<F: Fn(f64) -> f64>(reader: &mut Reader, function: F) -> Result<Reply, Wrong>
     requires { F.IsAlwaysCallable function }
+    ensures { ReadAs one_number reader.old result reader.new }
 {
     let x = reader.float()?;
     reader.end()?;
@@ -36,7 +45,9 @@ fn value<F: Fn(f64) -> f64>(reader: &mut Reader, function: F) -> Result<Reply, W
 }
 
 // DRAW seed n: the state after n draws, and its unit draw; zeros where n is 0, as the oracle has it.
-fn draw(reader: &mut Reader) -> Result<Reply, Wrong> {
+fn draw(reader: &mut Reader) -> Result<Reply, Wrong>
+    ensures { ReadAs seed_and_count reader.old result reader.new }
+{
     let seed = reader.hex()?;
     let draws = reader.decimal()?;
     reader.end()?;
@@ -48,7 +59,9 @@ fn draw(reader: &mut Reader) -> Result<Reply, Wrong> {
 }
 
 // JUMP state n: the state after n draws. It is a state and no seed: 0 stays 0.
-fn jumped(reader: &mut Reader) -> Result<Reply, Wrong> {
+fn jumped(reader: &mut Reader) -> Result<Reply, Wrong>
+    ensures { ReadAs two_in_hex reader.old result reader.new }
+{
     let state = reader.hex()?;
     let draws = reader.hex()?;
     reader.end()?;
@@ -56,7 +69,9 @@ fn jumped(reader: &mut Reader) -> Result<Reply, Wrong> {
 }
 
 // UNIFORM seed a b: the first draw
-fn uniform(reader: &mut Reader) -> Result<Reply, Wrong> {
+fn uniform(reader: &mut Reader) -> Result<Reply, Wrong>
+    ensures { ReadAs seed_and_two reader.old result reader.new }
+{
     let seed = reader.hex()?;
     let a = reader.float()?;
     let b = reader.float()?;
@@ -66,7 +81,9 @@ fn uniform(reader: &mut Reader) -> Result<Reply, Wrong> {
 }
 
 // CLAMP x lo hi: Rust's clamp, and that of applied values. Rust's has no answer at crossed bounds: the upper is out of form.
-fn clamp(reader: &mut Reader) -> Result<Reply, Wrong> {
+fn clamp(reader: &mut Reader) -> Result<Reply, Wrong>
+    ensures { ReadAs with_bounds reader.old result reader.new }
+{
     let x = reader.float()?;
     let lo = reader.float()?;
     let crossed = reader.wrong(Why::Range);
@@ -83,7 +100,9 @@ fn apply_clamp(x: f64, lo: f64, hi: f64) -> f64 {
     if x != x { lo } else { floats::clamp(x, lo, hi) }
 }
 
-fn put_reply(output: &mut Output, reply: Reply) {
+fn put_reply(output: &mut Output, reply: Reply)
+    ensures { Puts output.old (reply_texts reply) output.new }
+{
     match reply {
         Reply::One(x) => output.put_floats(&[x]),
         Reply::Two(x, y) => output.put_floats(&[x, y]),
@@ -96,7 +115,11 @@ fn put_reply(output: &mut Output, reply: Reply) {
 }
 
 // Answers a line of that name, from where the name ends.
-pub(crate) fn answer(output: &mut Output, reader: &mut Reader, leaf: Leaf) -> Result<(), Wrong> {
+pub(crate) fn answer(output: &mut Output, reader: &mut Reader, leaf: Leaf) -> Result<(), Wrong>
+    ensures value { result ≡ leaf_rest leaf reader.old.line.now reader.old.at }
+    ensures ok { OnOk result (Onto (line_texts reader.old.line.now) output.old output.new) }
+    ensures err { OnErr result (output.new ≡ output.old) }
+{
     let reply = reply_to(reader, leaf)?;
     pieces::put_line(output, reader.line);
     put_reply(output, reply);

@@ -4,6 +4,9 @@
 // Stands on `floats`, `normal`, `jump` and `answers`; a program that only tests.
 #![tactic(auto)]
 
+ghost use Rattle.std.specs.Prelude.{◌≡◌};
+ghost use Rattle.leaves.specs.Lines.{line_form, Answered};
+
 mod leaf;
 mod matrix;
 mod names;
@@ -20,18 +23,22 @@ use text::reader::{Reader, Wrong};
 struct Leaves;
 
 impl Program for Leaves {
-    fn answer(
-        &mut self,
-        output: &mut Output,
-        reader: &mut Reader,
-        _number: u64,
-    ) -> Result<(), Wrong> {
+    ghost form = { line_form };
+
+    ghost gives = { Answered };
+
+    ghost sums = { λ p o n. n ≡ o };
+
+    fn answer(&mut self, output: &mut Output, line: &[u8], _number: u64) -> Result<(), Wrong> {
+        let reader = &mut Reader::new(line);
         match Name::of(reader.word())? {
             Name::Leaf(leaf) => leaf::answer(output, reader, leaf),
             Name::Solve => matrix::solve(output, reader),
             Name::Normal => matrix::normal(output, reader),
         }
     }
+
+    fn sum_up(&self, _output: &mut Output) {}
 }
 
 fn main(rt: HostRuntime) {

@@ -4,6 +4,10 @@
 // Stands on `benchcalls`, `lending`, `intervals`, `joblines`, `answers` and `lensanswers`; a program that only tests.
 #![tactic(auto)]
 
+ghost use Rattle.std.specs.Prelude.{◌≡◌, OnOk, OnErr};
+ghost use Rattle.answers.specs.Lines.{whole};
+ghost use Rattle.replay.specs.Lines.{job_form, settings_from, Done, Answered};
+
 mod evaluate;
 mod limits;
 mod marks;
@@ -13,6 +17,7 @@ mod trace;
 
 use answers::Program;
 use bench::Bench;
+use joblines::JobLine;
 use streams::console::Console;
 use streams::output::Output;
 use text::reader::{Reader, Wrong};
@@ -23,16 +28,21 @@ struct Replay {
     bench: Bench,
 }
 
-// J id kind ..: runs are played on the bench, evaluations and traces stand by themselves.
-impl Program for Replay {
-    fn answer(
+impl Replay {
+    // The settings of a kind, and the answer to its line.
+    #[tactic(auto, unfolding(crate::specs::Lines::settings_from))]
+    fn answer_job(
         &mut self,
         output: &mut Output,
         reader: &mut Reader,
+        kind: u64,
+        job: JobLine,
         number: u64,
-    ) -> Result<(), Wrong> {
-        let kind = joblines::read_kind(reader, 6)?;
-        let job = joblines::read_job(reader)?;
+    ) -> Result<(), Wrong>
+        ensures value { let line = reader.old.line.now in result ≡ whole line (settings_from kind job line reader.old.at) }
+        ensures ok { OnOk result (Done kind self.old output.old reader.old.line.now self.new output.new) }
+        ensures err { OnErr result ((self.new ≡ self.old) × (output.new ≡ output.old)) }
+    {
         match kind {
             4 => evaluate::answer(output, reader, job),
             5 => trace::answer(output, reader, job),
@@ -48,6 +58,24 @@ impl Program for Replay {
             }
         }
     }
+}
+
+// J id kind ..: runs are played on the bench, evaluations and traces stand by themselves.
+impl Program for Replay {
+    ghost form = { job_form };
+
+    ghost gives = { Answered };
+
+    ghost sums = { λ p o n. n ≡ o };
+
+    fn answer(&mut self, output: &mut Output, line: &[u8], number: u64) -> Result<(), Wrong> {
+        let reader = &mut Reader::new(line);
+        let kind = joblines::read_kind(reader, 6)?;
+        let job = joblines::read_job(reader)?;
+        self.answer_job(output, reader, kind, job, number)
+    }
+
+    fn sum_up(&self, _output: &mut Output) {}
 }
 
 fn main(rt: HostRuntime) {

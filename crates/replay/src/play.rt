@@ -1,5 +1,6 @@
 // A run played to its end on a bench whose other places go on meanwhile.
 ghost use Rattle.std.specs.Prelude.{◌<◌};
+ghost use Rattle.replay.specs.Moves.{Moves};
 
 use bench::Bench;
 use refusals::Refusal;
@@ -30,6 +31,7 @@ fn other_place(place: usize, turns: u64) -> usize {
 // One turn of the job at the place, then one of another place, refused or not; none where the job's is refused.
 fn step(bench: &mut Bench, place: usize, turns: Turns) -> Option<Turns>
     requires { place < 4 }
+    ensures { Moves bench.old bench.new }
 {
     let hash = with_pending(turns.hash, bench, place).ok()?;
     let mut scratch = [0.0; 128];
@@ -47,6 +49,7 @@ fn step(bench: &mut Bench, place: usize, turns: Turns) -> Option<Turns>
 // are counted, up to a number that no job reaches.
 pub(crate) fn play(bench: &mut Bench, place: usize) -> Turns
     requires { place < 4 }
+    ensures { Moves bench.old bench.new }
 {
     let mut turns = Turns {
         hash: answers::START,

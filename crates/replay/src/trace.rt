@@ -1,4 +1,9 @@
 // Job lines of kind 5: a lens traced in one slot.
+ghost use Rattle.std.specs.Prelude.{◌≡◌, [], OnOk, OnErr};
+ghost use Rattle.answers.specs.Heads.{head_texts};
+ghost use Rattle.answers.specs.Lines.{whole, Adds};
+ghost use Rattle.replay.specs.Lines.{slot_from};
+
 use crate::marks;
 use joblines::JobLine;
 use merit::Traced;
@@ -8,7 +13,11 @@ use streams::output::Output;
 use text::reader::{Reader, Wrong};
 
 // Kind 5 has a slot as its setting.
-pub(crate) fn answer(output: &mut Output, reader: &mut Reader, job: JobLine) -> Result<(), Wrong> {
+pub(crate) fn answer(output: &mut Output, reader: &mut Reader, job: JobLine) -> Result<(), Wrong>
+    ensures value { result ≡ whole reader.old.line.now (slot_from reader.old.line.now reader.old.at) }
+    ensures ok { OnOk result (Adds (head_texts reader.old.line.now 5) output.old output.new) }
+    ensures err { OnErr result (output.new ≡ output.old) }
+{
     let slot = reader.decimal()? as usize;
     reader.end()?;
     answers::put_head(output, reader.line, 5);
@@ -16,7 +25,9 @@ pub(crate) fn answer(output: &mut Output, reader: &mut Reader, job: JobLine) -> 
     Ok(())
 }
 
-fn put_trace(output: &mut Output, prescription: OpticalPrescription, slot: usize) {
+fn put_trace(output: &mut Output, prescription: OpticalPrescription, slot: usize)
+    ensures { Adds [] output.old output.new }
+{
     let count = prescription.surface_count;
     let t = lending::trace_over(prescription, slot, marks::marked_rays(), count);
     let is_kept = marks::are_marked(&t.rays);
@@ -33,7 +44,9 @@ fn put_done(
     prescription: OpticalPrescription,
     slot: usize,
     rays: [ParaxialRay; 16],
-) {
+)
+    ensures { Adds [] output.old output.new }
+{
     let count = prescription.surface_count;
     if !marks::are_marked(&rays[count.min(16)..]) || !are_others_refused(prescription, slot) {
         output.put(b" changed\n");

@@ -1,0 +1,3 @@
+-- Laws that proofs of several functions cite.
+pub mod Onto
+pub mod Past
