@@ -23,8 +23,11 @@ returns-in_err-scratch c =
     let line = c.args.reader.now.line.now in
     let read = c.in_err-scratch.ensures in
     let next : c.args.p - l.i ≡ 1 + (c.args.p - (l.i + 1)) = omega arith in
-    let is = one_wrong line l.reader.at c.float.new.self.at {w = c.in_err-scratch.field-0.0} (rw l.invariant.same at read.value) (rw l.invariant.same at read.left) in
-    let end = stopped line _ _ c.float.new.self.at 1 (c.args.p - (l.i + 1)) (l.invariant.left ∙ ap (λ (n : ℕ). past_floats n line l.reader.at) next) is.0 is.1 in
+    let value = rw l.invariant.same at read.value in
+    let at = c.float.new.self.at in
+    let is = one_wrong line l.reader.at at {w = c.in_err-scratch.field-0.0} value (rw l.invariant.same at read.left) in
+    let left = l.invariant.left ∙ ap (λ (n : ℕ). past_floats n line l.reader.at) next in
+    let end = stopped line _ _ at 1 (c.args.p - (l.i + 1)) left is.0 is.1 in
     record { value = grind (arith, common_steps, end.0); left = end.1; same = read.same ∙ l.invariant.same }
 
 pub returns : goal.returns
