@@ -72,6 +72,9 @@ pub record Stand (S : Type 0) : Type 0 where
   pub buffer : List ℕ
   pub input : Input
 
+abbrev pub stand : {S : Type 0} → S → Output → (buffer : List ℕ) → Input → Stand S
+stand p o b i = record { program = p; output = o; buffer = b; input = i }
+
 -- steps one after the other, through `between`, of which the last comes first
 abbrev pub Steps : {A : Type 0} (step : A → A → Type 0) → A → (between : List A) → A → Type 0
 Steps step s [] t = s ≡ t
@@ -80,20 +83,28 @@ Steps step s (m ∷ before) t = Steps step s before m × step m t
 module _ {S : Type 0} (form : LineForm) (gives : Giving S) where
   -- one step: the next line is answered, and the input goes on behind it, or by a read
   pub record Step (s t : Stand S) : Type 0 where
-    pub open_before : is_open s.input ≡ true
-    pub good_before : s.output.waiting.is_good ≡ true
     pub answered : FoundAnswered form gives s.program s.output (line_from s.buffer s.input).line s.buffer t.program t.output
     pub went_on : WentOn s.buffer (line_from s.buffer s.input) t.buffer t.input
 
-  -- All lines, from an input of which nothing is read on, by such steps alone: they end where no line may come any more, or where a write failed; and at a
-  -- number of steps that no run reaches. Then comes what `sums` says. What the reads bring, and whether a write fails, is the system's.
+  -- it is taken while a line may come and no write failed
+  pub record OpenStep (s t : Stand S) : Type 0 where
+    pub open_before : is_open s.input ≡ true
+    pub good_before : s.output.waiting.is_good ≡ true
+    pub step : Step s t
+
+  -- The lines are answered by such steps alone: they end where no line may come any more, or where a write failed; and at a number of steps that no run
+  -- reaches. What the reads bring, and whether a write fails, is the system's.
+  pub record LinesAnswered (s t : Stand S) : Type 0 where
+    pub between : List (Stand S)
+    pub steps : Steps OpenStep s between t
+    pub ended : is_open t.input ≡ true → t.output.waiting.is_good ≡ true → length between ≡ 2 ^ 64 - 1
+
+  -- All lines, from an input of which nothing is read on and an output in which nothing waits; then comes what `sums` says.
   pub record AllAnswered (sums : S → Output → Output → Type 0) (p q : S) : Type 0 where
     pub first : Stand S
-    pub between : List (Stand S)
     pub last : Stand S
     pub summed : Output
     pub begun : (first.program ≡ p) × (first.output.waiting ≡ new_waiting) × (first.input ≡ new_input)
-    pub steps : Steps Step first between last
-    pub ended : is_open last.input ≡ true → last.output.waiting.is_good ≡ true → length between ≡ 2 ^ 64 - 1
+    pub lines : LinesAnswered first last
     pub sum : sums last.program last.output summed
     pub left : q ≡ last.program

@@ -1,7 +1,7 @@
 // The lines of the input, answered one after the other by a program.
 ghost use Rattle.std.specs.Prelude.{◌≡◌, ◌≤◌, length, IfSome, OnOk, OnErr};
 ghost use Rattle.streams.specs.declared.output.Output.{Output};
-ghost use Rattle.answers.specs.Lines.{LineForm, Giving, LineAnswered, FoundAnswered, AllAnswered};
+ghost use Rattle.answers.specs.Lines.{LineForm, Giving, LineAnswered, FoundAnswered, stand, Step, LinesAnswered, AllAnswered};
 
 use crate::pieces::{put_cut, put_unknown};
 use streams::console::Console;
@@ -61,23 +61,54 @@ fn answer_found<P: Program>(program: &mut P, output: &mut Output, buf: &[u8], li
     answer_line(program, output, &buf[line.from..line.to], line.number);
 }
 
-// Answers all lines of the input. A proved loop has to end, and nothing says that the input does: so the steps are counted, up
-// to a number that no run reaches.
+// Answers the next line of the input; then the input goes on behind it, or by a read.
+fn answer_next<P: Program>(
+    program: &mut P,
+    console: Console,
+    output: &mut Output,
+    buf: &mut [u8],
+    input: Input,
+) -> Input
+    requires from_le_to { input.from ≤ input.to }
+    requires to_in_bounds { input.to ≤ length buf.old }
+    ensures step { Step P.form P.gives (stand program.old output.old buf.old input) (stand program.new output.new buf.new result) }
+    ensures within { (result.from ≤ result.to) × (result.to ≤ length buf.new) }
+{
+    let found = input::next_line(buf, input);
+    answer_found(program, output, buf, found.line);
+    input::go_on(console, buf, found)
+}
+
+// Answers line after line, up to where none may come any more or a write failed. A proved loop has to end, and nothing says that
+// the input does: so the steps are counted, up to a number that no run reaches.
+fn answer_lines<P: Program>(
+    program: &mut P,
+    console: Console,
+    output: &mut Output,
+    buf: &mut [u8],
+    mut input: Input,
+) -> Input
+    requires from_le_to { input.from ≤ input.to }
+    requires to_in_bounds { input.to ≤ length buf.old }
+    ensures { LinesAnswered P.form P.gives (stand program.old output.old buf.old input) (stand program.new output.new buf.new result) }
+{
+    for _ in 0..u64::MAX {
+        if !input.is_open() || !output.waiting.is_good {
+            break;
+        }
+        input = answer_next(program, console, output, buf, input);
+    }
+    input
+}
+
+// Answers all lines of the input, and puts what comes after the answers.
 pub fn answer_all<P: Program>(program: &mut P, console: Console)
     ensures { AllAnswered P.form P.gives P.sums program.old program.new }
 {
     let mut buf = io::large_buffer();
     let mut out = io::large_buffer();
-    let mut input = Input::new();
     let mut output = Output::new(console, &mut out);
-    for _ in 0..u64::MAX {
-        if !input.is_open() || !output.waiting.is_good {
-            break;
-        }
-        let found = input::next_line(&buf, input);
-        answer_found(program, &mut output, &buf, found.line);
-        input = input::go_on(console, &mut buf, found);
-    }
+    let input = answer_lines(program, console, &mut output, &mut buf, Input::new());
     program.sum_up(&mut output);
     output.finish(input);
 }

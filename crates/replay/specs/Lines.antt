@@ -10,9 +10,10 @@ use Rattle.joblines.specs.Line.{kind_from, job_line_from}
 use Rattle.joblines.specs.Request.{request_from}
 use Rattle.streams.specs.declared.output.Output.{Output}
 use Rattle.answers.specs.Heads.{head_texts}
-use Rattle.answers.specs.Lines.{whole, Adds}
+use Rattle.answers.specs.Lines.{whole}
 use Rattle.replay.specs.declared.Replay.{Replay}
 use Rattle.replay.specs.Moves.{Moves}
+use Rattle.replay.specs.Replies.{Tells}
 
 -- a slot
 abbrev pub slot_from : Form (Unit {0})
@@ -43,7 +44,7 @@ stands_alone kind = eqb kind 4 || eqb kind 5 || eqb kind 6
 
 -- the answer to a line of this kind begins with its id and kind; the bench is moved by calls alone, and by none where nothing is played
 pub record Done (kind : ℕ) (p : Replay) (o : Output) (line : List ℕ) (q : Replay) (n : Output) : Type 0 where
-  pub answer : Adds (head_texts line kind) o n
+  pub answer : Tells (head_texts line kind) o n
   pub moved : Moves p.bench q.bench
   pub alone : stands_alone kind ≡ true → q ≡ p
 

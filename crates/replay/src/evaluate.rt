@@ -2,7 +2,7 @@
 ghost use Rattle.std.specs.Prelude.{◌≡◌, [], OnOk, OnErr};
 ghost use Rattle.text.specs.Reader.{end_from};
 ghost use Rattle.answers.specs.Heads.{head_texts};
-ghost use Rattle.answers.specs.Lines.{Adds};
+ghost use Rattle.replay.specs.Replies.{Tells};
 
 use crate::marks;
 use joblines::JobLine;
@@ -12,7 +12,7 @@ use text::reader::{Reader, Wrong};
 // Kind 4 has no settings.
 pub(crate) fn answer(output: &mut Output, reader: &mut Reader, job: JobLine) -> Result<(), Wrong>
     ensures value { result ≡ end_from reader.old.line.now reader.old.at }
-    ensures ok { OnOk result (Adds (head_texts reader.old.line.now 4) output.old output.new) }
+    ensures ok { OnOk result (Tells (head_texts reader.old.line.now 4) output.old output.new) }
     ensures err { OnErr result (output.new ≡ output.old) }
 {
     reader.end()?;
@@ -22,7 +22,7 @@ pub(crate) fn answer(output: &mut Output, reader: &mut Reader, job: JobLine) -> 
 }
 
 fn put_evaluated(output: &mut Output, job: JobLine)
-    ensures { Adds [] output.old output.new }
+    ensures { Tells [] output.old output.new }
 {
     let prescription = job.prescription;
     let function = job.merit_function;

@@ -1,7 +1,7 @@
 // Job lines of kinds 1 to 3, played on a bench. A job that was played is admitted to its place once more, so that it takes
 // turns while the jobs of the next three lines are played.
 ghost use Rattle.std.specs.Prelude.{◌<◌, []};
-ghost use Rattle.answers.specs.Lines.{Adds};
+ghost use Rattle.replay.specs.Replies.{Tells};
 ghost use Rattle.replay.specs.Moves.{Moves};
 
 use crate::play;
@@ -14,7 +14,7 @@ use streams::output::Output;
 // Plays the job at the place, and leaves it there at its start.
 pub(crate) fn answer(output: &mut Output, bench: &mut Bench, place: usize, request: JobRequest)
     requires { place < 4 }
-    ensures answer { Adds [] output.old output.new }
+    ensures answer { Tells [] output.old output.new }
     ensures moved { Moves bench.old bench.new }
 {
     if let Err(refusal) = admit(bench, place, request) {
@@ -36,7 +36,7 @@ fn admit(bench: &mut Bench, place: usize, request: JobRequest) -> Result<(), Ref
 
 // M first final N iterations converged turns S .. V .. D .. H digest
 fn put_played(output: &mut Output, bench: &Bench, place: usize, turns: Turns, request: JobRequest)
-    ensures { Adds [] output.old output.new }
+    ensures { Tells [] output.old output.new }
 {
     let mut found = rows::zero_result();
     let number = benchcalls::fetch(bench, place, &mut found);

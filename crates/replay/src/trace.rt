@@ -1,7 +1,8 @@
 // Job lines of kind 5: a lens traced in one slot.
 ghost use Rattle.std.specs.Prelude.{◌≡◌, [], OnOk, OnErr};
 ghost use Rattle.answers.specs.Heads.{head_texts};
-ghost use Rattle.answers.specs.Lines.{whole, Adds};
+ghost use Rattle.answers.specs.Lines.{whole};
+ghost use Rattle.replay.specs.Replies.{Tells};
 ghost use Rattle.replay.specs.Lines.{slot_from};
 
 use crate::marks;
@@ -15,7 +16,7 @@ use text::reader::{Reader, Wrong};
 // Kind 5 has a slot as its setting.
 pub(crate) fn answer(output: &mut Output, reader: &mut Reader, job: JobLine) -> Result<(), Wrong>
     ensures value { result ≡ whole reader.old.line.now (slot_from reader.old.line.now reader.old.at) }
-    ensures ok { OnOk result (Adds (head_texts reader.old.line.now 5) output.old output.new) }
+    ensures ok { OnOk result (Tells (head_texts reader.old.line.now 5) output.old output.new) }
     ensures err { OnErr result (output.new ≡ output.old) }
 {
     let slot = reader.decimal()? as usize;
@@ -26,7 +27,7 @@ pub(crate) fn answer(output: &mut Output, reader: &mut Reader, job: JobLine) -> 
 }
 
 fn put_trace(output: &mut Output, prescription: OpticalPrescription, slot: usize)
-    ensures { Adds [] output.old output.new }
+    ensures { Tells [] output.old output.new }
 {
     let count = prescription.surface_count;
     let t = lending::trace_over(prescription, slot, marks::marked_rays(), count);
@@ -45,7 +46,7 @@ fn put_done(
     slot: usize,
     rays: [ParaxialRay; 16],
 )
-    ensures { Adds [] output.old output.new }
+    ensures { Tells [] output.old output.new }
 {
     let count = prescription.surface_count;
     if !marks::are_marked(&rays[count.min(16)..]) || !are_others_refused(prescription, slot) {

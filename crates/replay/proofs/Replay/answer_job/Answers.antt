@@ -5,17 +5,17 @@ use Rattle.std.proofs.lemmas.Result.{on_ok_weaker}
 use Rattle.streams.specs.declared.output.Output.{Output}
 use Rattle.streams.specs.OutputLaws.{puts_as}
 use Rattle.answers.specs.Heads.{head_texts}
-use Rattle.answers.specs.Lines.{Adds}
-use Rattle.answers.specs.LineLaws.{adds_behind}
 use Rattle.replay.specs.declared.Replay.{Replay}
 use Rattle.replay.specs.Lines.{Done}
 use Rattle.replay.specs.Moves.{stays}
+use Rattle.replay.specs.Replies.{Tells}
+use Rattle.replay.proofs.Tells.{tells_behind}
 use Rattle.replay.proofs.Replay.answer_job.Goals as goal
 
 -- nothing is played
-unplayed : {k kind : ℕ} {o n : Output} {line : List ℕ} (p : Replay) → kind ≡ k → Adds (head_texts line k) o n → Done kind p o line p n
+unplayed : {k kind : ℕ} {o n : Output} {line : List ℕ} (p : Replay) → kind ≡ k → Tells (head_texts line k) o n → Done kind p o line p n
 unplayed {o = o} {n = n} {line = line} p e a = record {
-  answer = subst (λ (k : ℕ). Adds (head_texts line k) o n) (sym e) a;
+  answer = subst (λ (k : ℕ). Tells (head_texts line k) o n) (sym e) a;
   moved = stays p.bench;
   alone = λ h. refl;
 }
@@ -34,7 +34,7 @@ returns-in_ok-end-in_default-clause-ok c =
     let a = c.args in
     let head = puts_as (ap (λ (line : Bor (List ℕ)). head_texts line.now a.kind) c.read_request.ensures.same) c.put_head.ensures in
     record {
-      answer = adds_behind head c.answer-in_default.ensures.answer;
+      answer = tells_behind head c.answer-in_default.ensures.answer;
       moved = c.answer-in_default.ensures.moved;
       alone = λ h. absurd (grind (arith, nat_tests));
     }

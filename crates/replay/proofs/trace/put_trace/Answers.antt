@@ -1,7 +1,6 @@
--- `replay::trace::put_trace` meets its contract: a refusal is counted. Assumes nothing.
-use Rattle.std.proofs.Common.{true, [], Some}
-use Rattle.answers.specs.LineLaws.{adds_by}
+-- `replay::trace::put_trace` meets its contract: it puts one reply. Assumes nothing.
+use Rattle.replay.specs.Replies.{refused, failed}
 use Rattle.replay.proofs.trace.put_trace.Goals as goal
 
 pub returns-in-Err : goal.returns-in-Err
-returns-in-Err c = adds_by (Some true) [] _ c.put_refused.ensures
+returns-in-Err c = record { reply = refused _ _; puts = c.put_refused.ensures }

@@ -1,0 +1,2 @@
+-- A law that proofs of several functions cite.
+pub mod Tells
