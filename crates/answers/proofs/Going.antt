@@ -1,5 +1,5 @@
 -- The loop over lines, as far as it has come. Assumes nothing.
-use Rattle.std.proofs.Common.{◌≡◌, ℕ, suc, ◌+◌, ◌-◌, ◌^◌, true, List, [], ◌∷◌, length, refl, sym, ap, ◌∙◌, add-one}
+use Rattle.std.proofs.Common.{◌≡◌, ℕ, suc, ◌+◌, ◌-◌, ◌^◌, ◌&&◌, true, List, [], ◌∷◌, length, refl, sym, ap, ◌∙◌, add-one}
 use Rattle.streams.specs.Input.{is_open}
 use Rattle.answers.specs.Lines.{LineForm, Giving, Stand, Steps, OpenStep, LinesAnswered}
 
@@ -19,6 +19,6 @@ module _ {S : Type 0} (form : LineForm) (gives : Giving S) where
   pub over
       : {s t : Stand S} {n : ℕ}
       → Going s t n
-      → (is_open t.input ≡ true → t.output.waiting.is_good ≡ true → n ≡ 2 ^ 64 - 1)
+      → ((is_open t.input && t.output.waiting.is_good) ≡ true → n ≡ 2 ^ 64 - 1)
       → LinesAnswered form gives s t
-  over g e = record { between = g.between; steps = g.steps; ended = λ h good. g.long ∙ e h good }
+  over g e = record { between = g.between; steps = g.steps; ended = λ h. g.long ∙ e h }

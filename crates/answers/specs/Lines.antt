@@ -1,5 +1,5 @@
 -- The lines of the input, answered one after the other by a program. Definitions only.
-use Rattle.std.specs.Prelude.{◌≡◌, ℕ, ◌-◌, ◌^◌, ◌≤◌, min, Bool, true, false, List, [], ◌∷◌, ◌++◌, length, Option, Some, None, Result, Ok, Err}
+use Rattle.std.specs.Prelude.{◌≡◌, ℕ, ◌-◌, ◌^◌, ◌≤◌, ◌&&◌, min, Bool, true, false, List, [], ◌∷◌, ◌++◌, length, Option, Some, None, Result, Ok, Err}
 use Rattle.text.specs.declared.fields.Field.{Field}
 use Rattle.text.specs.declared.reader.Wrong.{Wrong}
 use Rattle.text.specs.Reader.{giving, end_from}
@@ -88,8 +88,7 @@ module _ {S : Type 0} (form : LineForm) (gives : Giving S) where
 
   -- it is taken while a line may come and no write failed
   pub record OpenStep (s t : Stand S) : Type 0 where
-    pub open_before : is_open s.input ≡ true
-    pub good_before : s.output.waiting.is_good ≡ true
+    pub goes_on : (is_open s.input && s.output.waiting.is_good) ≡ true
     pub step : Step s t
 
   -- The lines are answered by such steps alone: they end where no line may come any more, or where a write failed; and at a number of steps that no run
@@ -97,7 +96,7 @@ module _ {S : Type 0} (form : LineForm) (gives : Giving S) where
   pub record LinesAnswered (s t : Stand S) : Type 0 where
     pub between : List (Stand S)
     pub steps : Steps OpenStep s between t
-    pub ended : is_open t.input ≡ true → t.output.waiting.is_good ≡ true → length between ≡ 2 ^ 64 - 1
+    pub ended : (is_open t.input && t.output.waiting.is_good) ≡ true → length between ≡ 2 ^ 64 - 1
 
   -- All lines, from an input of which nothing is read on and an output in which nothing waits; then comes what `sums` says.
   pub record AllAnswered (sums : S → Output → Output → Type 0) (p q : S) : Type 0 where

@@ -1,5 +1,6 @@
 // The lines of the input, answered one after the other by a program.
-ghost use Rattle.std.specs.Prelude.{◌≡◌, ◌≤◌, length, IfSome, OnOk, OnErr};
+ghost use Rattle.std.specs.Prelude.{◌≡◌, ◌≤◌, ◌&&◌, length, IfSome, OnOk, OnErr};
+ghost use Rattle.streams.specs.Input.{is_open};
 ghost use Rattle.streams.specs.declared.output.Output.{Output};
 ghost use Rattle.answers.specs.Lines.{LineForm, Giving, LineAnswered, FoundAnswered, stand, Step, LinesAnswered, AllAnswered};
 
@@ -79,6 +80,13 @@ fn answer_next<P: Program>(
     input::go_on(console, buf, found)
 }
 
+// Whether a line may come and no write failed.
+fn goes_on(output: &Output, input: Input) -> bool
+    ensures { result ≡ (is_open input && output.now.waiting.is_good) }
+{
+    input.is_open() && output.waiting.is_good
+}
+
 // Answers line after line, up to where none may come any more or a write failed. A proved loop has to end, and nothing says that
 // the input does: so the steps are counted, up to a number that no run reaches.
 fn answer_lines<P: Program>(
@@ -93,7 +101,7 @@ fn answer_lines<P: Program>(
     ensures { LinesAnswered P.form P.gives (stand program.old output.old buf.old input) (stand program.new output.new buf.new result) }
 {
     for _ in 0..u64::MAX {
-        if !input.is_open() || !output.waiting.is_good {
+        if !goes_on(output, input) {
             break;
         }
         input = answer_next(program, console, output, buf, input);
