@@ -9,5 +9,10 @@ returns-then-number-gt0 c = record { reply = refused _ true; puts = c.put_refuse
 
 pub returns : goal.returns
 returns c =
-    let behind = puts_then c.put_number.ensures (puts_then c.put_lens.ensures c.put_digest.ensures) in
-    record { reply = played _ _ _ _ _; puts = puts_then c.put_outcome.ensures behind }
+    let a = c.args in
+    let surfaces = a.request.prescription.surface_count in
+    let operands = a.request.merit_function.operand_count in
+    record {
+      reply = played c.fetch-number.new.res a.turns.count surfaces operands a.turns.hash;
+      puts = puts_then (puts_then (puts_then c.put_outcome.ensures c.put_number.ensures) c.put_lens.ensures) c.put_digest.ensures;
+    }

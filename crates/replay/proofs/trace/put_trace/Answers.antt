@@ -4,3 +4,6 @@ use Rattle.replay.proofs.trace.put_trace.Goals as goal
 
 pub returns-in-Err : goal.returns-in-Err
 returns-in-Err c = record { reply = refused _ _; puts = c.put_refused.ensures }
+
+pub returns-in-Ok-Failed : goal.returns-in-Ok-Failed
+returns-in-Ok-Failed c = record { reply = failed _; puts = c.put_failed.ensures }
