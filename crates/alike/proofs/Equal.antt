@@ -16,7 +16,7 @@ use Rattle.held.specs.declared.types.HeldRow.{HeldRow}
 use Rattle.held.specs.declared.types.HeldRun.{HeldRun}
 use Rattle.bench.specs.declared.types.Bench.{Bench}
 use Rattle.bench.specs.Benches.{no_row, held_at}
-use Rattle.alike.specs.Same.{same_float, same_floats, same_words, same_job, same_head, same_run, same_best, same_row, same_bench}
+use Rattle.alike.specs.Same.{same_float, same_floats, same_words, same_job, same_head, same_lens, same_step, same_run, same_best, same_row, same_bench}
 use Rattle.alike.specs.Same.{same_surface, same_surfaces, same_merits, same_result}
 
 -- ---- what 64 bits hold
@@ -106,14 +106,22 @@ one-head a b f g e =
     let parts = both _ _ (one-words a.words b.words) (one-array a.scalars b.scalars f g) e in
     λ i. record { words = parts.0 i; scalars = parts.1 i }
 
+module _ (a b : HeldRun) (f : RunFits a) (g : RunFits b) where
+  one-lens : same_lens a b ≡ true → (a.surfaces ≡ b.surfaces) × ((a.values ≡ b.values) × (a.residuals ≡ b.residuals))
+  one-lens = both _ _ (one-array a.surfaces b.surfaces f.surfaces g.surfaces) (
+      both _ _ (one-array a.values b.values f.values g.values) (one-array a.residuals b.residuals f.residuals g.residuals))
+
+  one-step : same_step a b ≡ true
+      → (a.jacobian ≡ b.jacobian) × ((a.plus_residuals ≡ b.plus_residuals) × ((a.params ≡ b.params) × (a.candidate ≡ b.candidate)))
+  one-step = both _ _ (one-array a.jacobian b.jacobian f.jacobian g.jacobian) (
+      both _ _ (one-array a.plus_residuals b.plus_residuals f.plus_residuals g.plus_residuals) (
+      both _ _ (one-array a.params b.params f.params g.params) (one-array a.candidate b.candidate f.candidate g.candidate)))
+
 one-run : (a b : HeldRun) → RunFits a → RunFits b → same_run a b ≡ true → a ≡ b
 one-run a b f g e =
     let parts = both _ _ (one-array a.surfaces b.surfaces f.surfaces g.surfaces) (
     both _ _ (one-array a.values b.values f.values g.values) (
-    both _ _ (one-array a.residuals b.residuals f.residuals g.residuals) (
-    both _ _ (one-array a.jacobian b.jacobian f.jacobian g.jacobian) (
-    both _ _ (one-array a.plus_residuals b.plus_residuals f.plus_residuals g.plus_residuals) (
-    both _ _ (one-array a.params b.params f.params g.params) (one-array a.candidate b.candidate f.candidate g.candidate)))))) e in
+    both _ _ (one-array a.residuals b.residuals f.residuals g.residuals) (one-step a b f g))) e in
     λ i. record {
       surfaces = parts.0 i;
       jacobian = parts.1.1.1.0 i;

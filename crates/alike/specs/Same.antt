@@ -35,13 +35,19 @@ same_job a b = same_words a.counts b.counts && same_floats a.numbers b.numbers
 abbrev pub same_head : HeldHead → HeldHead → Bool
 same_head a b = same_words a.words b.words && same_floats a.scalars b.scalars
 
+-- the lens that a run has come to, and what its step has
+abbrev pub same_lens : HeldRun → HeldRun → Bool
+same_lens a b = same_floats a.surfaces b.surfaces && (same_floats a.values b.values && same_floats a.residuals b.residuals)
+
+abbrev pub same_step : HeldRun → HeldRun → Bool
+same_step a b =
+    same_floats a.jacobian b.jacobian
+    && (same_floats a.plus_residuals b.plus_residuals && (same_floats a.params b.params && same_floats a.candidate b.candidate))
+
+-- both
 abbrev pub same_run : HeldRun → HeldRun → Bool
 same_run a b =
-    same_floats a.surfaces b.surfaces
-    && (same_floats a.values b.values
-    && (same_floats a.residuals b.residuals
-    && (same_floats a.jacobian b.jacobian
-    && (same_floats a.plus_residuals b.plus_residuals && (same_floats a.params b.params && same_floats a.candidate b.candidate)))))
+    same_floats a.surfaces b.surfaces && (same_floats a.values b.values && (same_floats a.residuals b.residuals && same_step a b))
 
 abbrev pub same_best : HeldBest → HeldBest → Bool
 same_best a b = same_floats a.surfaces b.surfaces && (same_floats a.values b.values && same_floats a.residuals b.residuals)
