@@ -1,8 +1,8 @@
 // The leaf lines: a name, and the numbers that the function of that name is asked at.
 ghost use Rattle.std.specs.Prelude.{◌≡◌, [], ◌∷◌, ◌++◌, OnOk, OnErr};
 ghost use Rattle.streams.specs.Output.{Puts};
-ghost use Rattle.leaves.specs.Lines.{leaf_rest, one_number, seed_and_count, two_in_hex, seed_and_two, with_bounds, ReadAs, Onto, line_texts};
-ghost use Rattle.leaves.specs.Replies.{reply_texts};
+ghost use Rattle.leaves.specs.Lines.{leaf_rest, one_number, seed_and_count, two_in_hex, seed_and_two, with_bounds, ReadAs, Answers, line_texts};
+ghost use Rattle.leaves.specs.Replies.{reply_texts, IsReply};
 
 use crate::names::Leaf;
 use crate::pieces;
@@ -117,7 +117,7 @@ fn put_reply(output: &mut Output, reply: Reply)
 // Answers a line of that name, from where the name ends.
 pub(crate) fn answer(output: &mut Output, reader: &mut Reader, leaf: Leaf) -> Result<(), Wrong>
     ensures value { result ≡ leaf_rest leaf reader.old.line.now reader.old.at }
-    ensures ok { OnOk result (Onto (line_texts reader.old.line.now) output.old output.new) }
+    ensures ok { OnOk result (Answers (line_texts reader.old.line.now) IsReply output.old output.new) }
     ensures err { OnErr result (output.new ≡ output.old) }
 {
     let reply = reply_to(reader, leaf)?;
