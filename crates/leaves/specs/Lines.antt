@@ -11,12 +11,13 @@ use Rattle.streams.specs.declared.output.Output.{Output}
 use Rattle.streams.specs.Output.{Puts, float_texts}
 use Rattle.answers.specs.Lines.{whole}
 use Rattle.leaves.specs.declared.Leaves.{Leaves}
+use Rattle.leaves.specs.declared.leaf.Reply.{Reply}
 use Rattle.leaves.specs.declared.names.Leaf.{Leaf}
 use Rattle.leaves.specs.declared.names.Leaf.TheVariants.{Exp, Sqrt, Abs, Draw, Jump, Uniform, Clamp}
 use Rattle.leaves.specs.declared.names.Name.{Name}
 use Rattle.leaves.specs.declared.names.Name.TheVariants as names
 use Rattle.leaves.specs.Names.{name_of}
-use Rattle.leaves.specs.Replies.{Answer, answer_texts, IsReply, IsSolution, IsEquations}
+use Rattle.leaves.specs.Replies.{Sort, sort_of, Answer, answer_texts, IsReply, IsSolution, IsEquations}
 
 -- what a line is, from where its name ends on
 abbrev pub Rest : Type 0
@@ -89,9 +90,10 @@ named (Err w) = λ line at. Err w
 abbrev pub line_form : List ℕ → Result (Unit {0}) Wrong
 line_form line = named (name_of (text_of line (word_from line 0))) line (past_word line 0)
 
--- what is read of a line by such a rest of it: an answer where it is in form; the reader keeps the line
-pub record ReadAs {A : Type 0} (rest : Rest) (r : Reader) (result : Result A Wrong) (n : Reader) : Type 0 where
+-- what is read of a line by such a rest of it: a reply of that sort where it is in form; the reader keeps the line
+pub record ReadAs (rest : Rest) (sort : Sort) (r : Reader) (result : Result Reply Wrong) (n : Reader) : Type 0 where
   pub value : giving tt result ≡ rest r.line.now r.at
+  pub sort_is : IfOk result (λ reply. sort_of reply ≡ sort)
   pub same : n.line ≡ r.line
 
 -- the line as it stands, and ` =`
@@ -112,7 +114,7 @@ normal_choice line at answer = IfOk (within_from 1 12 Range line at) (λ m. IfOk
 
 -- behind a name
 abbrev pub named_choice : Result Name Wrong → Choice
-named_choice (Ok (names.Leaf leaf)) = λ line at. IsReply
+named_choice (Ok (names.Leaf leaf)) = λ line at. IsReply leaf
 named_choice (Ok names.Solve) = solve_choice
 named_choice (Ok names.Normal) = normal_choice
 named_choice (Err w) = λ line at answer. ⊥
