@@ -8,4 +8,8 @@ use Rattle.leaves.proofs.leaf.answer.Goals as goal
 pub returns-clause-ok : goal.returns-clause-ok
 returns-clause-ok c =
     let line = puts_as (ap (λ (l : Bor (List ℕ)). line_texts l.now) c.reply_to.ensures.same) c.put_line.ensures in
-    record { answer = replied c.in_ok-reply.reply; is = c.in_ok-reply.ensures.sort_is; puts = puts_then line (puts_then c.put_reply.ensures c.end_line.ensures) }
+    record {
+      answer = replied c.in_ok-reply.reply;
+      is = c.in_ok-reply.ensures.sort_is;
+      puts = puts_then line (puts_then c.put_reply.ensures c.end_line.ensures);
+    }
