@@ -1,3 +1,3 @@
 -- Laws that proofs of several functions cite.
-pub mod Onto
 pub mod Past
+pub mod Rows

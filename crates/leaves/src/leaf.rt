@@ -1,8 +1,8 @@
 // The leaf lines: a name, and the numbers that the function of that name is asked at.
 ghost use Rattle.std.specs.Prelude.{◌≡◌, [], ◌∷◌, ◌++◌, OnOk, OnErr};
 ghost use Rattle.streams.specs.Output.{Puts};
-ghost use Rattle.leaves.specs.Lines.{leaf_rest, one_number, seed_and_count, two_in_hex, seed_and_two, with_bounds, ReadAs, Onto, line_texts};
-ghost use Rattle.leaves.specs.Replies.{reply_texts};
+ghost use Rattle.leaves.specs.Lines.{leaf_rest, one_number, seed_and_count, two_in_hex, seed_and_two, with_bounds, ReadAs, Answers, line_texts};
+ghost use Rattle.leaves.specs.Replies.{reply_texts, a_number, two_numbers, a_draw, a_state, leaf_sort, IsReply};
 
 use crate::names::Leaf;
 use crate::pieces;
@@ -19,9 +19,9 @@ enum Reply {
 }
 
 // The reply to a line of that name, from where the name ends.
-#[tactic(auto, unfolding(crate::specs::Lines::leaf_rest))]
+#[tactic(auto, unfolding(crate::specs::Lines::leaf_rest, crate::specs::Replies::leaf_sort))]
 fn reply_to(reader: &mut Reader, leaf: Leaf) -> Result<Reply, Wrong>
-    ensures { ReadAs (leaf_rest leaf) reader.old result reader.new }
+    ensures { ReadAs (leaf_rest leaf) (leaf_sort leaf) reader.old result reader.new }
 {
     match leaf {
         Leaf::Exp => value(reader, |x| floats::exp_stand_in(x)),
@@ -37,7 +37,7 @@ fn reply_to(reader: &mut Reader, leaf: Leaf) -> Result<Reply, Wrong>
 // E x, SQRT x, ABS x
 fn value<F: Fn(f64) -> f64>(reader: &mut Reader, function: F) -> Result<Reply, Wrong>
     requires { F.IsAlwaysCallable function }
-    ensures { ReadAs one_number reader.old result reader.new }
+    ensures { ReadAs one_number a_number reader.old result reader.new }
 {
     let x = reader.float()?;
     reader.end()?;
@@ -46,7 +46,7 @@ fn value<F: Fn(f64) -> f64>(reader: &mut Reader, function: F) -> Result<Reply, W
 
 // DRAW seed n: the state after n draws, and its unit draw; zeros where n is 0, as the oracle has it.
 fn draw(reader: &mut Reader) -> Result<Reply, Wrong>
-    ensures { ReadAs seed_and_count reader.old result reader.new }
+    ensures { ReadAs seed_and_count a_draw reader.old result reader.new }
 {
     let seed = reader.hex()?;
     let draws = reader.decimal()?;
@@ -60,7 +60,7 @@ fn draw(reader: &mut Reader) -> Result<Reply, Wrong>
 
 // JUMP state n: the state after n draws. It is a state and no seed: 0 stays 0.
 fn jumped(reader: &mut Reader) -> Result<Reply, Wrong>
-    ensures { ReadAs two_in_hex reader.old result reader.new }
+    ensures { ReadAs two_in_hex a_state reader.old result reader.new }
 {
     let state = reader.hex()?;
     let draws = reader.hex()?;
@@ -70,7 +70,7 @@ fn jumped(reader: &mut Reader) -> Result<Reply, Wrong>
 
 // UNIFORM seed a b: the first draw
 fn uniform(reader: &mut Reader) -> Result<Reply, Wrong>
-    ensures { ReadAs seed_and_two reader.old result reader.new }
+    ensures { ReadAs seed_and_two a_number reader.old result reader.new }
 {
     let seed = reader.hex()?;
     let a = reader.float()?;
@@ -82,7 +82,7 @@ fn uniform(reader: &mut Reader) -> Result<Reply, Wrong>
 
 // CLAMP x lo hi: Rust's clamp, and that of applied values. Rust's has no answer at crossed bounds: the upper is out of form.
 fn clamp(reader: &mut Reader) -> Result<Reply, Wrong>
-    ensures { ReadAs with_bounds reader.old result reader.new }
+    ensures { ReadAs with_bounds two_numbers reader.old result reader.new }
 {
     let x = reader.float()?;
     let lo = reader.float()?;
@@ -117,7 +117,7 @@ fn put_reply(output: &mut Output, reply: Reply)
 // Answers a line of that name, from where the name ends.
 pub(crate) fn answer(output: &mut Output, reader: &mut Reader, leaf: Leaf) -> Result<(), Wrong>
     ensures value { result ≡ leaf_rest leaf reader.old.line.now reader.old.at }
-    ensures ok { OnOk result (Onto (line_texts reader.old.line.now) output.old output.new) }
+    ensures ok { OnOk result (Answers (line_texts reader.old.line.now) (IsReply leaf) output.old output.new) }
     ensures err { OnErr result (output.new ≡ output.old) }
 {
     let reply = reply_to(reader, leaf)?;

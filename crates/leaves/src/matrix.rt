@@ -2,7 +2,8 @@
 ghost use Rattle.std.specs.Prelude.{◌≡◌, ◌+◌, ◌*◌, ◌<◌, ◌≤◌, [], length, OnOk, OnErr};
 ghost use Rattle.normal.specs.Layout.{scratch_length, most_operands, most_variables};
 ghost use Rattle.text.specs.Reader.{Reads, past_floats};
-ghost use Rattle.leaves.specs.Lines.{solve_rest, normal_rest, Onto, line_texts};
+ghost use Rattle.leaves.specs.Lines.{solve_rest, normal_rest, solve_choice, normal_choice, PutsRow, Answers, line_texts};
+ghost use Rattle.leaves.specs.Replies.{IsSolution, IsEquations};
 
 use crate::pieces;
 use normal::{GRADIENT, PRODUCT, STEP, place, system_place};
@@ -43,7 +44,7 @@ fn read_right_side(reader: &mut Reader, scratch: &mut [f64], p: usize) -> Result
 // SOLVE p {entries by rows} {right side}: the solution, or `none`.
 pub(crate) fn solve(output: &mut Output, reader: &mut Reader) -> Result<(), Wrong>
     ensures value { result ≡ solve_rest reader.old.line.now reader.old.at }
-    ensures ok { OnOk result (Onto (line_texts reader.old.line.now) output.old output.new) }
+    ensures ok { OnOk result (Answers (line_texts reader.old.line.now) (solve_choice reader.old.line.now reader.old.at) output.old output.new) }
     ensures err { OnErr result (output.new ≡ output.old) }
 {
     let p = reader.within(1, 8, Why::Range)? as usize;
@@ -59,7 +60,7 @@ pub(crate) fn solve(output: &mut Output, reader: &mut Reader) -> Result<(), Wron
 fn put_solved(output: &mut Output, scratch: &mut [f64], p: usize)
     requires fact_1 { scratch_length ≤ length scratch.old }
     requires fact_2 { p ≤ most_variables }
-    ensures { Onto [] output.old output.new }
+    ensures { Answers [] (IsSolution p) output.old output.new }
 {
     if !normal::solve(scratch, p) {
         output.put(b" none\n");
@@ -85,7 +86,7 @@ fn read_columns(reader: &mut Reader, jacobian: &mut [f64], m: usize, p: usize) -
 // NORMAL m p {entries by columns} {residuals}: J^T J by rows, J^T r, and its norm.
 pub(crate) fn normal(output: &mut Output, reader: &mut Reader) -> Result<(), Wrong>
     ensures value { result ≡ normal_rest reader.old.line.now reader.old.at }
-    ensures ok { OnOk result (Onto (line_texts reader.old.line.now) output.old output.new) }
+    ensures ok { OnOk result (Answers (line_texts reader.old.line.now) (normal_choice reader.old.line.now reader.old.at) output.old output.new) }
     ensures err { OnErr result (output.new ≡ output.old) }
 {
     let m = reader.within(1, 12, Why::Range)? as usize;
@@ -105,7 +106,7 @@ pub(crate) fn normal(output: &mut Output, reader: &mut Reader) -> Result<(), Wro
 fn put_equations(output: &mut Output, scratch: &[f64], p: usize, norm: f64)
     requires fact_1 { scratch_length ≤ length scratch.now }
     requires fact_2 { p ≤ most_variables }
-    ensures { Onto [] output.old output.new }
+    ensures { Answers [] (IsEquations p) output.old output.new }
 {
     put_product(output, scratch, p);
     output.put_floats(&scratch[GRADIENT..GRADIENT + p]);
@@ -117,8 +118,9 @@ fn put_equations(output: &mut Output, scratch: &[f64], p: usize, norm: f64)
 fn put_product(output: &mut Output, scratch: &[f64], p: usize)
     requires fact_1 { scratch_length ≤ length scratch.now }
     requires fact_2 { p ≤ most_variables }
-    ensures { Onto [] output.old output.new }
+    ensures { PutsRow (p * p) output.old output.new }
 {
+    output.clip();
     for i in 0..p {
         put_product_row(output, scratch, p, i);
     }
@@ -128,8 +130,9 @@ fn put_product_row(output: &mut Output, scratch: &[f64], p: usize, i: usize)
     requires fact_1 { scratch_length ≤ length scratch.now }
     requires fact_2 { p ≤ most_variables }
     requires fact_3 { i < p }
-    ensures { Onto [] output.old output.new }
+    ensures { PutsRow p output.old output.new }
 {
+    output.clip();
     for j in 0..p {
         let entry = scratch[PRODUCT + place(i, j)];
         output.put_floats(&[entry]);

@@ -2,6 +2,7 @@
 ghost use Rattle.std.specs.Prelude.{[], ◌∷◌};
 ghost use Rattle.streams.specs.Output.{Puts, blank, hex_text};
 ghost use Rattle.leaves.specs.Lines.{line_texts};
+ghost use Rattle.leaves.specs.Replies.{line_end};
 
 use streams::output::Output;
 
@@ -22,7 +23,7 @@ pub(crate) fn put_state(output: &mut Output, x: u64)
 }
 
 pub(crate) fn end_line(output: &mut Output)
-    ensures { Puts output.old ((10 ∷ []) ∷ []) output.new }
+    ensures { Puts output.old line_end output.new }
 {
     output.put(b"\n");
 }

@@ -1,7 +1,6 @@
--- `leaves::matrix::put_product_row` meets its contract: texts alone are added. Assumes nothing.
-use Rattle.std.proofs.Common.{[]}
-use Rattle.leaves.specs.Lines.{Onto}
+-- `leaves::matrix::put_product_row` meets its contract: after j numbers a row of j is put. Assumes nothing.
+use Rattle.leaves.specs.Lines.{PutsRow}
 use Rattle.leaves.proofs.matrix.put_product_row.Given as goal
 
 abbrev pub invariant-loop-j : goal.invariant-loop-j
-invariant-loop-j l = Onto [] l.initial.output l.output
+invariant-loop-j l = PutsRow l.j l.fn.output l.output
