@@ -1,9 +1,10 @@
 -- `callplay::answer::answer` meets its contract: turns are taken and dealt with as much scratch as the line says. Assumes nothing.
-use Rattle.std.proofs.Common.{◌≡◌, ℕ, min, List, [], ◌∷◌, take, replicate, nat_lt, sym, ap, ◌∙◌, subst, arith, Float}
-use Rattle.std.proofs.lemmas.List.{take-replicate}
+use Rattle.std.proofs.Common.{◌≡◌, ℕ, min, List, [], ◌∷◌, length, take, replicate, nat_lt, refl, sym, ap, ◌∙◌, subst, arith, Float}
+use Rattle.std.proofs.lemmas.List.{take-replicate, length-replicate}
 use Rattle.std.specs.Float.Ieee.{of_bits}
 use Rattle.std.specs.Float.{binary64}
 use Rattle.bench.specs.declared.types.Bench.{Bench}
+use Rattle.bench.specs.Calls.{dealt_of, dealt_bench}
 use Rattle.benchcalls.specs.Play.{Play, played_of}
 use Rattle.streams.specs.declared.output.Output.{Output}
 use Rattle.streams.specs.Output.{with_refused, Puts}
@@ -33,6 +34,12 @@ of_call
     → Puts (counted (count_of call b) o) (answer_texts call b) n
 of_call o {n} b e p = subst (λ (k : Call). Puts (counted (count_of k b) o) (answer_texts k b) n) (sym e) p
 
+pub returns-in-Admit-clause-answer : goal.returns-in-Admit-clause-answer
+unfolding count_of answer_texts
+returns-in-Admit-clause-answer c =
+    let o = c.args.output.now in
+    of_call o c.args.bench.now c.in-Admit.is (told o (65 ∷ []) (c.answered-number.ensures ∙ c.admit.ensures.0) refl c.put_answer.ensures)
+
 pub returns-in-Turn : goal.returns-in-Turn
 unfolding bench_after count_of answer_texts
 returns-in-Turn c =
@@ -46,3 +53,21 @@ returns-in-Turn c =
       bench = ap (λ (p : Play). p.bench) play ∙ ap (λ (k : Call). bench_after k b) (sym t.is);
       answer = of_call o b t.is (told o (84 ∷ []) number (ap (λ (p : Play). p.taken ∷ []) play) c.put_answer-in-Turn.ensures);
     }
+
+pub returns-in-Release-clause-answer : goal.returns-in-Release-clause-answer
+unfolding count_of answer_texts
+returns-in-Release-clause-answer c =
+    let o = c.args.output.now in
+    of_call o c.args.bench.now c.in-Release.is (told o (68 ∷ []) c.release-number.ensures.0 refl c.put_answer-in-Release.ensures)
+
+pub returns-in-Deal-clause-answer : goal.returns-in-Deal-clause-answer
+unfolding count_of answer_texts
+returns-in-Deal-clause-answer c =
+    let t = c.in-Deal in
+    let o = c.args.output.now in
+    let b = c.args.bench.now in
+    let zero = of_bits binary64 0 in
+    let long = ap length (part c.min-to-in-Deal.result t.room 1024 zero c.min-to-in-Deal.ensures) ∙ length-replicate (min t.room 1024) zero in
+    let dealt = c.deal-dealt.ensures.0 ∙ ap (dealt_of b t.turns) long in
+    let left = c.deal-dealt.ensures.1 ∙ ap (dealt_bench b t.turns) long in
+    of_call o b t.is (told o (78 ∷ []) (λ i. (dealt i).number) (λ i. (dealt i).dealt ∷ (left i).next_place ∷ []) c.put_answer-in-Deal.ensures)

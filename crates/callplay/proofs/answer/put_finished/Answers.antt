@@ -42,7 +42,7 @@ returns c =
     let found = c.finished_places-finished in
     let four : length found.result.places ≡ 4 = search rules in
     let same = ap (λ (f : Finished). take n f.places) found.ensures in
-    let listed =
-    all_listed places n (c.min-n.ensures ∙ ap (λ (f : Finished). min f.count 4) found.ensures) (sym (ap (λ (f : Finished). length f.places) found.ensures) ∙ four) in
-    let all = take_all l.place-index (take n found.result.places) c.loop-place-test.false ∙ same ∙ listed in
+    let count = c.min-n.ensures ∙ ap (λ (f : Finished). min f.count 4) found.ensures in
+    let long = sym (ap (λ (f : Finished). length f.places) found.ensures) ∙ four in
+    let all = take_all l.place-index (take n found.result.places) c.loop-place-test.false ∙ same ∙ all_listed places n count long in
     puts_then (puts_as (ap (λ (m : List ℕ). number_texts (76 ∷ []) (length places) ++ numbers_texts m) all) l.invariant) c.end_line.ensures
