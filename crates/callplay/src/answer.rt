@@ -1,7 +1,10 @@
 // The calls, done on the bench, and what is put of each.
-ghost use Rattle.std.specs.Prelude.{◌≡◌, [], ◌∷◌};
-ghost use Rattle.answers.specs.Lines.{Adds};
-ghost use Rattle.callplay.specs.Calls.{bench_after, first_word};
+ghost use Rattle.std.specs.Prelude.{◌≡◌, nat_lt};
+ghost use Rattle.bench.specs.Calls.{fetch_number};
+ghost use Rattle.streams.specs.Output.{Puts, with_refused};
+ghost use Rattle.answers.specs.Lines.{counted};
+ghost use Rattle.callplay.specs.Answers.{fetch_texts, list_texts};
+ghost use Rattle.callplay.specs.Calls.{bench_after, count_of, answer_texts};
 
 use crate::call::Call;
 use crate::pieces;
@@ -11,10 +14,10 @@ use streams::output::Output;
 // As much of scratch as there is here: past that more would change nothing.
 const SCRATCH: usize = 1024;
 
-#[tactic(auto, unfolding(crate::specs::Calls::bench_after, crate::specs::Calls::first_word))]
+#[tactic(auto, unfolding(crate::specs::Calls::bench_after, crate::specs::Calls::count_of, crate::specs::Calls::answer_texts))]
 pub(crate) fn answer(output: &mut Output, bench: &mut Bench, call: Call)
     ensures bench { bench.new ≡ bench_after call bench.old }
-    ensures answer { Adds (first_word call ∷ []) output.old output.new }
+    ensures answer { Puts (counted (count_of call bench.old) output.old) (answer_texts call bench.old) output.new }
 {
     match call {
         Call::Empty => {
@@ -50,7 +53,7 @@ pub(crate) fn answer(output: &mut Output, bench: &mut Bench, call: Call)
 
 // F number result
 fn put_fetched(output: &mut Output, bench: &Bench, place: usize)
-    ensures { Adds ((70 ∷ []) ∷ []) output.old output.new }
+    ensures { Puts (with_refused (nat_lt 0 (fetch_number bench.now place)) output.old) (fetch_texts bench.now place) output.new }
 {
     let mut found = rows::zero_result();
     let number = benchcalls::fetch(bench, place, &mut found);
@@ -69,7 +72,7 @@ fn put_fetched(output: &mut Output, bench: &Bench, place: usize)
 
 // L count {place}, in the order that the call gave
 fn put_finished(output: &mut Output, bench: &Bench)
-    ensures { Adds ((76 ∷ []) ∷ []) output.old output.new }
+    ensures { Puts output.old (list_texts bench.now) output.new }
 {
     let finished = benchcalls::finished_places(bench);
     let n = finished.count.min(4);

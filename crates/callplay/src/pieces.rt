@@ -1,8 +1,8 @@
 // Pieces of answers.
-ghost use Rattle.std.specs.Prelude.{[], ◌∷◌, nat_lt};
+ghost use Rattle.std.specs.Prelude.{nat_lt};
 ghost use Rattle.streams.specs.Output.{Puts, with_refused};
-ghost use Rattle.answers.specs.Lines.{Adds};
 ghost use Rattle.answers.specs.Pieces.{number_texts};
+ghost use Rattle.callplay.specs.Answers.{call_texts, end_texts};
 
 use streams::output::Output;
 
@@ -16,7 +16,7 @@ pub(crate) fn put_name(output: &mut Output, name: &[u8], number: u32)
 
 // name number {more}
 pub(crate) fn put_answer(output: &mut Output, name: &[u8], number: u32, more: &[u64])
-    ensures { Adds (name.now ∷ []) output.old output.new }
+    ensures { Puts (with_refused (nat_lt 0 number) output.old) (call_texts name.now number more.now) output.new }
 {
     put_name(output, name, number);
     for x in more {
@@ -26,7 +26,7 @@ pub(crate) fn put_answer(output: &mut Output, name: &[u8], number: u32, more: &[
 }
 
 pub(crate) fn end_line(output: &mut Output)
-    ensures { Puts output.old ((10 ∷ []) ∷ []) output.new }
+    ensures { Puts output.old end_texts output.new }
 {
     output.put(b"\n");
 }

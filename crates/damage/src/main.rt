@@ -5,10 +5,11 @@
 // Stands on `benchcalls`, `joblines`, `answers` and `same`; a program that only tests.
 #![tactic(auto)]
 
-ghost use Rattle.std.specs.Prelude.{◌≡◌, []};
+ghost use Rattle.std.specs.Prelude.{◌≡◌};
 ghost use Rattle.text.specs.Reader.{giving};
-ghost use Rattle.answers.specs.Lines.{Adds};
+ghost use Rattle.streams.specs.Output.{Puts};
 ghost use Rattle.damage.specs.Lines.{request_line, Tried};
+ghost use Rattle.damage.specs.Tally.{tally_texts};
 
 mod change;
 mod deals;
@@ -50,7 +51,7 @@ impl Program for Examined {
 
     ghost gives = { Tried };
 
-    ghost sums = { λ p. Adds [] };
+    ghost sums = { λ p o n. Puts o (tally_texts p.tally) n };
 
     // Nothing is put. A job that is refused is counted, and leaves no rows.
     fn answer(&mut self, output: &mut Output, line: &[u8], _number: u64) -> Result<(), Wrong> {

@@ -1,8 +1,6 @@
 // How many rows were tried, and how many answered right, for each entry; and what is printed of that.
-ghost use Rattle.std.specs.Prelude.{[], ◌∷◌, ◌++◌};
 ghost use Rattle.streams.specs.Output.{Puts};
-ghost use Rattle.answers.specs.Lines.{Adds};
-ghost use Rattle.answers.specs.Pieces.{number_texts};
+ghost use Rattle.damage.specs.Tally.{line_texts, tally_texts};
 
 use crate::entries::ENTRIES;
 use streams::output::Output;
@@ -28,7 +26,7 @@ pub(crate) const NONE: Tally = [Count { tried: 0, right: 0 }; 56];
 
 // A name and its two numbers.
 fn put_line(output: &mut Output, name: &[u8], count: Count)
-    ensures { Puts output.old (number_texts name.now count.tried ++ number_texts [] count.right ++ ((10 ∷ []) ∷ [])) output.new }
+    ensures { Puts output.old (line_texts name.now count) output.new }
 {
     answers::put_number(output, name, count.tried);
     answers::put_number(output, b"", count.right);
@@ -36,8 +34,9 @@ fn put_line(output: &mut Output, name: &[u8], count: Count)
 }
 
 pub(crate) fn put(output: &mut Output, tally: &Tally)
-    ensures { Adds [] output.old output.new }
+    ensures { Puts output.old (tally_texts tally.now) output.new }
 {
+    output.clip();
     for (entry, count) in ENTRIES.iter().zip(tally) {
         put_line(output, &entry.name, *count);
     }

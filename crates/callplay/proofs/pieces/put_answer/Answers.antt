@@ -1,13 +1,24 @@
--- `callplay::pieces::put_answer` meets its contract: the name comes first. Assumes nothing.
-use Rattle.std.proofs.Common.{[], ◌∷◌, Some, nat_lt}
-use Rattle.answers.specs.LineLaws.{adds_by, adds_more}
+-- `callplay::pieces::put_answer` meets its contract: after so many numbers what waits is what they add. Assumes nothing.
+use Rattle.std.proofs.Common.{ℕ, List, [], ◌++◌, ap, take_all}
+use Rattle.streams.specs.OutputLaws.{puts_then, puts_as}
+use Rattle.answers.specs.Entries.{all_texts}
+use Rattle.answers.specs.Pieces.{number_texts}
+use Rattle.callplay.specs.Answers.{numbers_texts}
+use Rattle.callplay.proofs.EntryLaws.{one_more}
 use Rattle.callplay.proofs.pieces.put_answer.Goals as goal
 
 pub loop-x-init : goal.loop-x-init
-loop-x-init c = adds_by (Some (nat_lt 0 c.args.number)) (c.args.name.now ∷ []) _ c.put_name.ensures
+unfolding all_texts
+loop-x-init c = c.put_name.ensures
 
 pub loop-x-preserved : goal.loop-x-preserved
-loop-x-preserved c = adds_more c.loop-x.invariant c.put_number.ensures
+loop-x-preserved c =
+    let l = c.loop-x in
+    let more = one_more (number_texts []) c.args.more.now l.x-index 0 c.loop-x-test.true in
+    puts_as (ap (λ (t : List (List ℕ)). number_texts c.args.name.now c.args.number ++ t) more) (puts_then l.invariant c.put_number.ensures)
 
 pub returns : goal.returns
-returns c = adds_more c.loop-x.invariant c.end_line.ensures
+returns c =
+    let l = c.loop-x in
+    let all = take_all l.x-index c.args.more.now c.loop-x-test.false in
+    puts_then (puts_as (ap (λ (m : List ℕ). number_texts c.args.name.now c.args.number ++ numbers_texts m) all) l.invariant) c.end_line.ensures
