@@ -1,5 +1,5 @@
 -- The lines of the input, answered one after the other by a program. Definitions only.
-use Rattle.std.specs.Prelude.{◌≡◌, ℕ, ◌-◌, ◌^◌, ◌≤◌, ◌&&◌, min, Bool, true, false, List, [], ◌∷◌, ◌++◌, length, Option, Some, None, Result, Ok, Err}
+use Rattle.std.specs.Prelude.{◌≡◌, ℕ, ◌-◌, ◌^◌, ◌≤◌, ◌&&◌, min, Bool, true, false, List, [], ◌∷◌, length, Option, Some, None, Result, Ok, Err}
 use Rattle.text.specs.declared.fields.Field.{Field}
 use Rattle.text.specs.declared.reader.Wrong.{Wrong}
 use Rattle.text.specs.Reader.{giving, end_from}
@@ -21,12 +21,6 @@ whole line (Err w) = Err w
 abbrev pub counted : Option Bool → Output → Output
 counted None o = o
 counted (Some is_refused) o = with_refused is_refused o
-
--- What an answer adds to what waits, where that lies in the buffer, as it always does: texts alone, of which these come first. One line is counted, or none.
-pub record Adds (head : List (List ℕ)) (o n : Output) : Type 0 where
-  pub refused : Option Bool
-  pub more : List (List ℕ)
-  pub puts : o.waiting.bytes ≤ length o.buffer.now → Puts (counted refused o) (head ++ more) n
 
 -- whether a line is in form, or else where it is not and why
 abbrev pub LineForm : Type 0

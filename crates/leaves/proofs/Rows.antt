@@ -1,5 +1,5 @@
 -- Rows of numbers put one after the other, and answers behind texts. Assumes nothing.
-use Rattle.std.proofs.Common.{◌≡◌, ℕ, ◌+◌, ◌-◌, ◌≤◌, List, [], ◌∷◌, ◌++◌, length, take, drop, Float, Result, Ok, IfOk}
+use Rattle.std.proofs.Common.{◌≡◌, ℕ, ◌+◌, ◌-◌, ◌≤◌, List, [], ◌++◌, length, take, drop, Float, Result, Ok, IfOk}
 use Rattle.std.proofs.Common.{refl, sym, ap, ◌∙◌, subst, arith, length-append, length-drop}
 use Rattle.std.proofs.lemmas.List.{length-take-le}
 use Rattle.text.specs.declared.fields.Field.{Field}
@@ -7,15 +7,10 @@ use Rattle.text.specs.declared.reader.Wrong.{Wrong}
 use Rattle.text.specs.Fields.{field_of}
 use Rattle.text.specs.Reader.{came}
 use Rattle.streams.specs.declared.output.Output.{Output}
-use Rattle.streams.specs.Output.{Puts, blank, float_text, float_texts, clipped, with_waiting}
-use Rattle.streams.specs.OutputLaws.{puts_then, puts_as, puts_clipped}
+use Rattle.streams.specs.Output.{Puts, float_texts, clipped, with_waiting}
+use Rattle.streams.specs.OutputLaws.{puts_then, puts_as, puts_clipped, floats-append}
 use Rattle.leaves.specs.Lines.{PutsRow, Answers}
 use Rattle.leaves.specs.Replies.{Answer, numbers, line_end}
-
-floats-append : (row more : List Float) → float_texts (row ++ more) ≡ float_texts row ++ float_texts more
-unfolding float_texts
-floats-append [] more = refl
-floats-append (x ∷ row) more = ap (λ (texts : List (List ℕ)). blank ∷ float_text x ∷ texts) (floats-append row more)
 
 -- so many numbers from a place on
 pub part_long : (at p : ℕ) (xs : List Float) → at + p ≤ length xs → length (take (at + p - at) (drop at xs)) ≡ p

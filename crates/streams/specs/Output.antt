@@ -77,12 +77,13 @@ with_refused is o = with_waiting (one_refused is o.waiting) o
 abbrev pub with_unknown : Output → Output
 with_unknown o = with_waiting (one_unknown o.waiting) o
 
--- after texts are put, what waits lies in the buffer, which is the one that was lent
+-- after texts are put, what waits lies in the buffer, which is the one that was lent, and goes where it went
 pub record Puts (o : Output) (texts : List (List ℕ)) (n : Output) : Type 0 where
   pub put : Put o.waiting o.buffer.now texts n.waiting n.buffer.now
   pub within : n.waiting.bytes ≤ length n.buffer.now
   pub room : length n.buffer.now ≡ length o.buffer.now
   pub lent : n.buffer.ghost_name ≡ o.buffer.ghost_name
+  pub console : n.console ≡ o.console
 
 abbrev pub blank : List ℕ
 blank = 32 ∷ []

@@ -75,24 +75,24 @@ put-from {r = r} {out = out} {left = left} {ts = ts} e p = subst (λ (x : Waitin
 
 -- the same over outputs: the texts of one call, and then those of the next
 pub puts_then : {o m n : Output} {ts us : List (List ℕ)} → Puts o ts m → Puts m us n → Puts o (ts ++ us) n
-puts_then a b = record { put = then a.put b.put a.room; within = b.within; room = b.room ∙ a.room; lent = b.lent ∙ a.lent }
+puts_then a b = record { put = then a.put b.put a.room; within = b.within; room = b.room ∙ a.room; lent = b.lent ∙ a.lent; console = b.console ∙ a.console }
 
 pub puts_as : {o n : Output} {ts us : List (List ℕ)} → ts ≡ us → Puts o ts n → Puts o us n
-puts_as e p = record { put = put_as e p.put; within = p.within; room = p.room; lent = p.lent }
+puts_as e p = record { put = put_as e p.put; within = p.within; room = p.room; lent = p.lent; console = p.console }
 
 pub puts_from : {o z n : Output} {ts : List (List ℕ)} → o ≡ z → Puts o ts n → Puts z ts n
 puts_from {n = n} {ts = ts} e p = subst (λ (x : Output). Puts x ts n) e p
 
 pub nothing_puts : (o : Output) → o.waiting.bytes ≤ length o.buffer.now → Puts o [] o
-nothing_puts o h = record { put = nothing_put o.waiting o.buffer.now; within = h; room = refl; lent = refl }
+nothing_puts o h = record { put = nothing_put o.waiting o.buffer.now; within = h; room = refl; lent = refl; console = refl }
 
 clip_puts : (o : Output) → Puts o [] (with_waiting (clipped (length o.buffer.now) o.waiting) o)
-clip_puts o = record { put = put-from-clip o.waiting o.buffer.now refl; within = omega arith; room = refl; lent = refl }
+clip_puts o = record { put = put-from-clip o.waiting o.buffer.now refl; within = omega arith; room = refl; lent = refl; console = refl }
 
 pub puts_clipped : {o n : Output} → n ≡ with_waiting (clipped (length o.buffer.now) o.waiting) o → Puts o [] n
 puts_clipped {o} e = subst (λ (x : Output). Puts o [] x) (sym e) (clip_puts o)
 
-floats-append : (row more : List Float) → float_texts (row ++ more) ≡ float_texts row ++ float_texts more
+pub floats-append : (row more : List Float) → float_texts (row ++ more) ≡ float_texts row ++ float_texts more
 unfolding float_texts
 floats-append [] more = refl
 floats-append (x ∷ row) more = ap (λ (texts : List (List ℕ)). blank ∷ float_text x ∷ texts) (floats-append row more)

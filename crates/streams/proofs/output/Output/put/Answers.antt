@@ -66,6 +66,7 @@ returns-then-text-self c =
       within = omega (arith, none);
       room = refl;
       lent = refl;
+      console = refl;
     }
 
 pub returns-then-held-self : goal.returns-then-held-self
@@ -84,6 +85,7 @@ returns-then-held-self c =
       within = rw n (search rules);
       room = search rules;
       lent = refl;
+      console = refl;
     }
 
 pub returns : goal.returns
@@ -104,4 +106,5 @@ returns c =
       within = rw n (search rules);
       room = search rules;
       lent = refl;
+      console = refl;
     }
