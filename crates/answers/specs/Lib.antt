@@ -1,5 +1,6 @@
 pub mod Digest
 pub mod Entries
+pub mod EntryLaws
 pub mod Heads
 pub mod LineLaws
 pub mod Lines

@@ -5,9 +5,9 @@ use Rattle.bench.specs.Calls.{finished_places}
 use Rattle.bench.specs.declared.types.Finished.{Finished}
 use Rattle.streams.specs.OutputLaws.{puts_then, puts_as}
 use Rattle.answers.specs.Entries.{all_texts}
+use Rattle.answers.specs.EntryLaws.{one_more}
 use Rattle.answers.specs.Pieces.{number_texts}
 use Rattle.callplay.specs.Answers.{numbers_texts}
-use Rattle.callplay.proofs.EntryLaws.{one_more}
 use Rattle.callplay.proofs.answer.put_finished.Goals as goal
 
 -- at most four are finished, and the four begin with them

@@ -2,9 +2,9 @@
 use Rattle.std.proofs.Common.{ℕ, List, [], ◌++◌, ap, take_all}
 use Rattle.streams.specs.OutputLaws.{puts_then, puts_as}
 use Rattle.answers.specs.Entries.{all_texts}
+use Rattle.answers.specs.EntryLaws.{one_more}
 use Rattle.answers.specs.Pieces.{number_texts}
 use Rattle.callplay.specs.Answers.{numbers_texts}
-use Rattle.callplay.proofs.EntryLaws.{one_more}
 use Rattle.callplay.proofs.pieces.put_answer.Goals as goal
 
 pub loop-x-init : goal.loop-x-init

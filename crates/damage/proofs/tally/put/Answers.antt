@@ -1,31 +1,16 @@
 -- `damage::tally::put` meets its contract: after so many entries what waits is what their lines add. Assumes nothing.
 use Rattle.std.proofs.Common.{◌≡◌, ℕ, ◌+◌, ◌<◌, ◌≤◌, min, List, [], ◌∷◌, ◌++◌, length, take, get_or, refl, sym, ap, ◌∙◌, arith, rules}
-use Rattle.std.proofs.Common.{append_assoc, append-nil, length-append, take_all}
-use Rattle.std.proofs.lemmas.List.{take_more}
+use Rattle.std.proofs.Common.{length-append, take_all}
 use Rattle.std.proofs.lemmas.Slice.Zip.{zip_turn, zip_end, length-zip, get_or-zip}
 use Rattle.std.specs.List.{zip}
 use Rattle.streams.specs.OutputLaws.{puts_then, puts_as, puts_clipped}
 use Rattle.answers.specs.Entries.{all_texts}
+use Rattle.answers.specs.EntryLaws.{one_more}
 use Rattle.damage.specs.Tally.{entry_texts}
 use Rattle.damage.specs.declared.entries.Entry.{Entry}
 use Rattle.damage.specs.declared.entries.TheConstants.{ENTRIES}
 use Rattle.damage.specs.declared.tally.Count.{Count}
 use Rattle.damage.proofs.tally.put.Goals as goal
-
-module _ {A : Type 0} (texts : A → List (List ℕ)) where
-  all-append : (l m : List A) → all_texts texts (l ++ m) ≡ all_texts texts l ++ all_texts texts m
-  unfolding all_texts
-  all-append [] m = refl
-  all-append (x ∷ l) m = ap (λ (t : List (List ℕ)). texts x ++ t) (all-append l m) ∙ sym (append_assoc (texts x) (all_texts texts l) (all_texts texts m))
-
-  one : (x : A) → all_texts texts (x ∷ []) ≡ texts x
-  unfolding all_texts
-  one x = append-nil (texts x)
-
-  one_more : (l : List A) (i : ℕ) (d : A) → i < length l → all_texts texts (take i l) ++ texts (get_or l i d) ≡ all_texts texts (take (i + 1) l)
-  one_more l i d h =
-      ap (λ (t : List (List ℕ)). all_texts texts (take i l) ++ t) (sym (one (get_or l i d)))
-      ∙ sym (all-append (take i l) (get_or l i d ∷ [])) ∙ ap (all_texts texts) (sym (take_more l i d h))
 
 -- one line more
 line_more

@@ -13,7 +13,16 @@ module _ {A : Type 0} (texts : A → List (List ℕ)) where
   unfolding all_texts
   one x = append-nil (texts x)
 
+  -- the one that stands at i
   pub one_more : (l : List A) (i : ℕ) (d : A) → i < length l → all_texts texts (take i l) ++ texts (get_or l i d) ≡ all_texts texts (take (i + 1) l)
   one_more l i d h =
       ap (λ (t : List (List ℕ)). all_texts texts (take i l) ++ t) (sym (one (get_or l i d)))
       ∙ sym (all-append (take i l) (get_or l i d ∷ [])) ∙ ap (all_texts texts) (sym (take_more l i d h))
+
+  -- x, which stands there
+  pub this_more
+      : (l : List A) (i : ℕ) {x : A}
+      → i < length l
+      → x ≡ get_or l i x
+      → all_texts texts (take i l) ++ texts x ≡ all_texts texts (take (i + 1) l)
+  this_more l i {x} h e = ap (λ (y : A). all_texts texts (take i l) ++ texts y) e ∙ one_more l i x h

@@ -1,2 +1,0 @@
--- Laws that proofs cite.
-pub mod EntryLaws
