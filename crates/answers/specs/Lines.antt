@@ -1,5 +1,5 @@
 -- The lines of the input, answered one after the other by a program. Definitions only.
-use Rattle.std.specs.Prelude.{◌≡◌, ℕ, ◌-◌, ◌^◌, ◌≤◌, ◌&&◌, min, Bool, true, false, List, [], ◌∷◌, length, Option, Some, None, Result, Ok, Err}
+use Rattle.std.specs.Prelude.{◌≡◌, ℕ, ◌-◌, ◌^◌, ◌&&◌, min, Bool, true, false, List, [], ◌∷◌, length, Option, Some, None, Result, Ok, Err}
 use Rattle.text.specs.declared.fields.Field.{Field}
 use Rattle.text.specs.declared.reader.Wrong.{Wrong}
 use Rattle.text.specs.Reader.{giving, end_from}
