@@ -4,6 +4,7 @@ use Rattle.text.specs.declared.fields.Field.{Field}
 use Rattle.text.specs.declared.reader.Wrong.{Wrong}
 use Rattle.text.specs.Reader.{giving, end_from}
 use Rattle.text.specs.Words.{none_left}
+use Rattle.streams.specs.declared.console.Console.{Console}
 use Rattle.streams.specs.declared.input.Input.{Input}
 use Rattle.streams.specs.declared.input.Line.{Line}
 use Rattle.streams.specs.declared.output.Output.{Output}
@@ -92,12 +93,13 @@ module _ {S : Type 0} (form : LineForm) (gives : Giving S) where
     pub steps : Steps OpenStep s between t
     pub ended : (is_open t.input && t.output.waiting.is_good) ≡ true → length between ≡ 2 ^ 64 - 1
 
-  -- All lines, from an input of which nothing is read on and an output in which nothing waits; then comes what `sums` says.
-  pub record AllAnswered (sums : S → Output → Output → Type 0) (p q : S) : Type 0 where
+  -- All lines, from an input of which nothing is read on and an output to this console in which nothing waits; then comes what `sums` says.
+  pub record AllAnswered (sums : S → Output → Output → Type 0) (console : Console) (p q : S) : Type 0 where
     pub first : Stand S
     pub last : Stand S
     pub summed : Output
     pub begun : (first.program ≡ p) × (first.output.waiting ≡ new_waiting) × (first.input ≡ new_input)
+    pub goes : first.output.console ≡ console
     pub lines : LinesAnswered first last
     pub sum : sums last.program last.output summed
     pub left : q ≡ last.program

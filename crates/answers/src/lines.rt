@@ -111,7 +111,7 @@ fn answer_lines<P: Program>(
 
 // Answers all lines of the input, and puts what comes after the answers.
 pub fn answer_all<P: Program>(program: &mut P, console: Console)
-    ensures { AllAnswered P.form P.gives P.sums program.old program.new }
+    ensures { AllAnswered P.form P.gives P.sums console program.old program.new }
 {
     let mut buf = io::large_buffer();
     let mut out = io::large_buffer();

@@ -2,7 +2,7 @@
 ghost use Rattle.std.specs.Prelude.{nat_lt};
 ghost use Rattle.streams.specs.Output.{Puts, with_refused};
 ghost use Rattle.answers.specs.Pieces.{number_texts};
-ghost use Rattle.callplay.specs.Answers.{call_texts, end_texts};
+ghost use Rattle.callplay.specs.Answers.{call_texts, line_end};
 
 use streams::output::Output;
 
@@ -26,7 +26,7 @@ pub(crate) fn put_answer(output: &mut Output, name: &[u8], number: u32, more: &[
 }
 
 pub(crate) fn end_line(output: &mut Output)
-    ensures { Puts output.old end_texts output.new }
+    ensures { Puts output.old line_end output.new }
 {
     output.put(b"\n");
 }

@@ -91,6 +91,7 @@ impl<'a> Output<'a> {
     pub fn new(console: Console, buffer: &'a mut [u8]) -> Output<'a>
         ensures lent { result.buffer.ghost_name ≡ buffer.entry.ghost_name }
         ensures empty { (result.waiting ≡ new_waiting) × (result.buffer.now ≡ buffer.old) }
+        ensures console { result.console ≡ console }
     {
         Output {
             console,

@@ -12,13 +12,13 @@ use Rattle.streams.specs.declared.output.Output.{Output}
 use Rattle.streams.specs.Output.{with_refused, Puts}
 use Rattle.streams.specs.OutputLaws.{puts_then, puts_as}
 use Rattle.answers.specs.Pieces.{number_texts, outcome_texts, lens_texts}
-use Rattle.callplay.specs.Answers.{end_texts, result_texts, fetch_texts}
+use Rattle.callplay.specs.Answers.{line_end, result_texts, fetch_texts}
 use Rattle.callplay.proofs.answer.put_fetched.Goals as goal
 
 module _ (b : Bench) (place : ℕ) where
   -- the answer, with another number in the place of the fetch's
   abbrev texts_by : (number : ℕ) → List (List ℕ)
-  texts_by number = number_texts (70 ∷ []) number ++ unless_refused number (result_texts (row_at b place)) [] ++ end_texts
+  texts_by number = number_texts (70 ∷ []) number ++ unless_refused number (result_texts (row_at b place)) [] ++ line_end
 
   -- that number is the fetch's
   told : (o : Output) {n : Output} (number : ℕ) → number ≡ fetch_number b place → Puts (with_refused (nat_lt 0 number) o) (texts_by number) n
@@ -43,7 +43,7 @@ returns-then-number-gt0 c =
     let number = c.fetch-number.result in
     let result = nothing-out number (result_texts (row_at b place)) [] c.if-number-gt0.true in
     told b place c.args.output.now number c.fetch-number.ensures.0
-    (puts_as (ap (λ (t : List (List ℕ)). number_texts (70 ∷ []) number ++ t ++ end_texts) result) (puts_then c.put_name.ensures c.end_line.ensures))
+    (puts_as (ap (λ (t : List (List ℕ)). number_texts (70 ∷ []) number ++ t ++ line_end) result) (puts_then c.put_name.ensures c.end_line.ensures))
 
 pub returns : goal.returns
 returns c =
@@ -61,6 +61,6 @@ returns c =
     let operands = c.operand_count-operands.ensures ∙ ap operand_count_from counts in
     let outcome = puts_as (ap outcome_texts found) c.put_outcome.ensures in
     let lens = puts_as (λ i. lens_texts (found i) (surfaces i) (operands i)) c.put_lens.ensures in
-    let texts = ap (λ (k : ℕ). number_texts (70 ∷ []) number ++ unless_refused k (result_texts r) [] ++ end_texts) (sym none) in
+    let texts = ap (λ (k : ℕ). number_texts (70 ∷ []) number ++ unless_refused k (result_texts r) [] ++ line_end) (sym none) in
     told b place c.args.output.now number c.fetch-number.ensures.0
     (puts_as texts (puts_then (puts_then c.put_name.ensures (puts_then outcome lens)) c.end_line-2.ensures))
