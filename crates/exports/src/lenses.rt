@@ -8,11 +8,19 @@ use merit::{MeritEvaluation, Traced};
 use optics::OpticalPrescription;
 use refusals::Refusal;
 
-pub(crate) fn lens_of(held: JobRecord) -> OpticalPrescription
-    ensures { result ≡ lens_of held }
+// Of the record only what a lens has is read: variables, operands and settings have no part in a trace.
+pub(crate) fn lens_of(held: &JobRecord) -> OpticalPrescription
+    ensures { result ≡ lens_of held.now }
 {
-    let job = jobs::job_of(1, held);
-    job.prescription
+    let surfaces = held.surfaces;
+    let indices = held.indices;
+    OpticalPrescription {
+        surfaces,
+        indices,
+        surface_count: held.surface_count as usize,
+        slot_count: held.slot_count as usize,
+        entrance_pupil_diameter_mm: held.entrance_pupil_diameter_mm,
+    }
 }
 
 // Whether each operand's number for a kind is one.

@@ -24,7 +24,7 @@ pub extern "C" fn lens_trace(asked: &JobRecord, slot: usize, rays: &mut [Paraxia
     ensures { (result ≡ trace_record_number asked.now slot (length rays.old))
         × (rays.new ≡ traced_rays (lens_of asked.now) slot rays.old) }
 {
-    let prescription = lenses::lens_of(*asked);
+    let prescription = lenses::lens_of(asked);
     lenses::number_of(meritcalls::trace(prescription, slot, rays))
 }
 
@@ -39,6 +39,6 @@ pub extern "C" fn lens_trace_limits(
     ensures { (result ≡ limits_number (lens_of asked.now) limits.now slot)
         × (traced.new ≡ limits_as traced.old (lens_of asked.now) limits.now slot) }
 {
-    let prescription = lenses::lens_of(*asked);
+    let prescription = lenses::lens_of(asked);
     refusals::answered(intervalcalls::trace_limits(prescription, *limits, slot, traced))
 }
