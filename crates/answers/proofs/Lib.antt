@@ -1,2 +1,3 @@
--- Laws that proofs cite.
+-- The loop over lines (`Going`), and what is said of it with the program left out (`Forgotten`).
+pub mod Forgotten
 pub mod Going

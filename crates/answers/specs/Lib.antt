@@ -1,7 +1,9 @@
+pub mod Anywhere
 pub mod Digest
 pub mod Entries
 pub mod EntryLaws
 pub mod Heads
 pub mod LineLaws
 pub mod Lines
+pub mod OwnLines
 pub mod Pieces

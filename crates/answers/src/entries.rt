@@ -7,14 +7,14 @@ use optics::{OpticalSurface, ParaxialRay};
 use streams::output::Output;
 
 // What an answer lists.
-pub trait Entry: Copy {
+pub trait ConsoleEntry: Copy {
     ghost texts: { Self → List (List ℕ) };
 
     fn put(self, output: &mut Output)
         ensures { Puts output.old (texts self) output.new };
 }
 
-pub fn put_all<T: Entry>(output: &mut Output, entries: &[T])
+pub fn put_all_there<T: ConsoleEntry>(output: &mut Output, entries: &[T])
     ensures { Puts output.old (all_texts T.texts entries.now) output.new }
 {
     output.clip();
@@ -24,7 +24,7 @@ pub fn put_all<T: Entry>(output: &mut Output, entries: &[T])
 }
 
 // radius conic thickness semi
-impl Entry for OpticalSurface {
+impl ConsoleEntry for OpticalSurface {
     ghost texts = { surface_texts };
 
     fn put(self, output: &mut Output) {
@@ -39,7 +39,7 @@ impl Entry for OpticalSurface {
 }
 
 // height slope
-impl Entry for ParaxialRay {
+impl ConsoleEntry for ParaxialRay {
     ghost texts = { ray_texts };
 
     fn put(self, output: &mut Output) {

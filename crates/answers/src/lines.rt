@@ -13,7 +13,7 @@ use text::reader::Wrong;
 use text::words;
 
 // What a program does with a line.
-pub trait Program {
+pub trait ProvedProgram {
     // Whether a line is in form, and where it is not and why.
     ghost form: { LineForm };
 
@@ -35,7 +35,7 @@ pub trait Program {
 }
 
 // Answers one line. Blanks alone have no answer.
-fn answer_line<P: Program>(program: &mut P, output: &mut Output, line: &[u8], number: u64)
+fn answer_line<P: ProvedProgram>(program: &mut P, output: &mut Output, line: &[u8], number: u64)
     ensures { LineAnswered P.form P.gives program.old output.old line.now number program.new output.new }
 {
     if words::is_end(line, 0) {
@@ -47,7 +47,12 @@ fn answer_line<P: Program>(program: &mut P, output: &mut Output, line: &[u8], nu
 }
 
 // Answers a line of the input; while none is there, what waits is written.
-fn answer_found<P: Program>(program: &mut P, output: &mut Output, buf: &[u8], line: Option<Line>)
+fn answer_found<P: ProvedProgram>(
+    program: &mut P,
+    output: &mut Output,
+    buf: &[u8],
+    line: Option<Line>,
+)
     requires { IfSome line (λ l. (l.from ≤ l.to) × (l.to ≤ length buf.now)) }
     ensures { FoundAnswered P.form P.gives program.old output.old line buf.now program.new output.new }
 {
@@ -63,7 +68,7 @@ fn answer_found<P: Program>(program: &mut P, output: &mut Output, buf: &[u8], li
 }
 
 // Answers the next line of the input; then the input goes on behind it, or by a read.
-fn answer_next<P: Program>(
+fn answer_next<P: ProvedProgram>(
     program: &mut P,
     console: Console,
     output: &mut Output,
@@ -89,7 +94,7 @@ fn goes_on(output: &Output, input: Input) -> bool
 
 // Answers line after line, up to where none may come any more or a write failed. A proved loop has to end, and nothing says that
 // the input does: so the steps are counted, up to a number that no run reaches.
-fn answer_lines<P: Program>(
+fn answer_lines<P: ProvedProgram>(
     program: &mut P,
     console: Console,
     output: &mut Output,
@@ -110,7 +115,7 @@ fn answer_lines<P: Program>(
 }
 
 // Answers all lines of the input, and puts what comes after the answers.
-pub fn answer_all<P: Program>(program: &mut P, console: Console)
+pub fn answer_all_proved<P: ProvedProgram>(program: &mut P, console: Console)
     ensures { AllAnswered P.form P.gives P.sums console program.old program.new }
 {
     let mut buf = io::large_buffer();

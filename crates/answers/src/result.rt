@@ -2,7 +2,7 @@
 ghost use Rattle.streams.specs.Output.{Puts};
 ghost use Rattle.answers.specs.Pieces.{outcome_texts, lens_texts};
 
-use crate::entries::put_all;
+use crate::entries::put_all_there;
 use crate::pieces::{put_number, put_row};
 use runs::OptimizationResult;
 use streams::output::Output;
@@ -31,7 +31,7 @@ pub fn put_lens(
     let values = res.values;
     let residuals = res.residuals;
     put_number(output, b" S", surface_count as u64);
-    put_all(output, &surfaces[..surface_count.min(16)]);
+    put_all_there(output, &surfaces[..surface_count.min(16)]);
     put_row(output, b" V", values, operand_count);
     put_row(output, b" D", residuals, operand_count);
 }

@@ -13,7 +13,7 @@ mod answer;
 mod call;
 mod pieces;
 
-use answers::Program;
+use answers::ProvedProgram;
 use bench::Bench;
 use call::Call;
 use streams::console::Console;
@@ -26,7 +26,7 @@ struct Played {
     bench: Bench,
 }
 
-impl Program for Played {
+impl ProvedProgram for Played {
     ghost form = { λ line. giving tt (call_of line) };
 
     ghost gives = { Done };
@@ -51,5 +51,5 @@ fn main(rt: HostRuntime) {
     let mut played = Played {
         bench: benchcalls::empty_bench(),
     };
-    answers::answer_all(&mut played, console);
+    answers::answer_all_proved(&mut played, console);
 }

@@ -21,7 +21,7 @@ mod tally;
 mod uses;
 mod verdict;
 
-use answers::Program;
+use answers::ProvedProgram;
 use jobs::JobRequest;
 use streams::console::Console;
 use streams::output::Output;
@@ -46,7 +46,7 @@ fn read_whole(line: &[u8]) -> Result<JobRequest, Wrong>
     Ok(request)
 }
 
-impl Program for Examined {
+impl ProvedProgram for Examined {
     ghost form = { λ line. giving tt (request_line line) };
 
     ghost gives = { Tried };
@@ -76,5 +76,5 @@ fn main(rt: HostRuntime) {
         errors: rt.stderr(),
     };
     let mut examined = Examined { tally: tally::NONE };
-    answers::answer_all(&mut examined, console);
+    answers::answer_all_proved(&mut examined, console);
 }

@@ -12,7 +12,7 @@ mod matrix;
 mod names;
 mod pieces;
 
-use answers::Program;
+use answers::ProvedProgram;
 use names::Name;
 use streams::console::Console;
 use streams::output::Output;
@@ -22,7 +22,7 @@ use text::reader::{Reader, Wrong};
 #[derive(Clone, Copy)]
 struct Leaves;
 
-impl Program for Leaves {
+impl ProvedProgram for Leaves {
     ghost form = { line_form };
 
     ghost gives = { Answered };
@@ -47,5 +47,5 @@ fn main(rt: HostRuntime) {
         output: rt.stdout(),
         errors: rt.stderr(),
     };
-    answers::answer_all(&mut Leaves, console);
+    answers::answer_all_proved(&mut Leaves, console);
 }

@@ -15,7 +15,7 @@ fn read_part(reader: &mut Reader, row: &mut [f64], from: usize, count: usize) ->
     requires { from + count ≤ length row.old }
     ensures { Reads (past_floats count) reader.old result reader.new }
 {
-    reader.floats(&mut row[from..from + count])
+    reader.floats_or_zeros(&mut row[from..from + count])
 }
 
 // A system of p unknowns, row after row, then its right side.

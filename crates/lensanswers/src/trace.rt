@@ -2,7 +2,7 @@
 ghost use Rattle.streams.specs.Output.{Puts};
 ghost use Rattle.lensanswers.specs.Lens.{failed_texts, traced_texts, paraxial_texts};
 
-use answers::{put_all, put_kept, put_number};
+use answers::{put_all_there, put_kept, put_number};
 use optics::{ParaxialProperties, ParaxialRay};
 use streams::output::Output;
 
@@ -19,7 +19,7 @@ pub fn put_traced(output: &mut Output, rays: [ParaxialRay; 16], count: usize)
     ensures { Puts output.old (traced_texts rays count) output.new }
 {
     put_number(output, b" ok T", count as u64);
-    put_all(output, &rays[..count.min(16)]);
+    put_all_there(output, &rays[..count.min(16)]);
 }
 
 // P efl bfl f-number

@@ -15,7 +15,7 @@ mod play;
 mod run;
 mod trace;
 
-use answers::Program;
+use answers::ProvedProgram;
 use bench::Bench;
 use joblines::JobLine;
 use streams::console::Console;
@@ -61,7 +61,7 @@ impl Replay {
 }
 
 // J id kind ..: runs are played on the bench, evaluations and traces stand by themselves.
-impl Program for Replay {
+impl ProvedProgram for Replay {
     ghost form = { job_form };
 
     ghost gives = { Answered };
@@ -87,5 +87,5 @@ fn main(rt: HostRuntime) {
     let mut replay = Replay {
         bench: benchcalls::empty_bench(),
     };
-    answers::answer_all(&mut replay, console);
+    answers::answer_all_proved(&mut replay, console);
 }

@@ -1,13 +1,11 @@
 -- A loop that reads floats over a row. Assumes nothing.
 use Rattle.std.proofs.Common.{◌≡◌, ℕ, ◌+◌, ◌<◌, ◌≤◌, List, [], ◌∷◌, ◌++◌, length, get_or, take, drop, set}
-use Rattle.std.proofs.Common.{suc, ◌-◌, replicate, sym, ap, ◌∙◌, add-one, arith, append_assoc, append-nil, drop-cons, length-drop, length-take}
-use Rattle.std.proofs.Common.{Float, Result, Ok, Err}
-use Rattle.std.proofs.lemmas.List.{drop-set-lt, drop_all, take_all, take_more_set}
-use Rattle.std.specs.Float.{nan, binary64}
-use Rattle.std.specs.Float.Ieee.{of_bits}
+use Rattle.std.proofs.Common.{sym, ap, ◌∙◌, add-one, arith, append_assoc, append-nil, drop-cons, Float, Result, Ok, Err}
+use Rattle.std.proofs.lemmas.List.{drop-set-lt, drop_all, take_all, take_more_set, take-append-drop}
+use Rattle.std.specs.Float.{nan}
 use Rattle.text.specs.declared.reader.Wrong.{Wrong}
 use Rattle.text.specs.declared.fields.Field.{Field}
-use Rattle.text.specs.Reader.{then, float_from, past_floats, put_over, floats_over, came, left_at}
+use Rattle.text.specs.Reader.{then, float_from, past_floats, put_over, floats_over, came}
 
 module _ (line : List ℕ) (all : Result (Field (Unit {0})) Wrong) (whole : List Float) where
   -- i floats are read, and what is still to be read from `at` on makes the rest
@@ -26,7 +24,7 @@ module _ (line : List ℕ) (all : Result (Field (Unit {0})) Wrong) (whole : List
 
     over_next
         : i < length row
-        → whole ≡ take i row ++ put_over (drop (i + 1) row) (λ to. floats_over line to (drop (i + 1) row)) (float_from line at)
+        → whole ≡ take i row ++ put_over (get_or row i nan) (drop (i + 1) row) (λ to. floats_over line to (drop (i + 1) row)) (float_from line at)
     unfolding floats_over
     over_next h = r.over ∙ ap (λ (l : List Float). take i row ++ floats_over line at l) (rest h)
 
@@ -40,32 +38,13 @@ module _ (line : List ℕ) (all : Result (Field (Unit {0})) Wrong) (whole : List
               ∙ append_assoc (take i row) (x ∷ []) (floats_over line to (drop (i + 1) row))));
         }
 
-    -- none in form: the line stays there, and the rest of the row is +0.0
-    pub stopped
-        : {w : Wrong} (to : ℕ)
-        → i < length row
-        → came {A = Float} (Err w) to ≡ float_from line at
-        → to ≡ left_at (float_from line at)
-        → (Err w ≡ all) × (to ≡ left_at all) × (take i row ++ replicate (length row - i) (of_bits binary64 0) ≡ whole)
-    stopped {w} to h e f =
-        let long : suc (length (drop (i + 1) row)) ≡ length row - i = simp length-drop (omega arith) in
-        let is : Err w ≡ all = sym (past_next h ∙ simp (sym e)) in (
-          is,
-          f ∙ ap left_at (sym e) ∙ ap left_at is,
-          sym (over_next h ∙ simp (sym e) (ap (λ (n : ℕ). take i row ++ replicate n (of_bits binary64 0)) long)),
-        )
+    -- none in form
+    pub stopped : {w : Wrong} (to : ℕ) → i < length row → came {A = Float} (Err w) to ≡ float_from line at → (Err w ≡ all) × (row ≡ whole)
+    stopped to h e = (
+      sym (past_next h ∙ simp (sym e)),
+      sym (over_next h ∙ simp (sym e) (ap (λ (l : List Float). take i row ++ l) (sym (rest h)) ∙ take-append-drop i row)),
+    )
 
     pub ended : length row ≤ i → (came (Ok tt) at ≡ all) × (row ≡ whole)
     unfolding past_floats floats_over
     ended h = (sym (r.past ∙ simp (drop_all i row h)), sym (r.over ∙ simp (drop_all i row h) (append-nil (take i row)) ∙ take_all i row h))
-
--- a row of which the part from i on is written over by so many of one number
-pub rest_over
-    : (row part : List Float) (i : ℕ) (x : Float)
-    → part ≡ replicate (length (take (length row - i) (drop i row))) x
-    → take i row ++ (part ++ drop (length row - i) (drop i row)) ≡ take i row ++ replicate (length row - i) x
-rest_over row part i x e =
-    let long : length (take (length row - i) (drop i row)) ≡ length row - i = simp (length-take, length-drop) (omega arith) in
-    let all : length (drop i row) ≤ length row - i = simp length-drop (omega arith) in
-    ap (λ (l : List Float). take i row ++ (part ++ l)) (drop_all (length row - i) (drop i row) all)
-    ∙ ap (λ (l : List Float). take i row ++ l) (append-nil part ∙ e ∙ ap (λ (n : ℕ). replicate n x) long)

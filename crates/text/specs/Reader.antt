@@ -44,15 +44,25 @@ unfoldable pub past_floats : (n : ℕ) → List ℕ → ℕ → Result (Field (U
 past_floats zero line at = Ok (field_of at tt)
 past_floats (suc n) line at = then (float_from line at) (λ x. past_floats n line x.to)
 
--- a row over whose first number a float is put, and over the others `more`; where none in form stands, +0.0 over all of them
-abbrev pub put_over : (row : List Float) → (more : ℕ → List Float) → Result (Field Float) Wrong → List Float
-put_over row more (Ok x) = x.value ∷ more x.to
-put_over row more (Err w) = replicate (suc (length row)) (of_bits binary64 0)
+-- a row over whose first number a float is put, where one in form stands, and over the others `more`
+abbrev pub put_over : (old : Float) → (row : List Float) → (more : ℕ → List Float) → Result (Field Float) Wrong → List Float
+put_over old row more (Ok x) = x.value ∷ more x.to
+put_over old row more (Err w) = old ∷ row
 
--- a row with the floats from `at` on; from the first that is out of form on, +0.0
+-- a row with the floats from `at` on, up to the first that is out of form
 unfoldable pub floats_over : List ℕ → ℕ → List Float → List Float
 floats_over line at [] = []
-floats_over line at (old ∷ row) = put_over row (λ to. floats_over line to row) (float_from line at)
+floats_over line at (old ∷ row) = put_over old row (λ to. floats_over line to row) (float_from line at)
+
+-- the same, but where none in form stands, +0.0 over all of them
+abbrev pub put_or_zeros : (row : List Float) → (more : ℕ → List Float) → Result (Field Float) Wrong → List Float
+put_or_zeros row more (Ok x) = x.value ∷ more x.to
+put_or_zeros row more (Err w) = replicate (suc (length row)) (of_bits binary64 0)
+
+-- a row with the floats from `at` on; from the first that is out of form on, +0.0
+unfoldable pub floats_or_zeros : List ℕ → ℕ → List Float → List Float
+floats_or_zeros line at [] = []
+floats_or_zeros line at (old ∷ row) = put_or_zeros row (λ to. floats_or_zeros line to row) (float_from line at)
 
 -- whether the next word is this one
 abbrev pub begins_with : List ℕ → ℕ → List ℕ → Bool

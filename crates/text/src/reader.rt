@@ -5,7 +5,7 @@ ghost use Rattle.text.specs.declared.reader.Why.TheVariants.{Kind};
 ghost use Rattle.text.specs.Fields.{text_of};
 ghost use Rattle.text.specs.Words.{between, word_from};
 ghost use Rattle.text.specs.Reader.{Reads, wrong, field_or, moved_to, number_from, decimal_from, within_from, float_from, begins_with};
-ghost use Rattle.text.specs.Reader.{past_word, tag_from, past_floats, floats_over, end_from};
+ghost use Rattle.text.specs.Reader.{past_word, tag_from, past_floats, floats_over, floats_or_zeros, end_from};
 
 use crate::fields::Field;
 use crate::{fields, words};
@@ -119,10 +119,21 @@ impl<'a> Reader<'a> {
         self.pass(field, Why::NoHex)
     }
 
-    // The next floats, as many as `row` has room for. From the first that is out of form on, the row is +0.0.
+    // The next floats, as many as `row` has room for. From the first that is out of form on, the row stays as it was.
     pub fn floats(&mut self, row: &mut [f64]) -> Result<(), Wrong>
         ensures value { Reads (past_floats (length row.old)) self.old result self.new }
         ensures row_after { row.new ≡ floats_over self.old.line.now self.old.at row.old }
+    {
+        for x in row {
+            *x = self.float()?;
+        }
+        Ok(())
+    }
+
+    // The same, but that the row is +0.0 from the first that is out of form on.
+    pub fn floats_or_zeros(&mut self, row: &mut [f64]) -> Result<(), Wrong>
+        ensures value { Reads (past_floats (length row.old)) self.old result self.new }
+        ensures row_after { row.new ≡ floats_or_zeros self.old.line.now self.old.at row.old }
     {
         for i in 0..row.len() {
             match self.float() {

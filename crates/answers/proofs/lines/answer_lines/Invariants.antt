@@ -6,8 +6,8 @@ use Rattle.answers.proofs.lines.answer_lines.Given as goal
 
 abbrev pub invariant-loop : goal.invariant-loop
 invariant-loop g l =
-    let form = g.P.Program.form in
-    let gives = g.P.Program.gives in
+    let form = g.P.ProvedProgram.form in
+    let gives = g.P.ProvedProgram.gives in
     record {
       from_le_to : l.input.from ≤ l.input.to;
       to_in_bounds : l.input.to ≤ length l.buf;

@@ -5,4 +5,4 @@ use Rattle.lensanswers.specs.Lens.{rays_texts}
 use Rattle.lensanswers.proofs.trace.put_traced.Goals as goal
 
 pub returns : goal.returns
-returns c = puts_then c.put_number.ensures (puts_as (ap (rays_texts c.args.rays) c.min.ensures) c.put_all.ensures)
+returns c = puts_then c.put_number.ensures (puts_as (ap (rays_texts c.args.rays) c.min.ensures) c.put_all_there.ensures)
