@@ -1,8 +1,8 @@
--- `replay::ReplayProgram::answer` meets its contract: what is done is done for the kind that the line has. Assumes nothing.
+-- `replay::ReplayProvedProgram::answer` meets its contract: what is done is done for the kind that the line has. Assumes nothing.
 use Rattle.std.proofs.Common.{ℕ, List, Bor, sym, ap, ◌∙◌}
 use Rattle.std.proofs.lemmas.Result.{on_ok_weaker}
 use Rattle.joblines.specs.Line.{kind_from}
-use Rattle.replay.proofs.ReplayProgram.answer.Goals as goal
+use Rattle.replay.proofs.ReplayProvedProgram.answer.Goals as goal
 
 pub returns-clause-ok : goal.returns-clause-ok
 returns-clause-ok c =
